@@ -41,7 +41,11 @@ class Workers(Check):
         self.starts(0, 0, "--made", "7", "--workers", "1")
         self.starts(6, 6, "--made", "7", "--workers", "4")
         # Of 64 workers no more start than a list has pieces or a server blocks: all lists together want fewer threads than one list would for all workers.
-        self.starts(1, 62, "--workers", "64", "--block", "1", EXAMPLES / "source" / "model.txt", EXAMPLES / "source" / "trace.csv")
+        source = EXAMPLES / "source" / "model.txt", EXAMPLES / "source" / "trace.csv"
+        self.starts(1, 62, "--jobs", "--workers", "64", "--block", "1", *source)
+        self.starts(1, 62, "--jobs", "--workers", "64", "--block", "1", *DESK_FILES)
+        # Without the lines of the jobs nothing of a source is worked out, and a station's pieces are.
+        self.starts(0, 0, "--workers", "64", "--block", "1", *source)
         self.starts(1, 62, "--workers", "64", "--block", "1", *DESK_FILES)
 
     def starts(self, least, most, *words):

@@ -1,25 +1,23 @@
 // What is written of a kept run that was edited.
-ghost use Rattle.std.specs.Prelude.{◌≡◌, ◌≢◌, ◌⊎◌, ◌++◌, ◌≤◌, false, length, IfOk, OnErr, OnOk};
-ghost use Rattle.mq_core.specs.Sequences.{IsRunOf};
+ghost use Rattle.std.specs.Prelude.{◌≡◌, ◌≢◌, ◌⊎◌, ◌++◌, ◌≤◌, false, length, OnErr, OnOk};
 ghost use Rattle.mq_core.specs.Theorems.{IsReadFor};
 ghost use Rattle.mq_kept.specs.Keeping.{IsKeptRun};
 ghost use Rattle.mq_outside.specs.Outside.{Rose, TakesFirst, TakesPrefix};
-ghost use Rattle.mq_report.specs.Tails.{AreNodeTails};
+ghost use Rattle.mq_counts.specs.Counts.{AreCounts};
 ghost use Rattle.mq_report.specs.Text.{report_in};
-ghost use Rattle.mq_report.specs.Totals.{AreNodeTotals};
 ghost use Rattle.mq_stats.specs.RunNumbers.{HasFewVisits};
 ghost use Rattle.mq_edit.specs.Answer.{again_line};
 ghost use Rattle.mq_edit.specs.Ends.{Writes};
 
 use crate::files::WORKERS;
 use crate::outcome::EditOutcome;
-use mq_base::List;
-use mq_core::{Plan, Rows, Run};
+use mq_core::{Plan, Rows};
+use mq_counts::{Counts, counts_of_run};
 use mq_crew::Open;
 use mq_kept::{Kept, Redone};
 use mq_outside::{Gather, Piece, Sink, SinkFault, add_pieces, flush};
-use mq_report::{node_tails, node_totals, report};
-use mq_stats::{NodeTotals, Percentiles, runs_have_few_visits};
+use mq_report::report;
+use mq_stats::runs_have_few_visits;
 use std::alloc::Global;
 use std::thread::Threads;
 
@@ -51,17 +49,13 @@ fn put_again<O: Sink>(out: &mut O, redone: Redone) -> Result<(), SinkFault>
 fn put_report<O: Sink>(
     plan: &Plan,
     rows: &Rows,
-    run: &Run,
-    totals: &List<NodeTotals>,
-    tails: &List<Percentiles>,
+    counts: &Counts,
     redone: Redone,
     out: &mut O,
 ) -> Result<(), SinkFault>
     requires read { IsReadFor plan.now.net rows.now }
-    requires run { IsRunOf plan.now rows.now run.now }
     requires few { HasFewVisits plan.now rows.now }
-    requires totals { AreNodeTotals plan.now rows.now totals.now }
-    requires tails { AreNodeTails plan.now rows.now tails.now }
+    requires counts { AreCounts plan.now rows.now 2 counts.now }
     ensures ok { OnOk result (TakesFirst (O.taken out.old) (O.taken out.new) (O.sure out.old) (O.sure out.new) (report_in plan.now.net rows.now 2 false ++ again_line redone.again redone.all) (length (report_in plan.now.net rows.now 2 false ++ again_line redone.again redone.all))) }
     ensures err { OnErr result (TakesPrefix (O.taken out.old) (O.taken out.new) (O.sure out.old) (O.sure out.new) (report_in plan.now.net rows.now 2 false ++ again_line redone.again redone.all)) }
     ensures later { O.faults out.old ≤ O.faults out.new }
@@ -69,7 +63,7 @@ fn put_report<O: Sink>(
     ensures quiet { OnOk result (O.faults out.new ≡ O.faults out.old) }
     ensures sure { length (report_in plan.now.net rows.now 2 false ++ again_line redone.again redone.all) ≤ O.sure out.old → O.faults out.new ≡ O.faults out.old }
 {
-    report(plan, rows, run, totals, tails, 2, false, out)?;
+    report(plan, rows, counts, None, 2, out)?;
     put_again(out, redone)
 }
 
@@ -90,16 +84,11 @@ pub fn write_kept<R: Threads + Sync, O: Sink>(
     runs_have_few_visits();
     let rows = kept.rows();
     let run = kept.run();
-    let Ok(totals) = node_totals(rt, alloc, WORKERS, plan, rows, run, &Open) else {
+    let Ok(counts) = counts_of_run(rt, alloc, WORKERS, plan, rows, run, 2, &Open) else {
         return EditOutcome::Memory;
     };
-    let Ok(tails) = node_tails(rt, alloc, WORKERS, plan, rows, run, &totals, &Open) else {
-        drop(totals);
-        return EditOutcome::Memory;
-    };
-    let written = put_report(plan, rows, run, &totals, &tails, redone, out);
-    drop(tails);
-    drop(totals);
+    let written = put_report(plan, rows, &counts, redone, out);
+    drop(counts);
     match written {
         Ok(()) => EditOutcome::Done,
         Err(_) => EditOutcome::WriteFault,

@@ -7,3 +7,7 @@ pub mod Scanning
 pub mod Groups
 pub mod Gathers
 pub mod Telling
+pub mod Kept
+pub mod Numbers
+pub mod Sent
+pub mod Sending

@@ -71,12 +71,12 @@ count-set stands v at l quiet =
     omega (arith, none)
 
 -- a node worked out that is put down leaves no more nodes that wait, and one less where its own did
-record IsFewer (stands stands' : List Stand) (v : ℕ) : Type 0 where
-  same : length stands' ≡ length stands
-  most : count_by is_waiting stands' ≤ count_by is_waiting stands
-  less : stands_at is_waiting (slice_get stands v) ≡ true → count_by is_waiting stands' < count_by is_waiting stands
+pub record IsFewer (stands stands' : List Stand) (v : ℕ) : Type 0 where
+  pub same : length stands' ≡ length stands
+  pub most : count_by is_waiting stands' ≤ count_by is_waiting stands
+  pub less : stands_at is_waiting (slice_get stands v) ≡ true → count_by is_waiting stands' < count_by is_waiting stands
 
-set-fewer : (stands stands' : List Stand) (v : ℕ) (at : Stand) → v < length stands → is_waiting at ≡ false → stands' ≡ set stands v at → IsFewer stands stands' v
+pub set-fewer : (stands stands' : List Stand) (v : ℕ) (at : Stand) → v < length stands → is_waiting at ≡ false → stands' ≡ set stands v at → IsFewer stands stands' v
 set-fewer stands stands' v at l quiet e =
     let count = count-set stands v at l quiet in
     let new : count_by is_waiting stands' ≡ count_by is_waiting (set stands v at) = ap (count_by is_waiting) e in

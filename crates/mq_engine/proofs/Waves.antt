@@ -15,7 +15,7 @@ use Rattle.mq_core.specs.Alone.{came as came_at}
 use Rattle.mq_core.specs.Came.{came_by, came_of}
 use Rattle.mq_core.specs.Laws.{in_order_of}
 use Rattle.mq_core.specs.SequenceLaws.{arrives_of, jobs_of, read_from, sends_once}
-use Rattle.mq_core.specs.Sequences.{IsStream, sequence_stream, rows_at, streams_below}
+use Rattle.mq_core.specs.Sequences.{IsStream, sequence_refusal, sequence_stream, rows_at, streams_below}
 use Rattle.mq_core.specs.Streams.{by_first, pairs_of}
 use Rattle.mq_core.specs.Results.{stream_from, visits_of}
 use Rattle.mq_core.specs.RunLaws.{HasSequences}
@@ -49,10 +49,12 @@ use Rattle.mq_engine.specs.declared.progress.Stand.TheVariants.{Waiting, Done, C
 use Rattle.mq_engine.proofs.Early.{EarlyPairs, flat-early, reads-early, rows-early, stream-early}
 use Rattle.mq_engine.proofs.Lists.{Each-at, all-get}
 
--- a node all of whose inputs are done
-pub record IsReady (plan : Plan) (stands : List Stand) (v : ℕ) (node : Node) : Type 0 where
+-- what the ports of a node read is there, and is what the run has of nodes that it doesn't refuse
+pub record IsFed (plan : Plan) (rows : Rows) (outputs : List (List Stream)) (v : ℕ) (node : Node) : Type 0 where
   pub there : slice_get plan.net.nodes v ≡ Some node
-  pub reads : (port : ℕ) (input : Input) → slice_get node.inputs port ≡ Some input → slice_get stands input.node ≡ Some Done
+  pub feeds : (port : ℕ) (input : Input) (named : Node) → slice_get node.inputs port ≡ Some input → slice_get plan.net.nodes input.node ≡ Some named →
+      (slice_get outputs input.node ≡ Some (streams_below (run_of plan rows) input.node (outputs_in named.kind)))
+      × (sequence_refusal plan.net.bound input.node (visits_of named.kind ((run_of plan rows).stations input.node)) ≡ None)
 
 -- what a port reads is there, and is what the run has
 record HasInput (plan : Plan) (rows : Rows) (outputs : List (List Stream)) (input : Input) : Type 0 where
@@ -60,55 +62,55 @@ record HasInput (plan : Plan) (rows : Rows) (outputs : List (List Stream)) (inpu
   out : input.out < outputs_in node.kind
   streams : slice_get outputs input.node ≡ Some (streams_below (run_of plan rows) input.node (outputs_in node.kind))
 
-has-input : (laws : CoreLaws) (plan : Plan) (rows : Rows) (visits : List Visits) (outputs : List (List Stream)) (stands : List Stand) (v : ℕ) (node : Node) → IsReached plan rows visits outputs stands → IsReady plan stands v node → (port : ℕ) (input : Input) → slice_get node.inputs port ≡ Some input → HasInput plan rows outputs input
-has-input laws plan rows visits outputs stands v node r n port input e =
+has-input : (laws : CoreLaws) (plan : Plan) (rows : Rows) (outputs : List (List Stream)) (v : ℕ) (node : Node) → IsFed plan rows outputs v node → (port : ℕ) (input : Input) → slice_get node.inputs port ≡ Some input → HasInput plan rows outputs input
+has-input laws plan rows outputs v node n port input e =
     let named = (laws.limits plan v node n.there).reads port input e in
     record {
       node = named.node;
       out = named.out;
-      streams = (r.told input.node named.node Done named.there (n.reads port input e)).0.outputs;
+      streams = (n.feeds port input named.node e named.there).0;
     }
 
-pub inputs-there : (laws : CoreLaws) (plan : Plan) (rows : Rows) (visits : List Visits) (outputs : List (List Stream)) (stands : List Stand) (v : ℕ) (node : Node) → IsReached plan rows visits outputs stands → IsReady plan stands v node → (port : ℕ) (input : Input) → slice_get node.inputs port ≡ Some input → IsThere outputs input
-inputs-there laws plan rows visits outputs stands v node r n port input e =
-    let h = has-input laws plan rows visits outputs stands v node r n port input e in
+pub inputs-there : (laws : CoreLaws) (plan : Plan) (rows : Rows) (outputs : List (List Stream)) (v : ℕ) (node : Node) → IsFed plan rows outputs v node → (port : ℕ) (input : Input) → slice_get node.inputs port ≡ Some input → IsThere outputs input
+inputs-there laws plan rows outputs v node n port input e =
+    let h = has-input laws plan rows outputs v node n port input e in
     record {
       node = slice_get_within outputs input.node _ h.streams;
       out = λ streams g. slice_get_within streams input.out _ (ap (λ s. slice_get s input.out) (some_inj _ _ (sym g ∙ h.streams)) ∙ laws.have (run_of plan rows) input.node (outputs_in h.node.kind) input.out h.out);
     }
 
-inputs-read : (laws : CoreLaws) (plan : Plan) (rows : Rows) (visits : List Visits) (outputs : List (List Stream)) (stands : List Stand) (v : ℕ) (node : Node) → IsReached plan rows visits outputs stands → IsReady plan stands v node → (port : ℕ) (input : Input) → slice_get node.inputs port ≡ Some input →
+inputs-read : (laws : CoreLaws) (plan : Plan) (rows : Rows) (outputs : List (List Stream)) (v : ℕ) (node : Node) → IsFed plan rows outputs v node → (port : ℕ) (input : Input) → slice_get node.inputs port ≡ Some input →
     pairs_read outputs input ≡ pairs_of (stream_from ((run_of plan rows).stations input.node) input.out)
-inputs-read laws plan rows visits outputs stands v node r n port input e =
-    let h = has-input laws plan rows visits outputs stands v node r n port input e in
+inputs-read laws plan rows outputs v node n port input e =
+    let h = has-input laws plan rows outputs v node n port input e in
     ap (λ o. pairs_in o input.out) h.streams ∙ ap pairs_by (laws.have (run_of plan rows) input.node (outputs_in h.node.kind) input.out h.out)
 
 -- the stream of a port is no longer than what a node may let out
-inputs-short : (laws : CoreLaws) (plan : Plan) (rows : Rows) (visits : List Visits) (outputs : List (List Stream)) (stands : List Stand) (v : ℕ) (node : Node) → IsReached plan rows visits outputs stands → IsReady plan stands v node → IsReadFor plan.net rows → (port : ℕ) (input : Input) → slice_get node.inputs port ≡ Some input →
+inputs-short : (laws : CoreLaws) (plan : Plan) (rows : Rows) (outputs : List (List Stream)) (v : ℕ) (node : Node) → IsFed plan rows outputs v node → IsReadFor plan.net rows → (port : ℕ) (input : Input) → slice_get node.inputs port ≡ Some input →
     length (pairs_read outputs input) ≤ 1048576
-inputs-short laws plan rows visits outputs stands v node r n read port input e =
+inputs-short laws plan rows outputs v node n read port input e =
     let named = (laws.limits plan v node n.there).reads port input e in
     let end = (run_of plan rows).stations input.node in
-    let fine = (r.told input.node named.node Done named.there (n.reads port input e)).1 in
+    let fine = (n.feeds port input named.node e named.there).1 in
     let few = fine-few plan.net.bound input.node (visits_of named.node.kind end) fine in
     let many : length (jobs_of end.visits) ≡ length end.visits = length-map end.visits _ in
     let leaves = laws.leave plan rows read input.node named.node named.there (omega arith) input.out in
-    let same = ap length (inputs-read laws plan rows visits outputs stands v node r n port input e) in
+    let same = ap length (inputs-read laws plan rows outputs v node n port input e) in
     let long = zip-length (stream_from end input.out).time (stream_from end input.out).job leaves.even in
     let most = leaves.few in
     let even = leaves.even in
     omega arith
 
-arriving-run : (laws : CoreLaws) (plan : Plan) (rows : Rows) (visits : List Visits) (outputs : List (List Stream)) (stands : List Stand) (v : ℕ) (node : Node) → IsReadFor plan.net rows → IsReached plan rows visits outputs stands → IsReady plan stands v node →
+arriving-run : (laws : CoreLaws) (plan : Plan) (rows : Rows) (outputs : List (List Stream)) (v : ℕ) (node : Node) → IsReadFor plan.net rows → IsFed plan rows outputs v node →
     zip (arrives_of ((run_of plan rows).stations v).visits) (jobs_of ((run_of plan rows).stations v).visits) ≡ by_first (arriving rows v node outputs)
-arriving-run laws plan rows visits outputs stands v node read r n = go (is_source_kind node.kind) refl
+arriving-run laws plan rows outputs v node read n = go (is_source_kind node.kind) refl
   where
     go : (b : Bool) → is_source_kind node.kind ≡ b → zip (arrives_of ((run_of plan rows).stations v).visits) (jobs_of ((run_of plan rows).stations v).visits) ≡ by_first (cond b (rows_at v 0 rows.source rows.time) (flat_map (pairs_read outputs) node.inputs))
     go true e = (laws.arrivals plan rows read v node n.there).source e
-    go false e = (laws.arrivals plan rows read v node n.there).other e ∙ ap by_first (sym (flat_map-same _ _ node.inputs (inputs-read laws plan rows visits outputs stands v node r n)))
+    go false e = (laws.arrivals plan rows read v node n.there).other e ∙ ap by_first (sym (flat_map-same _ _ node.inputs (inputs-read laws plan rows outputs v node n)))
 
 -- the same with the port of each
-module _ (laws : CoreLaws) (plan : Plan) (rows : Rows) (visits : List Visits) (outputs : List (List Stream)) (stands : List Stand) (v : ℕ) (node : Node) (r : IsReached plan rows visits outputs stands) (n : IsReady plan stands v node) where
+module _ (laws : CoreLaws) (plan : Plan) (rows : Rows) (outputs : List (List Stream)) (v : ℕ) (node : Node) (n : IsFed plan rows outputs v node) where
   read-ports : (first : ℕ) (inputs : List Input) → ((port : ℕ) (input : Input) → slice_get inputs port ≡ Some input → pairs_read outputs input ≡ pairs_of (stream_from ((run_of plan rows).stations input.node) input.out)) →
       read_from (run_of plan rows) first inputs ≡ read_by outputs first inputs
   read-ports first [] h = refl
@@ -116,7 +118,7 @@ module _ (laws : CoreLaws) (plan : Plan) (rows : Rows) (visits : List Visits) (o
 
   arriving-ports : IsReadFor plan.net rows → is_source_kind node.kind ≡ false → came_at ((run_of plan rows).stations v).visits ≡ in_order_of (λ (p : ℕ × ℕ × ℕ). p.0) (read_by outputs 0 node.inputs)
   arriving-ports read e =
-      (laws.arrivals plan rows read v node n.there).ports e ∙ ap (in_order_of (λ (p : ℕ × ℕ × ℕ). p.0)) (read-ports 0 node.inputs (inputs-read laws plan rows visits outputs stands v node r n))
+      (laws.arrivals plan rows read v node n.there).ports e ∙ ap (in_order_of (λ (p : ℕ × ℕ × ℕ). p.0)) (read-ports 0 node.inputs (inputs-read laws plan rows outputs v node n))
 
 -- a stream of what comes in the run, item by item
 pub arrived-by : (plan : Plan) (rows : Rows) (v : ℕ) (arrivals : Stream) → IsStream arrivals → pairs_of arrivals ≡ zip (arrives_of ((run_of plan rows).stations v).visits) (jobs_of ((run_of plan rows).stations v).visits) → IsArrived plan rows v arrivals
@@ -193,27 +195,33 @@ has-loaded laws s arrived h early all come =
       come.ready,
     )
 
-decide-eq : (a b : ℕ) → (a ≡ b) ⊎ (a ≢ b)
+pub decide-eq : (a b : ℕ) → (a ≡ b) ⊎ (a ≢ b)
 decide-eq a b = go (a == b) refl
   where
     go : (t : Bool) → (a == b) ≡ t → (a ≡ b) ⊎ (a ≢ b)
     go true e = inl (grind (arith, nat_tests))
     go false e = inr (λ s. grind (arith, nat_tests))
 
--- to a node that is ready all has come
-pub has-all : (laws : CoreLaws) (plan : Plan) (rows : Rows) (visits : List Visits) (outputs : List (List Stream)) (stands : List Stand) (v : ℕ) → IsReadFor plan.net rows → IsReached plan rows visits outputs stands → is_ready plan.net.nodes stands v ≡ true → HasAll plan rows outputs v
-has-all laws plan rows visits outputs stands v read r ready =
+-- a node that is ready waits, and what its ports read is done
+pub record IsReady (plan : Plan) (stands : List Stand) (v : ℕ) : Type 0 where
+  pub waits : slice_get stands v ≡ Some Waiting
+  pub reads : (node : Node) (port : ℕ) (input : Input) → slice_get plan.net.nodes v ≡ Some node → slice_get node.inputs port ≡ Some input → slice_get stands input.node ≡ Some Done
+
+pub ready-at : (plan : Plan) (stands : List Stand) (v : ℕ) → is_ready plan.net.nodes stands v ≡ true → IsReady plan stands v
+ready-at plan stands v ready =
     record {
-      inside = subst (λ m. v < m) r.stand (stands-inside (slice_get stands v) refl (and_parts _ _ ready).0);
-      there = λ node port input at e. inputs-there laws plan rows visits outputs stands v node r (is-ready node at) port input e;
-      short = λ node port input at e. inputs-short laws plan rows visits outputs stands v node r (is-ready node at) read port input e;
-      comes = λ node at. arriving-run laws plan rows visits outputs stands v node read r (is-ready node at);
-      ports = λ node at other. arriving-ports laws plan rows visits outputs stands v node r (is-ready node at) read other;
+      waits = waiting-at (slice_get stands v) refl (and_parts _ _ ready).0;
+      reads = λ node port input at e.
+          let all : list_all (is_read stands) node.inputs ≡ true = ap (reads_done stands) (sym at) ∙ (and_parts (stands_at is_waiting (slice_get stands v)) _ ready).1 in
+          done-at input.node (slice_get stands input.node) refl (all-get (is_read stands) node.inputs port input all e);
     }
   where
-    stands-inside : (o : Option Stand) → slice_get stands v ≡ o → stands_at is_waiting o ≡ true → v < length stands
-    stands-inside None e h = absurd cc
-    stands-inside (Some at) e h = slice_get_within stands v at e
+    waiting-at : (o : Option Stand) → slice_get stands v ≡ o → stands_at is_waiting o ≡ true → slice_get stands v ≡ Some Waiting
+    waiting-at None e h = absurd cc
+    waiting-at (Some Waiting) e h = e
+    waiting-at (Some Done) e h = absurd cc
+    waiting-at (Some (Crowded fault)) e h = absurd cc
+    waiting-at (Some (Late fault)) e h = absurd cc
 
     done-at : (u : ℕ) (o : Option Stand) → slice_get stands u ≡ o → stands_at is_done o ≡ true → slice_get stands u ≡ Some Done
     done-at u None e h = absurd cc
@@ -222,13 +230,24 @@ has-all laws plan rows visits outputs stands v read r ready =
     done-at u (Some (Crowded fault)) e h = absurd cc
     done-at u (Some (Late fault)) e h = absurd cc
 
-    is-ready : (node : Node) → slice_get plan.net.nodes v ≡ Some node → IsReady plan stands v node
-    is-ready node at = record {
-      there = at;
-      reads = λ port input e.
-          let all : list_all (is_read stands) node.inputs ≡ true = ap (reads_done stands) (sym at) ∙ (and_parts (stands_at is_waiting (slice_get stands v)) _ ready).1 in
-          done-at input.node (slice_get stands input.node) refl (all-get (is_read stands) node.inputs port input all e);
-    }
+-- to a node that is fed all has come
+pub fed-all : (laws : CoreLaws) (plan : Plan) (rows : Rows) (outputs : List (List Stream)) (v : ℕ) → IsReadFor plan.net rows → v < length plan.net.nodes → ((node : Node) → slice_get plan.net.nodes v ≡ Some node → IsFed plan rows outputs v node) → HasAll plan rows outputs v
+fed-all laws plan rows outputs v read inside fed = record {
+  inside = inside;
+  there = λ node port input at e. inputs-there laws plan rows outputs v node (fed node at) port input e;
+  short = λ node port input at e. inputs-short laws plan rows outputs v node (fed node at) read port input e;
+  comes = λ node at. arriving-run laws plan rows outputs v node read (fed node at);
+  ports = λ node at other. arriving-ports laws plan rows outputs v node (fed node at) read other;
+}
+
+-- to a node that is ready all has come
+pub has-all : (laws : CoreLaws) (plan : Plan) (rows : Rows) (visits : List Visits) (outputs : List (List Stream)) (stands : List Stand) (v : ℕ) → IsReadFor plan.net rows → IsReached plan rows visits outputs stands → is_ready plan.net.nodes stands v ≡ true → HasAll plan rows outputs v
+has-all laws plan rows visits outputs stands v read r ready =
+    let at = ready-at plan stands v ready in
+    fed-all laws plan rows outputs v read (subst (λ m. v < m) r.stand (slice_get_within stands v Waiting at.waits)) (λ node there. record {
+      there = there;
+      feeds = λ port input named e here. let told = r.told input.node named Done here (at.reads node port input there e) in (told.0.outputs, told.1);
+    })
 
 -- what stands at a node that was worked out
 module _ (plan : Plan) (rows : Rows) (visits : List Visits) (outputs : List (List Stream)) (stands : List Stand) (v : ℕ) (node : Node) (there : slice_get plan.net.nodes v ≡ Some node) (r : IsReached plan rows visits outputs stands) where

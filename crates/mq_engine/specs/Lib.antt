@@ -1,6 +1,8 @@
 pub mod Answer
 pub mod Apart
 pub mod CoreLaws
+pub mod Counting
 pub mod Loads
 pub mod Progress
+pub mod Sources
 pub mod Waves

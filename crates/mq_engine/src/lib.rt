@@ -11,6 +11,8 @@ ghost use Rattle.mq_engine.specs.Answer.{IsCause};
 ghost use Rattle.mq_engine.specs.CoreLaws.{CoreLaws};
 ghost use Rattle.mq_engine.specs.Progress.{IsReached, is_ready};
 
+mod counted;
+mod counting;
 mod fault;
 mod firsts;
 mod gathering;
@@ -19,9 +21,12 @@ mod loads;
 mod middles;
 mod progress;
 mod ready;
+mod sources;
+mod told;
 mod wave;
 
 use crate::progress::{Progress, Stand, beginning, ready_nodes, settle};
+pub use counted::run_counted;
 pub use fault::RunFault;
 pub use laws::core_laws;
 use mq_arrivals::Arriving;

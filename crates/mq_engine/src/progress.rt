@@ -5,6 +5,7 @@ ghost use Rattle.mq_core.specs.declared.model.Input.{Input as Port};
 ghost use Rattle.mq_core.specs.declared.model.Node.{Node as TheNode};
 ghost use Rattle.mq_core.specs.declared.model.Plan.{Plan as ThePlan};
 ghost use Rattle.mq_core.specs.declared.model.Rows.{Rows as TheRows};
+ghost use Rattle.mq_engine.specs.Counting.{IsNobody};
 ghost use Rattle.mq_engine.specs.Progress.{AreWaiting, AreWithin, AreWorkedOut, IsPut, IsReached, is_done, is_read, is_ready, is_waiting};
 
 use mq_base::{List, OutOfMemory};
@@ -57,7 +58,10 @@ pub fn beginning(alloc: Global, nodes: usize) -> Result<Progress, OutOfMemory>
     })
 }
 
-fn no_visits(alloc: Global) -> Visits {
+// Of nobody.
+pub fn no_visits(alloc: Global) -> Visits
+    ensures { IsNobody result }
+{
     Visits {
         job: List::new(alloc),
         arrive: List::new(alloc),

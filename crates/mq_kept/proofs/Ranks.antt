@@ -29,7 +29,7 @@ use Rattle.mq_engine.specs.Progress.{HasAll, IsReached, is_done, is_read, is_rea
 use Rattle.mq_engine.specs.Waves.{IsWave}
 use Rattle.mq_engine.specs.declared.progress.Stand.{Stand}
 use Rattle.mq_engine.specs.declared.progress.Stand.TheVariants.{Waiting, Done}
-use Rattle.mq_engine.proofs.Endings.{none-refused, run-done}
+use Rattle.mq_engine.proofs.Endings.{each-done, none-refused, reached-stands, run-done}
 use Rattle.mq_engine.proofs.Lists.{has-index}
 use Rattle.mq_engine.proofs.Settling.{reached-begins}
 use Rattle.mq_engine.proofs.Waves.{has-all, put-keeps}
@@ -158,10 +158,10 @@ module _ (laws : CoreLaws) (plan : Plan) (rows : Rows) (read : IsReadFor plan.ne
   all-done q v l e = d.done q v (omega arith) e
 
   pub is-run : IsRunOf plan rows (record { visits = visits; outputs = outputs })
-  is-run = run-done laws plan rows read visits outputs d.stands d.reached all-done
+  is-run = run-done laws plan rows visits outputs d.stands d.reached (each-done laws plan rows read d.stands (reached-stands plan rows visits outputs d.stands d.reached) all-done)
 
   pub is-fine : refusal_of plan rows ≡ None
-  is-fine = none-refused laws plan rows read visits outputs d.stands d.reached all-done
+  is-fine = none-refused laws plan rows read d.stands (reached-stands plan rows visits outputs d.stands d.reached) all-done
 
 -- each node has a rank
 pub has-rank : (plan : Plan) (v : ℕ) (node : Node) → slice_get plan.net.nodes v ≡ Some node → (q : ℕ) × (q < length plan.order) × (slice_get plan.order q ≡ Some v)

@@ -2,8 +2,7 @@
 -- input reads, by rank of its node and then output. Where the job lines are asked for, a line for each visit follows, by rank of its
 -- node and then position. A node's line tells percentiles of the waits in form 2, and of held visits in form 2 and where the model is of
 -- version 2. Words are separated by one space, and each line ends with a line feed.
-use Rattle.std.specs.Prelude.{ℕ, zero, suc, ◌+◌, ◌*◌, ◌/◌, ◌%◌, ◌==◌, ◌&&◌, ◌||◌, Bool, if◌then◌else◌, List, [], ◌∷◌, ◌++◌, length, Option, Some, None, slice_get, codes, decimal}
-use Rattle.std.specs.List.{list_any}
+use Rattle.std.specs.Prelude.{ℕ, zero, suc, ◌+◌, ◌*◌, ◌/◌, ◌%◌, ◌==◌, ◌||◌, Bool, if◌then◌else◌, List, [], ◌∷◌, ◌++◌, length, Option, Some, None, slice_get, codes, decimal}
 use Rattle.mq_core.specs.Local.{Local}
 use Rattle.mq_core.specs.Machine.{State, Station, Visit}
 use Rattle.mq_core.specs.NetworkRun.{run_in}
@@ -12,12 +11,12 @@ use Rattle.mq_core.specs.Sound.{outputs_in}
 use Rattle.mq_core.specs.Wiring.{ranking}
 use Rattle.mq_core.specs.declared.model.Fate.{Fate}
 use Rattle.mq_core.specs.declared.model.Fate.TheVariants.{Departs, Held, Lost}
-use Rattle.mq_core.specs.declared.model.Input.{Input}
 use Rattle.mq_core.specs.declared.model.Kind.{Kind}
 use Rattle.mq_core.specs.declared.model.Kind.TheVariants.{Source, Server, Delay, Loss, Tandem, ForkJoin, Split, Fork, Join, Trunk}
 use Rattle.mq_core.specs.declared.model.Network.{Network}
 use Rattle.mq_core.specs.declared.model.Node.{Node}
 use Rattle.mq_core.specs.declared.model.Rows.{Rows}
+use Rattle.mq_counts.specs.Counts.{is_read}
 use Rattle.mq_stats.specs.Percentiles.{percentile, waits_at}
 
 -- the first line, which names the form of the report
@@ -115,10 +114,6 @@ told_tail form waits = if form == 2 then Some (record { p50 = percentile 50 wait
 unfoldable pub exit_line : List ℕ → ℕ → ℕ × ℕ → List ℕ
 exit_line name out exit =
     codes "exit " ++ name ++ codes "." ++ decimal out ++ codes " " ++ decimal exit.0 ++ codes " sojourn " ++ decimal exit.1 ++ 10 ∷ []
-
--- some input reads this output of the node
-abbrev pub is_read : List Node → ℕ → ℕ → Bool
-is_read nodes v out = list_any (λ (node : Node). list_any (λ (i : Input). (i.node == v) && (i.out == out)) node.inputs) nodes
 
 -- the line of an output that no input reads
 abbrev pub exit_lines_at : List Node → Rows → ℕ → List ℕ → Station Local → ℕ → List ℕ

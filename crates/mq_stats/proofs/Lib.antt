@@ -1,3 +1,4 @@
+pub mod Asked
 pub mod Backs
 pub mod Steps
 pub mod RunSteps
@@ -16,3 +17,4 @@ pub mod Gathering
 pub mod Leaves
 pub mod Lasts
 pub mod WaitsJoin
+pub mod Waited

@@ -1,5 +1,5 @@
 // The call that the program makes, stage by stage.
-ghost use Rattle.std.specs.Prelude.{◌≡◌, ◌≢◌, ◌⊎◌, ◌-◌, ◌^◌, ◌<◌, ◌≤◌, ℕ, List, Bool, true, false, length, Err, IsErrOf, IfOk, IfErr, IfSome, IsTrue, Some, None, []};
+ghost use Rattle.std.specs.Prelude.{◌≡◌, ◌≢◌, ◌⊎◌, ◌-◌, ◌^◌, ◌<◌, ◌≤◌, ℕ, List, Bool, true, false, length, Err, IsErrOf, IfOk, IfErr, IfSome, IsTrue, is_some, Some, None, []};
 ghost use Rattle.mq_outside.specs.Outside.{next_count, Rose};
 ghost use Rattle.mq_base.specs.Text.{texts};
 ghost use Rattle.mq_core.specs.NetworkRun.{refusal_in};
@@ -8,9 +8,8 @@ ghost use Rattle.mq_gen.specs.Made.{made_model, made_trace};
 ghost use Rattle.mq_model.specs.Model.{model_fault};
 ghost use Rattle.mq_model.specs.NetworkOf.{network_in};
 ghost use Rattle.mq_core.specs.Sequences.{IsRunOf};
-ghost use Rattle.mq_report.specs.Tails.{AreNodeTails};
+ghost use Rattle.mq_counts.specs.Counts.{AreCounts};
 ghost use Rattle.mq_report.specs.Text.{report_in};
-ghost use Rattle.mq_report.specs.Totals.{AreNodeTotals};
 ghost use Rattle.mq_stats.specs.RunNumbers.{HasFewVisits};
 ghost use Rattle.mq_trace.specs.Trace.{trace_fault, rows_in};
 ghost use Rattle.mq_top.specs.Answer.{answer, answer_over, run_answer, wanted_by};
@@ -19,17 +18,17 @@ ghost use Rattle.mq_top.specs.Ends.{Ends, FailedAt, IsLate, IsOfMade, Reads, Ref
 ghost use Rattle.mq_outcome.specs.Lines.{PutsLine, line_text, name_of as name_of_outcome};
 ghost use Rattle.mq_words.specs.Words.{Asks, Makes, Names, asks_made, refuses_words, usage_fault};
 
-use mq_base::{List, OutOfMemory};
 use mq_core::{Plan, Rows, Run, runs_are_of_networks};
+use mq_counts::{Counts, counts_of_run};
 use mq_crew::{Gate, Open};
-use mq_engine::{RunFault, run};
+use mq_engine::{RunFault, run, run_counted};
 use mq_gen::{made, made_inputs_are_accepted};
 use mq_model::{ModelFault, read_model};
 use mq_outcome::{Outcome, name_of, put_line};
 use mq_outside::{FileFault, Files, Sink};
-use mq_report::{node_tails, node_totals, report};
-use mq_stats::{NodeTotals, Percentiles, runs_have_few_visits};
-use mq_trace::{TraceFault, read_trace};
+use mq_report::report;
+use mq_stats::runs_have_few_visits;
+use mq_trace::{TraceFault, read_trace, take_trace};
 use mq_words::{Settings, Subject, UsageFault, WordsFault, settings_of};
 use std::alloc::Global;
 use std::thread::Threads;
@@ -111,6 +110,25 @@ fn judge_trace<R: Threads + Sync, G: Gate>(
     }
 }
 
+// The same of bytes that are handed over: they are let go before the rows are put together.
+fn judge_own_trace<R: Threads + Sync, G: Gate>(
+    alloc: Global,
+    crew: &Crew<R, G>,
+    plan: &Plan,
+    bytes: Vec<u8>,
+) -> Result<Rows, Outcome>
+    ensures read { IfOk result (λ rows. IsReadFor plan.now.net rows) }
+    ensures accepted { IfOk result (λ rows. (trace_fault plan.now.net bytes.items ≡ None) × (rows ≡ rows_in plan.now.net bytes.items)) }
+    ensures refused { IfErr result (λ outcome. RefusesTrace plan.now.net outcome (Some bytes.items)) }
+    ensures unread { result ≢ Err (Outcome.ReadFault true) }
+{
+    match take_trace(crew.rt, alloc, crew.workers, bytes, &plan.net) {
+        Ok(rows) => Ok(rows),
+        Err(TraceFault::Memory) => Err(Outcome::Memory),
+        Err(fault) => Err(Outcome::Trace(fault)),
+    }
+}
+
 // Reads the model of this name, and judges it.
 fn accept_model<F: Files>(alloc: Global, name: &str, files: &mut F) -> Result<Plan, Outcome>
     ensures counted { F.reads files.new ≡ next_count (F.reads files.old) }
@@ -163,7 +181,7 @@ fn accept_trace<R: Threads + Sync, G: Gate, F: Files>(
         Err(FileFault::TooLong) => return Err(Outcome::Trace(TraceFault::TooLong)),
         Err(FileFault::Memory) => return Err(Outcome::Memory),
     }
-    judge_trace(alloc, crew, plan, &bytes)
+    judge_own_trace(alloc, crew, plan, bytes)
 }
 
 // How many of these workers work out a run over rows.
@@ -179,39 +197,36 @@ fn workers_for(rows: &Rows, workers: u32, block: u32) -> u32
     }
 }
 
-// The percentiles of the waits at each node, which form 2 of the report tells; none for form 1.
-fn told_tails<R: Threads + Sync, G: Gate>(
-    alloc: Global,
-    crew: &Crew<R, G>,
+// Writes the report of a run that tells this, as it is wanted: the run is given where the lines of its jobs are wanted.
+fn report_told<O: Sink>(
     plan: &Plan,
     rows: &Rows,
-    run: &Run,
-    totals: &List<NodeTotals>,
-    form: u8,
-) -> Result<List<Percentiles>, OutOfMemory>
+    counts: &Counts,
+    jobs: Option<&Run>,
+    wanted: Wanted,
+    out: &mut O,
+) -> Outcome
     requires read { IsReadFor plan.now.net rows.now }
-    requires run { IsRunOf plan.now rows.now run.now }
     requires few { HasFewVisits plan.now rows.now }
-    requires totals { AreNodeTotals plan.now rows.now totals.now }
-    ensures { form ≡ 2 → IfOk result (λ tails. AreNodeTails plan.now rows.now tails) }
+    requires counts { AreCounts plan.now rows.now wanted.form counts.now }
+    requires jobs { IfSome jobs (λ run. IsRunOf plan.now rows.now run.now) }
+    requires asked { is_some jobs ≡ wanted.jobs }
+    ensures ends { Ends (Reported (report_in plan.now.net rows.now wanted.form wanted.jobs)) result (takings O.taken O.sure out.old out.new) }
+    ensures unread { (second : Bool) → result ≢ Outcome.ReadFault second }
+    ensures later { O.faults out.old ≤ O.faults out.new }
+    ensures rose { result ≡ Outcome.WriteFault → Rose (O.faults out.old) (O.faults out.new) }
+    ensures quiet { (result ≡ Outcome.WriteFault) ⊎ (O.faults out.new ≡ O.faults out.old) }
+    ensures sure { length (report_in plan.now.net rows.now wanted.form wanted.jobs) ≤ O.sure out.old → O.faults out.new ≡ O.faults out.old }
+    ensures untouched { Untouched result out.old out.new }
 {
-    if form == 1 {
-        return Ok(List::new(alloc));
+    match report(plan, rows, counts, jobs, wanted.form, out) {
+        Ok(()) => Outcome::Done,
+        Err(_) => Outcome::WriteFault,
     }
-    node_tails(
-        crew.rt,
-        alloc,
-        crew.workers,
-        plan,
-        rows,
-        run,
-        totals,
-        crew.gate,
-    )
 }
 
-// Writes the report of a run as it is wanted.
-fn report_finished<R: Threads + Sync, G: Gate, O: Sink>(
+// Writes the report of a run that is kept, with the lines of its jobs.
+fn report_kept<R: Threads + Sync, G: Gate, O: Sink>(
     alloc: Global,
     crew: &Crew<R, G>,
     plan: &Plan,
@@ -223,6 +238,7 @@ fn report_finished<R: Threads + Sync, G: Gate, O: Sink>(
     requires read { IsReadFor plan.now.net rows.now }
     requires run { IsRunOf plan.now rows.now run.now }
     requires few { HasFewVisits plan.now rows.now }
+    requires asked { wanted.jobs ≡ true }
     ensures ends { Ends (Reported (report_in plan.now.net rows.now wanted.form wanted.jobs)) result (takings O.taken O.sure out.old out.new) }
     ensures unread { (second : Bool) → result ≢ Outcome.ReadFault second }
     ensures later { O.faults out.old ≤ O.faults out.new }
@@ -231,29 +247,102 @@ fn report_finished<R: Threads + Sync, G: Gate, O: Sink>(
     ensures sure { length (report_in plan.now.net rows.now wanted.form wanted.jobs) ≤ O.sure out.old → O.faults out.new ≡ O.faults out.old }
     ensures untouched { Untouched result out.old out.new }
 {
-    let Ok(totals) = node_totals(crew.rt, alloc, crew.workers, plan, rows, run, crew.gate) else {
-        return Outcome::Memory;
-    };
-    let Ok(tails) = told_tails(alloc, crew, plan, rows, run, &totals, wanted.form) else {
-        drop(totals);
-        return Outcome::Memory;
-    };
-    let written = report(
+    let Ok(counts) = counts_of_run(
+        crew.rt,
+        alloc,
+        crew.workers,
         plan,
         rows,
         run,
-        &totals,
-        &tails,
         wanted.form,
-        wanted.jobs,
-        out,
-    );
-    drop(tails);
-    drop(totals);
-    match written {
-        Ok(()) => Outcome::Done,
-        Err(_) => Outcome::WriteFault,
-    }
+        crew.gate,
+    ) else {
+        return Outcome::Memory;
+    };
+    let outcome = report_told(plan, rows, &counts, Some(run), wanted, out);
+    drop(counts);
+    outcome
+}
+
+// Runs a plan over its rows, and writes the report with the lines of the jobs: the run is kept up to its end.
+fn report_jobs<R: Threads + Sync, G: Gate, O: Sink>(
+    alloc: Global,
+    crew: &Crew<R, G>,
+    plan: &Plan,
+    rows: &Rows,
+    wanted: Wanted,
+    out: &mut O,
+) -> Outcome
+    requires read { IsReadFor plan.now.net rows.now }
+    requires asked { wanted.jobs ≡ true }
+    ensures ends { Ends (run_answer plan.now.net rows.now wanted (refusal_in plan.now.net rows.now)) result (takings O.taken O.sure out.old out.new) }
+    ensures unread { (second : Bool) → result ≢ Outcome.ReadFault second }
+    ensures later { O.faults out.old ≤ O.faults out.new }
+    ensures rose { result ≡ Outcome.WriteFault → Rose (O.faults out.old) (O.faults out.new) }
+    ensures quiet { (result ≡ Outcome.WriteFault) ⊎ (O.faults out.new ≡ O.faults out.old) }
+    ensures sure { length (report_in plan.now.net rows.now wanted.form wanted.jobs) ≤ O.sure out.old → O.faults out.new ≡ O.faults out.old }
+    ensures untouched { Untouched result out.old out.new }
+{
+    runs_are_of_networks();
+    runs_have_few_visits();
+    let run = match run(
+        crew.rt,
+        alloc,
+        plan,
+        rows,
+        crew.workers,
+        crew.block,
+        crew.gate,
+    ) {
+        Ok(run) => run,
+        Err(RunFault::Over(fault)) => return Outcome::Over(fault),
+        Err(RunFault::Past(fault)) => return Outcome::Past(fault),
+        Err(RunFault::Memory) => return Outcome::Memory,
+    };
+    let outcome = report_kept(alloc, crew, plan, rows, &run, wanted, out);
+    drop(run);
+    outcome
+}
+
+// Runs a plan over its rows, counted as it goes, and writes the report without the lines of the jobs.
+fn report_counts<R: Threads + Sync, G: Gate, O: Sink>(
+    alloc: Global,
+    crew: &Crew<R, G>,
+    plan: &Plan,
+    rows: &Rows,
+    wanted: Wanted,
+    out: &mut O,
+) -> Outcome
+    requires read { IsReadFor plan.now.net rows.now }
+    requires asked { wanted.jobs ≡ false }
+    ensures ends { Ends (run_answer plan.now.net rows.now wanted (refusal_in plan.now.net rows.now)) result (takings O.taken O.sure out.old out.new) }
+    ensures unread { (second : Bool) → result ≢ Outcome.ReadFault second }
+    ensures later { O.faults out.old ≤ O.faults out.new }
+    ensures rose { result ≡ Outcome.WriteFault → Rose (O.faults out.old) (O.faults out.new) }
+    ensures quiet { (result ≡ Outcome.WriteFault) ⊎ (O.faults out.new ≡ O.faults out.old) }
+    ensures sure { length (report_in plan.now.net rows.now wanted.form wanted.jobs) ≤ O.sure out.old → O.faults out.new ≡ O.faults out.old }
+    ensures untouched { Untouched result out.old out.new }
+{
+    runs_are_of_networks();
+    runs_have_few_visits();
+    let counts = match run_counted(
+        crew.rt,
+        alloc,
+        plan,
+        rows,
+        crew.workers,
+        crew.block,
+        wanted.form,
+        crew.gate,
+    ) {
+        Ok(counts) => counts,
+        Err(RunFault::Over(over)) => return Outcome::Over(over),
+        Err(RunFault::Past(past)) => return Outcome::Past(past),
+        Err(RunFault::Memory) => return Outcome::Memory,
+    };
+    let outcome = report_told(plan, rows, &counts, None, wanted, out);
+    drop(counts);
+    outcome
 }
 
 // Runs a plan over its rows, and writes the report as it is wanted.
@@ -274,31 +363,16 @@ fn report_run<R: Threads + Sync, G: Gate, O: Sink>(
     ensures sure { length (report_in plan.now.net rows.now wanted.form wanted.jobs) ≤ O.sure out.old → O.faults out.new ≡ O.faults out.old }
     ensures untouched { Untouched result out.old out.new }
 {
-    runs_are_of_networks();
-    runs_have_few_visits();
     let crew = &Crew {
         rt: crew.rt,
         workers: workers_for(rows, crew.workers, crew.block),
         block: crew.block,
         gate: crew.gate,
     };
-    let run = match run(
-        crew.rt,
-        alloc,
-        plan,
-        rows,
-        crew.workers,
-        crew.block,
-        crew.gate,
-    ) {
-        Ok(run) => run,
-        Err(RunFault::Over(fault)) => return Outcome::Over(fault),
-        Err(RunFault::Past(fault)) => return Outcome::Past(fault),
-        Err(RunFault::Memory) => return Outcome::Memory,
-    };
-    let outcome = report_finished(alloc, crew, plan, rows, &run, wanted, out);
-    drop(run);
-    outcome
+    if wanted.jobs {
+        return report_jobs(alloc, crew, plan, rows, wanted, out);
+    }
+    report_counts(alloc, crew, plan, rows, wanted, out)
 }
 
 // Reads the trace of this name for a plan, runs it, and writes the report.

@@ -12,10 +12,10 @@ use Rattle.mq_core.specs.declared.model.Rows.{Rows}
 use Rattle.mq_trace.specs.Header.{field_of}
 use Rattle.mq_base.proofs.lemmas.Lists.{some_inj}
 use Rattle.mq_trace.specs.Joined.{AreJoined, HasColumns, HaveColumns, Piece, piece_numbers, piece_sources}
-use Rattle.mq_trace.specs.Pieces.{behind, piece_data}
+use Rattle.mq_trace.specs.Pieces.{AreReadApart, behind, piece_data}
 use Rattle.mq_trace.proofs.RowFacts.{so_far_all}
 use Rattle.mq_trace.specs.Records.{Record}
-use Rattle.mq_trace.specs.Trace.{data_of, index_of, row_fault, rows_fault, rows_of, source_named, text_records}
+use Rattle.mq_trace.specs.Trace.{data_of, header_of, index_of, records_fault, row_fault, rows_fault, rows_of, source_named, text_records}
 use Rattle.mq_trace.specs.declared.fault.TraceFault.{TraceFault}
 use Rattle.mq_trace.specs.declared.fault.TraceFault.TheVariants.{TooManyRows, BadCount, UnknownSource, BadNumber}
 use Rattle.mq_trace.proofs.RowsRead.{few_rows}
@@ -227,6 +227,17 @@ all_joined texts i h = rw (take_all i texts h) refl
 -- the first pieces gave these rows
 abbrev pub AreRead : Network → Record → List (List ℕ) → List Piece → ℕ → Type 0
 AreRead net header texts read i = (j : ℕ) → j < i → slice_get read j ≡ Some (Ok (rows_of net header (piece_data j (get_or texts j []))))
+
+-- the first pieces have no fault, and so many rows
+pub record AreJudged (net : Network) (header : Record) (texts : List (List ℕ)) (pieces : List Piece) (i many : ℕ) : Type 0 where
+  pub clean : rows_fault net header 1 (so_far texts i) ≡ None
+  pub count : length (so_far texts i) ≡ many
+  pub read : AreRead net header texts pieces i
+
+-- the first fault of a text that was read by pieces is that of their data records
+pub records_are : (net : Network) (text : List ℕ) (read : List Piece) (are : AreReadApart net text read)
+    → records_fault net (text_records text) ≡ rows_fault net (header_of (text_records text)) 1 (data_of (flat_map text_records are.pieces))
+records_are net text read are = rw are.clean (ap (λ rs. rows_fault net (header_of (text_records text)) 1 (data_of rs)) are.same)
 
 -- one more
 pub read_more : (net : Network) (header : Record) (texts : List (List ℕ)) (read : List Piece) (i : ℕ) → AreRead net header texts read i

@@ -1,10 +1,10 @@
 -- A text in pieces, which are cut at line feeds and read by themselves.
-use Rattle.std.specs.Prelude.{◌≡◌, ◌⊎◌, ◌+◌, ◌<◌, ◌==◌, [], ℕ, List, flat_map, get_or, length, nat_lt, if◌then◌else◌, Result, true}
+use Rattle.std.specs.Prelude.{◌≡◌, ◌⊎◌, ◌+◌, ◌<◌, ◌≤◌, ◌==◌, [], ℕ, List, flat_map, get_or, length, nat_lt, slice_index_or, if◌then◌else◌, None, Result, true}
 use Rattle.mq_core.specs.declared.model.Network.{Network}
 use Rattle.mq_core.specs.declared.model.Rows.{Rows}
 use Rattle.mq_trace.specs.Quotes.{is_closed}
 use Rattle.mq_trace.specs.Records.{Record}
-use Rattle.mq_trace.specs.Trace.{Answers, data_of, rows_fault, rows_of, text_records}
+use Rattle.mq_trace.specs.Trace.{Answers, data_of, header_fault, header_of, rows_fault, rows_of, text_records}
 use Rattle.mq_trace.specs.declared.fault.TraceFault.{TraceFault}
 use Rattle.mq_trace.specs.declared.fault.TraceFault.TheVariants.{TooLong, BadHeader, MissingColumn, TooManyRows, BadCount, UnknownSource, BadNumber, Memory}
 
@@ -31,6 +31,15 @@ piece_data at piece = if at == 0 then data_of (text_records piece) else text_rec
 -- what a reader of these data records answers, who numbers them from 1
 abbrev pub Reads : Network → Record → List Record → Result Rows TraceFault → Type 0
 Reads net header rs result = Answers result (rows_fault net header 1 rs) (rows_of net header rs)
+
+-- What was read of each piece of a text by itself. The header is the first record of the first, and has no fault.
+pub record AreReadApart (net : Network) (text : List ℕ) (read : List (Result Rows TraceFault)) : Type 0 where
+  pub pieces : List (List ℕ)
+  pub same : ArePieces text pieces
+  pub first : 1 ≤ length (text_records (get_or pieces 0 []))
+  pub clean : header_fault net (header_of (text_records text)) ≡ None
+  pub len : length read ≡ length pieces
+  pub each : (i : ℕ) (d : Result Rows TraceFault) → i < length read → Reads net (header_of (text_records text)) (piece_data i (get_or pieces i [])) (slice_index_or read i d)
 
 -- a fault that names a row, unless the row is one too many
 abbrev pub if_allowed : ℕ → TraceFault → TraceFault

@@ -1,14 +1,12 @@
 // The rows of pieces, one behind the other.
 
-ghost use Rattle.std.specs.Prelude.{◌≡◌, ◌+◌, ◌<◌, ◌≤◌, ℕ, [], length, get_or, map, flat_map, slice_index_or, Ok, OnOk, IfErr};
-ghost use Rattle.csv.specs.Records.{fields_of};
+ghost use Rattle.std.specs.Prelude.{◌≡◌, ◌≤◌, ℕ, List, length, Ok, OnOk, IfErr};
 ghost use Rattle.mq_core.specs.declared.model.Rows.{Rows};
 ghost use Rattle.mq_trace.specs.Joined.{AreJoined, HaveColumns};
-ghost use Rattle.mq_trace.specs.Pieces.{Reads, behind, piece_data};
-ghost use Rattle.mq_trace.specs.Trace.{Tells, data_of, rows_fault, text_records};
+ghost use Rattle.mq_trace.specs.Pieces.{AreReadApart, behind};
+ghost use Rattle.mq_trace.specs.Trace.{Answers, Tells, records_fault, rows_in, text_records};
 
 use crate::fault::TraceFault;
-use crate::header::Header;
 use crate::lists::{Lists, joined};
 use crate::rows::MOST_ROWS;
 use mq_core::{Network, Rows};
@@ -38,18 +36,11 @@ fn fault_behind(before: u32, fault: TraceFault) -> TraceFault
 
 /// How many rows all pieces have. The first fault is that of the first piece that has one, unless there are too many
 /// rows before it.
-fn judge(
-    pieces: &[&[u8]],
-    read: &[Result<Rows, TraceFault>],
-    net: &Network,
-    header: &Header,
-) -> Result<u32, TraceFault>
-    requires len { length read.now ≡ length pieces.now }
-    requires first { 1 ≤ length (text_records (get_or (map (λ s. s.now) pieces.now) 0 [])) }
-    requires each { (i : ℕ) (d : _) → i < length read.now → Reads net.now (fields_of header.now.names) (piece_data i (get_or (map (λ s. s.now) pieces.now) i [])) (slice_index_or read.now i d) }
+fn judge(read: &[Result<Rows, TraceFault>], net: &Network) -> Result<u32, TraceFault>
+    requires { (text : List ℕ) × AreReadApart net.now text read.now }
     ensures columns { OnOk result (HaveColumns (length net.now.columns) read.now) }
-    ensures rows { OnOk result ((rows : Rows) → AreJoined (length net.now.columns) read.now rows → Reads net.now (fields_of header.now.names) (data_of (flat_map text_records (map (λ s. s.now) pieces.now))) (Ok rows)) }
-    ensures fault { IfErr result (λ e. Tells e (rows_fault net.now (fields_of header.now.names) 1 (data_of (flat_map text_records (map (λ s. s.now) pieces.now))))) }
+    ensures rows { (text : List ℕ) → AreReadApart net.now text read.now → OnOk result ((rows : Rows) → AreJoined (length net.now.columns) read.now rows → Answers (Ok rows) (records_fault net.now (text_records text)) (rows_in net.now text)) }
+    ensures fault { (text : List ℕ) → AreReadApart net.now text read.now → IfErr result (λ e. Tells e (records_fault net.now (text_records text))) }
 {
     let mut before = 0u32;
     for piece in read {
@@ -66,25 +57,22 @@ fn judge(
     Ok(before)
 }
 
-/// Puts together what was read of each piece, by so many workers. A fault is judged before anything is joined.
+/// Puts together what was read of each piece of a text, by so many workers. A fault is judged before anything is joined.
+/// The text itself isn't asked any more.
 pub fn join_rows<R: Threads + Sync>(
     rt: &R,
     alloc: Global,
     workers: u32,
-    pieces: &[&[u8]],
     read: &[Result<Rows, TraceFault>],
     net: &Network,
-    header: &Header,
 ) -> Result<Rows, TraceFault>
     requires some { 1 ≤ workers }
     requires most { workers ≤ 64 }
     requires columns { length net.now.columns ≤ 16 }
-    requires len { length read.now ≡ length pieces.now }
-    requires first { 1 ≤ length (text_records (get_or (map (λ s. s.now) pieces.now) 0 [])) }
-    requires each { (i : ℕ) (d : _) → i < length read.now → Reads net.now (fields_of header.now.names) (piece_data i (get_or (map (λ s. s.now) pieces.now) i [])) (slice_index_or read.now i d) }
-    ensures { Reads net.now (fields_of header.now.names) (data_of (flat_map text_records (map (λ s. s.now) pieces.now))) result }
+    requires read { (text : List ℕ) × AreReadApart net.now text read.now }
+    ensures { (text : List ℕ) → AreReadApart net.now text read.now → Answers result (records_fault net.now (text_records text)) (rows_in net.now text) }
 {
-    let count = judge(pieces, read, net, header)?;
+    let count = judge(read, net)?;
     let lists = Lists {
         read,
         count,

@@ -23,5 +23,5 @@ mod rows;
 
 pub use fault::TraceFault;
 pub use laws::traces_are_read;
-pub use read::read_trace;
+pub use read::{read_trace, take_trace};
 pub use row::find_source;

@@ -1,22 +1,23 @@
 // The reader of a trace.
 
-ghost use Rattle.std.specs.Prelude.{◌≡◌, ◌^◌, ◌<◌, ◌≤◌, ◌∷◌, [], List, length, map, flat_map, get_or, IfErr, IfOk};
+ghost use Rattle.std.specs.Prelude.{◌≡◌, ◌^◌, ◌<◌, ◌≤◌, ◌∷◌, [], List, length, map, IfErr, IfNone, IfOk, IfSome, Some};
 ghost use Rattle.std.specs.Bool.{MatchBool};
 ghost use Rattle.csv.specs.Records.{fields_of};
+ghost use Rattle.mq_core.specs.declared.model.Network.{Network};
 ghost use Rattle.mq_core.specs.Theorems.{IsReadFor};
-ghost use Rattle.mq_trace.specs.Pieces.{ArePieces, Reads};
-ghost use Rattle.mq_trace.specs.Reading.{IsHeaderOf};
+ghost use Rattle.mq_trace.specs.Pieces.{ArePieces, AreReadApart};
 ghost use Rattle.mq_trace.specs.Records.{Record};
-ghost use Rattle.mq_trace.specs.Trace.{Answers, data_of, records_fault, rows_in, text_records, trace_fault};
+ghost use Rattle.mq_trace.specs.Trace.{Answers, Tells, records_fault, rows_in, text_records, trace_fault};
 
 use crate::each::read_each;
 use crate::fault::TraceFault;
-use crate::header::{Header, read_header};
+use crate::header::read_header;
 use crate::join::join_rows;
 use crate::piece::read_piece;
 use crate::pieces::pieces_of;
 use crate::records::{next_record, text_reader};
 use csv::ByteRecord;
+use mq_base::List;
 use mq_core::{Network, Rows};
 use std::alloc::Global;
 use std::thread::Threads;
@@ -61,29 +62,7 @@ fn read_whole(alloc: Global, text: &[u8], net: &Network) -> Result<Rows, TraceFa
     }
 }
 
-/// Reads the data records of each piece, and puts the rows of all one behind the other.
-fn read_joined<R: Threads + Sync>(
-    rt: &R,
-    alloc: Global,
-    workers: u32,
-    pieces: &[&[u8]],
-    net: &Network,
-    header: &Header,
-) -> Result<Rows, TraceFault>
-    requires one { 1 ≤ workers }
-    requires most { workers ≤ 64 }
-    requires few { length pieces.now < 2 ^ 32 }
-    requires header { IsHeaderOf net.now header.now }
-    requires nodes { length net.now.nodes < 2 ^ 32 }
-    requires columns { length net.now.columns ≤ 16 }
-    requires first { 1 ≤ length (text_records (get_or (map (λ s. s.now) pieces.now) 0 [])) }
-    ensures { Reads net.now (fields_of header.now.names) (data_of (flat_map text_records (map (λ s. s.now) pieces.now))) result }
-{
-    let read = read_each(rt, alloc, workers, pieces, net, header)?;
-    join_rows(rt, alloc, workers, pieces, read.as_slice(), net, header)
-}
-
-/// The same, by pieces. Where the first has no record the header stands in a later one, and the text is read whole.
+/// What is read of each piece of a text. Nothing, where the first has no record: the header stands in a later one.
 fn read_apart<R: Threads + Sync>(
     rt: &R,
     alloc: Global,
@@ -91,7 +70,7 @@ fn read_apart<R: Threads + Sync>(
     text: &[u8],
     pieces: &[&[u8]],
     net: &Network,
-) -> Result<Rows, TraceFault>
+) -> Result<Option<List<Result<Rows, TraceFault>>>, TraceFault>
     requires one { 1 ≤ workers }
     requires most { workers ≤ 64 }
     requires some { 1 ≤ length pieces.now }
@@ -99,25 +78,49 @@ fn read_apart<R: Threads + Sync>(
     requires pieces { ArePieces text.now (map (λ s. s.now) pieces.now) }
     requires nodes { length net.now.nodes < 2 ^ 32 }
     requires columns { length net.now.columns ≤ 16 }
-    ensures { Answers result (records_fault net.now (text_records text.now)) (rows_in net.now text.now) }
+    ensures read { IfOk result (λ found. IfSome found (λ read. AreReadApart net.now text.now read)) }
+    ensures fault { IfErr result (λ e. Tells e (records_fault net.now (text_records text.now))) }
 {
     let mut names = ByteRecord::new(alloc);
     match first_record(alloc, pieces[0], &mut names) {
         Ok(true) => {
             let header = read_header(alloc, names, net)?;
-            let read = read_joined(rt, alloc, workers, pieces, net, &header);
+            let read = read_each(rt, alloc, workers, pieces, net, &header)?;
             drop(header);
-            read
+            Ok(Some(read))
         }
         Ok(false) => {
             drop(names);
-            read_whole(alloc, text, net)
+            Ok(None)
         }
         Err(fault) => {
             drop(names);
             Err(fault)
         }
     }
+}
+
+/// The same, where a text is cut into so many pieces.
+fn read_pieces<R: Threads + Sync>(
+    rt: &R,
+    alloc: Global,
+    workers: u32,
+    count: u32,
+    text: &[u8],
+    net: &Network,
+) -> Result<Option<List<Result<Rows, TraceFault>>>, TraceFault>
+    requires one { 1 ≤ workers }
+    requires most { workers ≤ 64 }
+    requires nodes { length net.now.nodes < 2 ^ 32 }
+    requires columns { length net.now.columns ≤ 16 }
+    ensures read { IfOk result (λ found. IfSome found (λ read. AreReadApart net.now text.now read)) }
+    ensures fault { IfErr result (λ e. Tells e (records_fault net.now (text_records text.now))) }
+{
+    if count > 1 {
+        let pieces = pieces_of(rt, alloc, workers, text, count)?;
+        return read_apart(rt, alloc, workers, text, &pieces, net);
+    }
+    Ok(None)
 }
 
 // Reads a text by so many pieces and workers.
@@ -135,11 +138,34 @@ fn read_text<R: Threads + Sync>(
     requires columns { length net.now.columns ≤ 16 }
     ensures { Answers result (records_fault net.now (text_records text.now)) (rows_in net.now text.now) }
 {
-    if count > 1 {
-        let pieces = pieces_of(rt, alloc, workers, text, count)?;
-        return read_apart(rt, alloc, workers, text, &pieces, net);
+    match read_pieces(rt, alloc, workers, count, text, net)? {
+        Some(read) => join_rows(rt, alloc, workers, read.as_slice(), net),
+        None => read_whole(alloc, text, net),
     }
-    read_whole(alloc, text, net)
+}
+
+// Reads a text of one's own, and lets it go before the rows of its pieces are joined.
+fn take_text<R: Threads + Sync>(
+    rt: &R,
+    alloc: Global,
+    workers: u32,
+    count: u32,
+    text: Vec<u8>,
+    net: &Network,
+) -> Result<Rows, TraceFault>
+    requires one { 1 ≤ workers }
+    requires most { workers ≤ 64 }
+    requires nodes { length net.now.nodes < 2 ^ 32 }
+    requires columns { length net.now.columns ≤ 16 }
+    ensures { Answers result (records_fault net.now (text_records text.items)) (rows_in net.now text.items) }
+{
+    match read_pieces(rt, alloc, workers, count, &text, net)? {
+        Some(read) => {
+            drop(text);
+            join_rows(rt, alloc, workers, read.as_slice(), net)
+        }
+        None => read_whole(alloc, &text, net),
+    }
 }
 
 /// How many pieces a text is cut into. One worker reads it whole.
@@ -149,6 +175,20 @@ fn pieces_for(workers: u32, len: usize) -> u32 {
     }
     let most = workers.saturating_mul(PIECES_EACH);
     (len / PIECE_BYTES).min(most as usize) as u32
+}
+
+/// The fault that a text has whatever its records are: its length, or two byte order marks.
+fn fault_before(text: &[u8]) -> Option<TraceFault>
+    ensures some { IfSome result (λ fault. (net : Network) → trace_fault net text.now ≡ Some fault) }
+    ensures none { IfNone result ((net : Network) → trace_fault net text.now ≡ records_fault net (text_records text.now)) }
+{
+    if text.len() > 134_217_728 {
+        return Some(TraceFault::TooLong);
+    }
+    if text.starts_with(b"\xEF\xBB\xBF\xEF\xBB\xBF") {
+        return Some(TraceFault::BadHeader { field: 1 });
+    }
+    None
 }
 
 /// Reads a trace for the network of a plan. The row of job j is data record j + 1, in the order of the text.
@@ -176,18 +216,35 @@ pub fn read_trace<R: Threads + Sync>(
     ensures exact { Answers result (trace_fault net.now bytes.now) (rows_in net.now bytes.now) }
     ensures read { IfOk result (λ rows. IsReadFor net.now rows) }
 {
-    if bytes.len() > 134_217_728 {
-        return Err(TraceFault::TooLong);
+    match fault_before(bytes) {
+        Some(fault) => Err(fault),
+        None => {
+            let count = pieces_for(workers, bytes.len());
+            read_text(rt, alloc, workers, count, bytes, net)
+        }
     }
-    if bytes.starts_with(b"\xEF\xBB\xBF\xEF\xBB\xBF") {
-        return Err(TraceFault::BadHeader { field: 1 });
+}
+
+/// The same of a text that is handed over: it is let go before the rows of its pieces are joined, which it isn't asked for.
+pub fn take_trace<R: Threads + Sync>(
+    rt: &R,
+    alloc: Global,
+    workers: u32,
+    bytes: Vec<u8>,
+    net: &Network,
+) -> Result<Rows, TraceFault>
+    requires one { 1 ≤ workers }
+    requires most { workers ≤ 64 }
+    requires nodes { length net.now.nodes < 2 ^ 32 }
+    requires columns { length net.now.columns ≤ 16 }
+    ensures exact { Answers result (trace_fault net.now bytes.items) (rows_in net.now bytes.items) }
+    ensures read { IfOk result (λ rows. IsReadFor net.now rows) }
+{
+    match fault_before(&bytes) {
+        Some(fault) => Err(fault),
+        None => {
+            let count = pieces_for(workers, bytes.len());
+            take_text(rt, alloc, workers, count, bytes, net)
+        }
     }
-    read_text(
-        rt,
-        alloc,
-        workers,
-        pieces_for(workers, bytes.len()),
-        bytes,
-        net,
-    )
 }

@@ -15,14 +15,16 @@ use std::thread::Threads;
 // Three jobs, of which each is a block.
 const JOBS: &[u8] = b"source,time,a,b,c\nsrc,0,2,3,1\nsrc,1,1,1,4\nsrc,2,2,1,1\n";
 
-// A run whose form of report is this, and how many pieces each list of it has, in the order in which they are made. A list of no
-// piece or of one enters no gate, and isn't told. First come the 4 last pieces of the source (when its jobs leave, how many each
-// found, the jobs, and when each departs), then the lists of the other nodes, and behind these the totals, a piece for each node.
+// A run whose form of report is this, with the lines of the jobs or without them, and how many pieces each list of it has, in the
+// order in which they are made. A list of no piece or of one enters no gate, and isn't told. Without those lines nothing is worked
+// out of a source, and behind each wave come the totals of its nodes, a piece for each. With them the 4 last pieces of the source
+// come first (when its jobs leave, how many each found, the jobs, and when each departs), and the totals of all nodes at the end.
 #[derive(Clone, Copy)]
 struct Case<'a> {
     model: &'a [u8],
     trace: &'a [u8],
     form: &'a str,
+    jobs: bool,
     lists: &'a [usize],
     // How many blocks each single pass has.
     passes: &'a [usize],
@@ -34,13 +36,21 @@ const SERVER: Case = Case {
     model: MODEL,
     trace: TRACE,
     form: "2",
-    lists: &[4, 5, 2],
+    jobs: false,
+    lists: &[5],
     passes: &[3],
+};
+
+// The same with the lines of the jobs.
+const SERVER_OF_A_KEPT_RUN: Case = Case {
+    jobs: true,
+    lists: &[4, 5, 2],
+    ..SERVER
 };
 
 // The same where two blocks are left by the single pass: the crew applies them.
 const LEFT: Case = Case {
-    lists: &[4, 2, 5, 2],
+    lists: &[2, 5],
     ..SERVER
 };
 
@@ -49,7 +59,8 @@ const TANDEM: Case = Case {
     model: b"model 1\nsource src\ntandem line a / 2 b / 1 c from src\n",
     trace: JOBS,
     form: "2",
-    lists: &[4, 3, 3, 5, 2],
+    jobs: false,
+    lists: &[3, 3, 5],
     passes: &[],
 };
 
@@ -64,7 +75,7 @@ const BLOCKING: Case = Case {
 // of the second server of the first branch, and its last pieces, as a server's.
 const FORKJOIN: Case = Case {
     model: b"model 1\nsource src\nforkjoin both a b | c from src\n",
-    lists: &[4, 6, 6, 3, 3, 5, 2],
+    lists: &[6, 6, 3, 3, 5],
     ..TANDEM
 };
 
@@ -72,52 +83,61 @@ const FORKJOIN: Case = Case {
 // the jobs and the times.
 const SPLIT: Case = Case {
     model: b"model 1\nsource src\nsplit ways 2 turn from src\n",
-    lists: &[4, 3, 4, 2],
+    lists: &[3, 4],
     ..TANDEM
 };
 
-// Two forks that are ready at one time, and are a list of two pieces, behind another, which is alone.
+// Two forks that are ready at one time, and are a list of two pieces, as are their totals, behind another, which is alone.
 const FORKS: Case = Case {
     model: b"model 2\nsource src\nfork f 2 from src\nfork a 2 from f\nfork b 2 from f.1\n",
-    lists: &[4, 2, 4],
+    lists: &[2, 2],
     ..TANDEM
 };
 
 // A delay. Its last pieces are of each job, a block, how many it found, and of what came the jobs and the times.
 const DELAY: Case = Case {
     model: b"model 1\nsource src\ndelay w a from src\n",
-    lists: &[4, 5, 2],
+    lists: &[5],
     ..TANDEM
 };
 
-// Two sources: the rows of each, how each is worked out, each whole, and the last pieces of both. Behind them three blocks of what
-// both let out, merged; the loss station itself is one piece.
+// Two sources: the rows of each. Behind them three blocks of what both let out, merged; the loss station itself is one piece.
 const MERGE: Case = Case {
     model: b"model 1\nsource src\nsource web\nloss l 1 a from src web\n",
     trace: b"source,time,a\nsrc,0,1\nweb,1,1\nsrc,2,1\n",
-    lists: &[2, 2, 2, 8, 3, 3],
+    lists: &[2, 3],
     ..TANDEM
 };
 
-// Two tandems at which jobs wait: behind the totals the waits of both are counted.
+// Two tandems of one wave, at which jobs wait: the rows of both sources, how each tandem is worked out, their summaries, applied
+// blocks and last pieces, and their totals, with which the waits are counted.
 const WAITS: Case = Case {
-    model: b"model 1\nsource src\ntandem first =1 / 1 =2 from src\ntandem then =1 / 1 =3 from first\n",
-    lists: &[4, 3, 3, 5, 3, 3, 5, 3, 2],
+    model: b"model 1\nsource src\nsource web\ntandem left =1 / 1 =2 from src\ntandem right =1 / 1 =3 from web\n",
+    trace: b"source,time\nsrc,0\nweb,0\nsrc,0\nweb,0\nsrc,0\nweb,0\n",
+    lists: &[2, 2, 6, 6, 10, 2],
     ..TANDEM
 };
 
-// The same with waits too long to be counted: the percentiles are a piece for each node.
+// The same with waits too long to be counted: behind the totals the percentiles are a piece for each node.
 const LONG_WAITS: Case = Case {
-    model: b"model 1\nsource src\ntandem first =1 / 1 =20000 from src\ntandem then =1 / 1 =30000 from first\n",
-    lists: &[4, 3, 3, 5, 3, 3, 5, 3, 3],
-    ..TANDEM
+    model: b"model 1\nsource src\nsource web\ntandem left =1 / 1 =20000 from src\ntandem right =1 / 1 =30000 from web\n",
+    lists: &[2, 2, 6, 6, 10, 2, 2],
+    ..WAITS
 };
 
 // In the first form of the report there are no percentiles.
 const UNTOLD_WAITS: Case = Case {
     form: "1",
-    lists: &[4, 3, 3, 5, 3, 3, 5, 3],
+    lists: &[2, 2, 6, 6, 10, 2],
     ..LONG_WAITS
+};
+
+// Two tandems of two waves, with the lines of the jobs: behind the totals of all nodes the percentiles of all nodes.
+const LONG_WAITS_OF_A_KEPT_RUN: Case = Case {
+    model: b"model 1\nsource src\ntandem first =1 / 1 =20000 from src\ntandem then =1 / 1 =30000 from first\n",
+    jobs: true,
+    lists: &[4, 3, 3, 5, 3, 3, 5, 3, 3],
+    ..TANDEM
 };
 
 // How often a held entry looks whether the others have come.
@@ -127,7 +147,7 @@ const TURNS: u64 = 2_000_000_000;
 // own: so none of the two goes on before the other has come, and each of them needs a thread.
 #[derive(Drop)]
 struct Entries {
-    came: [AtomicU64; 8],
+    came: [AtomicU64; 10],
     above: AtomicU64,
     zero: usize,
     one: usize,
@@ -138,6 +158,8 @@ impl Entries {
     fn held(zero: usize, one: usize) -> Entries {
         Entries {
             came: [
+                AtomicU64::new(0),
+                AtomicU64::new(0),
                 AtomicU64::new(0),
                 AtomicU64::new(0),
                 AtomicU64::new(0),
@@ -250,14 +272,23 @@ fn has_lists<R: Threads + Sync>(
         "1",
         "--report",
         case.form,
+        "--jobs",
     ];
-    let outcome = simulate_gated(rt, alloc, &words, &mut files, &mut out, &mut err, gate);
+    let count = if case.jobs { 9 } else { 8 };
+    let words = &words[..count];
+    let outcome = simulate_gated(rt, alloc, words, &mut files, &mut out, &mut err, gate);
     Ok(outcome == Outcome::Done && gate.pieces.are(case.lists) && gate.blocks.are(case.passes))
 }
 
 #[test]
 fn two_threads_enter_the_gate_at_a_server(rt: HostRuntime) -> Result<(), Fail> {
     assert!(rt; has_lists(&rt, rt.alloc(), SERVER, &with_carries())?);
+    Ok(())
+}
+
+#[test]
+fn two_threads_enter_the_gate_at_a_server_of_a_kept_run(rt: HostRuntime) -> Result<(), Fail> {
+    assert!(rt; has_lists(&rt, rt.alloc(), SERVER_OF_A_KEPT_RUN, &with_carries())?);
     Ok(())
 }
 
@@ -310,7 +341,7 @@ fn two_threads_enter_the_gate_at_a_merge(rt: HostRuntime) -> Result<(), Fail> {
 }
 
 #[test]
-fn two_threads_enter_the_gate_at_percentiles(rt: HostRuntime) -> Result<(), Fail> {
+fn two_threads_enter_the_gate_at_totals_with_waits(rt: HostRuntime) -> Result<(), Fail> {
     assert!(rt; has_lists(&rt, rt.alloc(), WAITS, &with_carries())?);
     Ok(())
 }
@@ -324,5 +355,11 @@ fn two_threads_enter_the_gate_at_percentiles_of_long_waits(rt: HostRuntime) -> R
 #[test]
 fn nobody_enters_the_gate_at_percentiles_that_are_not_told(rt: HostRuntime) -> Result<(), Fail> {
     assert!(rt; has_lists(&rt, rt.alloc(), UNTOLD_WAITS, &with_carries())?);
+    Ok(())
+}
+
+#[test]
+fn two_threads_enter_the_gate_at_percentiles_of_a_kept_run(rt: HostRuntime) -> Result<(), Fail> {
+    assert!(rt; has_lists(&rt, rt.alloc(), LONG_WAITS_OF_A_KEPT_RUN, &with_carries())?);
     Ok(())
 }

@@ -1,7 +1,8 @@
 use Rattle.std.proofs.Common.{◌≡◌, ◌∙◌, [], ap, refl, sym}
 use Rattle.mq_outside.proofs.lemmas.Gathers.{gathers_all}
 use Rattle.mq_core.specs.StandardTable.{run_of}
-use Rattle.mq_report.specs.Text.{exit_lines_at, is_read}
+use Rattle.mq_counts.specs.Counts.{is_read}
+use Rattle.mq_report.specs.Text.{exit_lines_at}
 use Rattle.mq_report.proofs.Loops.{gathers_begun}
 use Rattle.mq_report.proofs.sections.add_exit_at.Goals as goal
 

@@ -10,5 +10,5 @@ add_node-requires-clause-servers g c = (c.nodes_are_in_limits.ensures c.args.pla
 pub returns : goal.returns
 returns g c =
     let tells : c.if-plan-eq2.add_node ≡ tells_held c.args.plan.now.net.version c.args.form = search (tests, rules) in
-    let busy : c.listed_totals-own.result.busy ≡ (totals_of c.args.rows.now c.args.declared.now.kind ((run_of c.args.plan.now c.args.rows.now).stations c.args.node)).busy = ap (λ (t : Totals). t.busy) c.listed_totals-own.ensures.totals in
-    rw (tells, c.as_slice.ensures, c.listed_totals-own.ensures.totals, busy, c.told_tail-tail.ensures, c.requires.span) at c.add_node.ensures
+    let busy : c.totals_at-own.result.busy ≡ (totals_of c.args.rows.now c.args.declared.now.kind ((run_of c.args.plan.now c.args.rows.now).stations c.args.node)).busy = ap (λ (t : Totals). t.busy) c.totals_at-own.ensures.totals in
+    rw (tells, c.as_slice.ensures, c.totals_at-own.ensures.totals, busy, c.told_tail-tail.ensures, c.requires.counts.span) at c.add_node.ensures

@@ -10,25 +10,25 @@ head_is form jobs jobs' span span' j s = λ k. head_line form ++ jobs_line (j k)
 
 pub returns-in_err-add_head : goal.returns-in_err-add_head
 returns-in_err-add_head g c =
-    rw (sym (head_is c.args.form _ _ _ _ c.len.ensures c.span_of-span.ensures))
+    rw (sym (head_is c.args.form _ _ _ _ c.len.ensures c.requires.counts.span))
     (adds_front _ c.from_residual.ensures.0 _ c.in_err-add_head.ensures)
 
 pub returns-in_err-add_nodes : goal.returns-in_err-add_nodes
 returns-in_err-add_nodes g c =
-    rw (sym (head_is c.args.form _ _ _ _ c.len.ensures c.span_of-span.ensures))
+    rw (sym (head_is c.args.form _ _ _ _ c.len.ensures c.requires.counts.span))
     (adds_both c.in_ok-add_head.ensures (adds_front _ c.from_residual-in_err-add_nodes.ensures.0 _ c.in_err-add_nodes.ensures))
 
 pub returns-in_err-add_exits : goal.returns-in_err-add_exits
 returns-in_err-add_exits g c =
-    rw (sym (head_is c.args.form _ _ _ _ c.len.ensures c.span_of-span.ensures))
+    rw (sym (head_is c.args.form _ _ _ _ c.len.ensures c.requires.counts.span))
     (adds_both c.in_ok-add_head.ensures (adds_both c.in_ok-add_nodes.ensures (adds_front _ c.from_residual-in_err-add_exits.ensures.0 _ c.in_err-add_exits.ensures)))
 
-pub returns-then-not-jobs : goal.returns-then-not-jobs
-returns-then-not-jobs g c =
-    rw (sym (head_is c.args.form _ _ _ _ c.len.ensures c.span_of-span.ensures), c.if-not-jobs.true)
+pub returns-in_default : goal.returns-in_default
+returns-in_default g c =
+    rw (sym (head_is c.args.form _ _ _ _ c.len.ensures c.requires.counts.span), c.in_default.is)
     (adds_both c.in_ok-add_head.ensures (adds_both c.in_ok-add_nodes.ensures (rw append-nil c.in_ok-add_exits.ensures)))
 
 pub returns : goal.returns
 returns g c =
-    rw (sym (head_is c.args.form _ _ _ _ c.len.ensures c.span_of-span.ensures), c.if-not-jobs.false)
+    rw (sym (head_is c.args.form _ _ _ _ c.len.ensures c.requires.counts.span), c.in-Some.is)
     (adds_both c.in_ok-add_head.ensures (adds_both c.in_ok-add_nodes.ensures (adds_both c.in_ok-add_exits.ensures c.add_jobs.ensures)))

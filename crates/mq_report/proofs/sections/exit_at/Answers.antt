@@ -1,25 +1,20 @@
-use Rattle.std.proofs.Common.{◌∙◌, sym, ap, subst}
-use Rattle.mq_core.specs.Sequences.{sequence_exit}
+use Rattle.std.proofs.Common.{ℕ, ◌<◌, ◌∙◌, subst, sym}
+use Rattle.std.proofs.lemmas.Option.{slice_get_within}
+use Rattle.mq_core.specs.Sound.{outputs_in}
 use Rattle.mq_core.specs.StandardTable.{run_of}
-use Rattle.mq_stats.specs.Numbers.{AreLeaving}
-use Rattle.mq_report.proofs.Runs.{outputs_inside, stream_inside, stream_is}
 use Rattle.mq_report.proofs.sections.exit_at.Goals as goal
 
 pub get-requires : goal.get-requires
-get-requires c = outputs_inside c.runs_have_sequences.ensures c.args.plan.now c.args.rows.now c.args.run.now c.args.node c.args.declared.now c.requires.run c.requires.there
+get-requires c = subst (λ (n : ℕ). c.args.node < n) (sym c.requires.counts.1.nodes.len) (slice_get_within c.args.plan.now.net.nodes c.args.node c.args.declared.now c.requires.there)
 
 pub get-requires-2 : goal.get-requires-2
-get-requires-2 c = stream_inside c.runs_have_sequences.ensures c.outputs_have_streams.ensures c.args.plan.now c.args.rows.now c.args.run.now c.args.node c.args.output c.args.declared.now c.get.result.now c.requires.run c.requires.there c.get.ensures c.requires.output
-
-pub leaving-requires : goal.leaving-requires
-leaving-requires c =
-    subst (AreLeaving c.args.rows.now)
-    (stream_is c.runs_have_sequences.ensures c.outputs_have_streams.ensures c.args.plan.now c.args.rows.now c.args.run.now c.args.node c.args.output c.args.declared.now c.get.result.now c.get-2.result.now c.requires.run c.requires.there c.get.ensures c.get-2.ensures c.requires.output)
-    (c.runs_give_streams.ensures c.args.plan.now c.args.rows.now c.requires.read c.args.node c.args.declared.now c.requires.there (c.requires.few c.args.node c.args.declared.now c.requires.there) c.args.output)
+get-requires-2 c =
+    let own = c.requires.counts.1.nodes.each c.args.node c.args.declared.now c.get.result.now c.requires.there c.get.ensures in
+    let streams = c.outputs_have_streams.ensures (run_of c.args.plan.now c.args.rows.now) c.args.node (outputs_in c.args.declared.now.kind) c.args.output c.requires.output in
+    subst (λ (n : ℕ). c.args.output < n) (sym own.exits.len) (slice_get_within _ c.args.output _ streams)
 
 pub returns : goal.returns
 returns c =
-    c.leaving.ensures
-    ∙ (sym (ap (sequence_exit c.args.rows.now)
-    (stream_is c.runs_have_sequences.ensures c.outputs_have_streams.ensures c.args.plan.now c.args.rows.now c.args.run.now c.args.node c.args.output c.args.declared.now c.get.result.now c.get-2.result.now c.requires.run c.requires.there c.get.ensures c.get-2.ensures c.requires.output))
-    ∙ sym (c.exits_are_streams.ensures c.args.rows.now ((run_of c.args.plan.now c.args.rows.now).stations c.args.node) c.args.output))
+    let own = c.requires.counts.1.nodes.each c.args.node c.args.declared.now c.get.result.now c.requires.there c.get.ensures in
+    let streams = c.outputs_have_streams.ensures (run_of c.args.plan.now c.args.rows.now) c.args.node (outputs_in c.args.declared.now.kind) c.args.output c.requires.output in
+    own.exits.each c.args.output _ c.get-2.result.now streams c.get-2.ensures c.requires.free ∙ sym (c.exits_are_streams.ensures c.args.rows.now ((run_of c.args.plan.now c.args.rows.now).stations c.args.node) c.args.output)

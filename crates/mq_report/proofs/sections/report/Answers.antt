@@ -1,4 +1,5 @@
 use Rattle.std.proofs.Common.{◌≡◌, ◌+◌, ◌≤◌, ◌++◌, ◌∙◌, List, [], ℕ, ap, arith, length, length-append, refl, subst, sym}
+use Rattle.std.specs.Prelude.{is_some}
 use Rattle.std.specs.declared.option.Option.{Option}
 use Rattle.std.proofs.lemmas.List.{append-nil}
 use Rattle.std.proofs.lemmas.Result.{on_err_weaker, on_ok_weaker}
@@ -12,14 +13,14 @@ use Rattle.mq_report.proofs.sections.report.Given as Given
 use Rattle.mq_report.proofs.sections.report.Goals as goal
 
 -- the report of the plan's run is that of its network
-text_is : (g : Given.Over) (c : goal.After-flush g) → report_text c.args.plan.now.net c.args.plan.now.order c.args.rows.now (run_of c.args.plan.now c.args.rows.now) c.args.form c.args.jobs ≡ report_in c.args.plan.now.net c.args.rows.now c.args.form c.args.jobs
+text_is : (g : Given.Over) (c : goal.After-flush g) → report_text c.args.plan.now.net c.args.plan.now.order c.args.rows.now (run_of c.args.plan.now c.args.rows.now) c.args.form (is_some c.args.jobs) ≡ report_in c.args.plan.now.net c.args.rows.now c.args.form (is_some c.args.jobs)
 text_is g c =
-    ap (λ (p : List ℕ × State Local). report_text c.args.plan.now.net p.0 c.args.rows.now p.1 c.args.form c.args.jobs)
+    ap (λ (p : List ℕ × State Local). report_text c.args.plan.now.net p.0 c.args.rows.now p.1 c.args.form (is_some c.args.jobs))
     (λ k. ((c.args.plan.now.ranked k), ((c.runs_are_of_networks.ensures c.args.plan.now c.args.rows.now).0 k)))
 
 pub returns-clause-err : goal.returns-clause-err
 returns-clause-err g c =
-    on_err_weaker _ (λ h. subst (TakesPrefix _ _ _ _) (text_is g c) (part_flushed _ _ _ _ _ _ _ _ (report_text c.args.plan.now.net c.args.plan.now.order c.args.rows.now (run_of c.args.plan.now c.args.rows.now) c.args.form c.args.jobs) c.new-pending.ensures c.in_ok-add_report.ensures.ok h)) c.flush.ensures.err
+    on_err_weaker _ (λ h. subst (TakesPrefix _ _ _ _) (text_is g c) (part_flushed _ _ _ _ _ _ _ _ (report_text c.args.plan.now.net c.args.plan.now.order c.args.rows.now (run_of c.args.plan.now c.args.rows.now) c.args.form (is_some c.args.jobs)) c.new-pending.ensures c.in_ok-add_report.ensures.ok h)) c.flush.ensures.err
 
 -- Nothing was pending at first: the whole text is what went out and what is pending then.
 whole : (t t' : Option (List ℕ)) (s s' : ℕ) (p p' text : List ℕ) → p ≡ [] → (h : GoesOut t t' s s' (p ++ text) p') → text ≡ h.done ++ p'
@@ -45,7 +46,7 @@ room_left t t' s s' p p' text none h room =
 
 pub returns-clause-ok : goal.returns-clause-ok
 returns-clause-ok g c =
-    on_ok_weaker _ (λ h. subst (TakesAll _ _ _ _) (text_is g c) (taken _ _ _ _ _ _ _ _ (report_text c.args.plan.now.net c.args.plan.now.order c.args.rows.now (run_of c.args.plan.now c.args.rows.now) c.args.form c.args.jobs) c.new-pending.ensures c.in_ok-add_report.ensures.ok h)) c.flush.ensures.ok
+    on_ok_weaker _ (λ h. subst (TakesAll _ _ _ _) (text_is g c) (taken _ _ _ _ _ _ _ _ (report_text c.args.plan.now.net c.args.plan.now.order c.args.rows.now (run_of c.args.plan.now c.args.rows.now) c.args.form (is_some c.args.jobs)) c.new-pending.ensures c.in_ok-add_report.ensures.ok h)) c.flush.ensures.ok
 
 pub returns-clause-later : goal.returns-clause-later
 returns-clause-later g c = omega (arith, c.in_ok-add_report.ensures.later, c.flush.ensures.later)
@@ -59,6 +60,6 @@ returns-clause-quiet g c = on_ok_weaker _ (stays _ _ _ c.in_ok-add_report.ensure
 pub returns-clause-sure : goal.returns-clause-sure
 returns-clause-sure g c = λ room.
     c.flush.ensures.sure
-    (room_left _ _ _ _ _ _ (report_text c.args.plan.now.net c.args.plan.now.order c.args.rows.now (run_of c.args.plan.now c.args.rows.now) c.args.form c.args.jobs) c.new-pending.ensures c.in_ok-add_report.ensures.ok
+    (room_left _ _ _ _ _ _ (report_text c.args.plan.now.net c.args.plan.now.order c.args.rows.now (run_of c.args.plan.now c.args.rows.now) c.args.form (is_some c.args.jobs)) c.new-pending.ensures c.in_ok-add_report.ensures.ok
     (subst (λ (text : List ℕ). length text ≤ g.O.Sink.sure c.args.out.now) (sym (text_is g c)) room))
     ∙ c.in_ok-add_report.ensures.quiet

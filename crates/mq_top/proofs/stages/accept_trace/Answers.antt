@@ -1,4 +1,4 @@
-use Rattle.std.proofs.Common.{◌≡◌}
+use Rattle.std.proofs.Common.{◌≡◌, ◌++◌, List, ℕ, refl}
 use Rattle.std.specs.Prelude.{IfSome, None}
 use Rattle.std.proofs.lemmas.Result.{IfErr-weaker, IfOk-weaker}
 use Rattle.mq_trace.specs.Trace.{rows_in, trace_fault}
@@ -7,14 +7,17 @@ use Rattle.mq_top.proofs.stages.accept_trace.Given as Given
 use Rattle.mq_top.proofs.stages.accept_trace.Goals as goal
 
 -- what was read is what is told
-told : (g : Given.Over) (c : goal.After-drop-bytes-2 g) → IfSome (g.F.Files.told c.args.files.now c.args.name.now) (λ bytes. c.deref.result.now ≡ bytes)
-told g c = if_told _ _ _ c.in-Ok.ensures.whole (λ bytes e. read_is _ _ _ bytes c.deref.ensures.value c.new-bytes.ensures.items e)
+told : (g : Given.Over) (c : goal.After-judge_own_trace g) → IfSome (g.F.Files.told c.args.files.now c.args.name.now) (λ bytes. c.read.new.into.items ≡ bytes)
+told g c =
+    let read = c.read.new.into.items in
+    let before = c.new-bytes.result.items in
+    if_told (g.F.Files.told c.args.files.now c.args.name.now) (λ (bytes : List ℕ). read ≡ before ++ bytes) (λ bytes. read ≡ bytes) c.in-Ok.ensures.whole (λ bytes e. read_is read read before bytes refl c.new-bytes.ensures.items e)
 
 pub returns-clause-accepted : goal.returns-clause-accepted
 returns-clause-accepted g c =
-    IfOk-weaker c.judge_trace.result _ _
-    (λ rows h. if_read (g.F.Files.told c.args.files.now c.args.name.now) c.deref.result.now (λ bytes. (trace_fault c.args.plan.now.net bytes ≡ None) × (rows ≡ rows_in c.args.plan.now.net bytes)) (told g c) h) c.judge_trace.ensures.accepted
+    IfOk-weaker c.judge_own_trace.result _ _
+    (λ rows h. if_read (g.F.Files.told c.args.files.now c.args.name.now) c.read.new.into.items (λ bytes. (trace_fault c.args.plan.now.net bytes ≡ None) × (rows ≡ rows_in c.args.plan.now.net bytes)) (told g c) h) c.judge_own_trace.ensures.accepted
 
 pub returns-clause-refused : goal.returns-clause-refused
 returns-clause-refused g c =
-    IfErr-weaker c.judge_trace.result _ _ (λ outcome h. trace_refused c.args.plan.now.net outcome _ _ (told g c) h) c.judge_trace.ensures.refused
+    IfErr-weaker c.judge_own_trace.result _ _ (λ outcome h. trace_refused c.args.plan.now.net outcome _ _ (told g c) h) c.judge_own_trace.ensures.refused

@@ -1,0 +1,9 @@
+pub mod Lists
+pub mod Sequences
+pub mod Pieces
+pub mod NodeTotals
+pub mod Spans
+pub mod CountedTails
+pub mod Endings
+pub mod Staying
+pub mod Counting

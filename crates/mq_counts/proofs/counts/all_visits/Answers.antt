@@ -1,0 +1,13 @@
+use Rattle.std.proofs.Common.{arith}
+use Rattle.mq_counts.proofs.Counting.{visits-in-all, visits-in-more, visits-in-none}
+use Rattle.mq_counts.proofs.counts.all_visits.Goals as goal
+
+pub loop-at-init : goal.loop-at-init
+loop-at-init c = visits-in-none c.args.rows.now c.args.all.now _ c.new-visits.ensures
+
+pub loop-at-preserved : goal.loop-at-preserved
+loop-at-preserved c =
+    visits-in-more c.args.rows.now c.args.all.now c.loop-at.at c.loop-at.visits _ c.get.result.now c.visits_in.result c.loop-at.invariant c.get.ensures c.visits_in.ensures.visited c.visits_in.ensures.its c.in_ok-push.ensures.ok
+
+pub returns : goal.returns
+returns c = visits-in-all c.args.rows.now c.args.all.now c.loop-at.at c.loop-at.visits c.loop-at.invariant (omega arith)

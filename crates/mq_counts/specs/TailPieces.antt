@@ -1,0 +1,44 @@
+-- The waits at nodes, counted by pieces of their visits.
+use Rattle.std.specs.List.{AllByRecursion}
+use Rattle.std.specs.Prelude.{◌≡◌, ◌+◌, ◌≤◌, ◌==◌, ℕ, IfSome, List, Option, cond, length, Some, slice_get}
+use Rattle.mq_counts.specs.Totals.{pieces_in, start_of}
+use Rattle.mq_counts.specs.declared.tail_pieces.NodeWaits.{NodeWaits}
+use Rattle.mq_counts.specs.declared.totals.NodeVisits.{NodeVisits}
+use Rattle.mq_stats.specs.Numbers.{AreVisits, visits_between}
+use Rattle.mq_stats.specs.Percentiles.{waits_at}
+use Rattle.mq_stats.specs.WaitCounts.{AreCounts}
+use Rattle.mq_stats.specs.declared.wait_counts.WaitCounts.{WaitCounts}
+
+-- visits to a node, a bound up to which a table can count, and how many visits a piece may have: no fewer than a table counts ticks
+pub record IsWaited (node : NodeWaits) : Type 0 where
+  pub visits : AreVisits node.rows.now node.kind.now node.visits.now
+  pub most : node.most ≤ 1048576
+  pub least : 16384 ≤ node.size
+  pub size : node.size ≤ 1048576
+  pub whole : node.most ≤ node.size
+
+-- how many pieces they make: none where no wait is counted
+abbrev pub counted_pieces : NodeWaits → ℕ
+counted_pieces node = cond (node.most == 0) 0 (pieces_in node.size (length node.visits.now.job))
+
+-- the waits of the visits of a piece
+abbrev pub waits_in_piece : NodeWaits → ℕ → List ℕ
+waits_in_piece node b =
+    let count = length node.visits.now.job in
+    waits_at node.rows.now node.kind.now (visits_between (start_of node.size count b) (start_of node.size count (b + 1)) node.visits.now)
+
+-- their counts, if any
+abbrev pub IsPieceCounts : NodeWaits → ℕ → Option WaitCounts → Type 0
+IsPieceCounts node b counts = IfSome counts (AreCounts (waits_in_piece node b))
+
+-- the waits of these visits are those at a node
+abbrev pub AreWaitsIn : List NodeVisits → ℕ → NodeWaits → Type 0
+AreWaitsIn nodes v its =
+    (node : NodeVisits) → slice_get nodes v ≡ Some node →
+    waits_at its.rows.now its.kind.now its.visits.now ≡ waits_at node.rows.now node.kind.now node.visits.now
+
+-- the visits to the first nodes, as many as this
+pub record AreNodeWaits (nodes : List NodeVisits) (count : ℕ) (all : List NodeWaits) : Type 0 where
+  pub len : length all ≡ count
+  pub waited : AllByRecursion IsWaited all
+  pub each : (v : ℕ) (its : NodeWaits) → slice_get all v ≡ Some its → AreWaitsIn nodes v its

@@ -1,0 +1,41 @@
+-- What is counted of nodes, in a list, from their visits.
+use Rattle.std.specs.Prelude.{◌≡◌, ◌+◌, ◌-◌, ◌*◌, ◌/◌, ℕ, List, length, min, Some, slice_get}
+use Rattle.mq_crew.specs.Crew.{AreAll}
+use Rattle.mq_counts.specs.declared.totals.NodeVisits.{NodeVisits}
+use Rattle.mq_stats.specs.Blocks.{IsBlock, IsBlockOf}
+use Rattle.mq_stats.specs.Numbers.{AreVisits}
+use Rattle.mq_stats.specs.declared.blocks.BlockCount.{BlockCount}
+
+-- Pieces of this size. How many they are of so many visits, where the last one may have fewer.
+abbrev pub pieces_in : ℕ → ℕ → ℕ
+pieces_in size count = (count + (size - 1)) / size
+
+-- where the piece at an index begins
+abbrev pub start_of : ℕ → ℕ → ℕ → ℕ
+start_of size count b = min count (b * size)
+
+-- visits to a node
+abbrev pub IsVisited : NodeVisits → Type 0
+IsVisited node = AreVisits node.rows.now node.kind.now node.visits.now
+
+-- how many pieces they make, of 16,384 visits each
+abbrev pub pieces_of : NodeVisits → ℕ
+pieces_of node = pieces_in 16384 (length node.visits.now.job)
+
+-- what is counted of the visits of a piece
+abbrev pub IsPieceCount : NodeVisits → ℕ → BlockCount → Type 0
+IsPieceCount node b block =
+    let count = length node.visits.now.job in
+    IsBlock node.rows.now node.kind.now node.visits.now node.span (start_of 16384 count b) (start_of 16384 count (b + 1)) block
+
+-- what is counted of all of them
+abbrev pub IsSumOf : NodeVisits → BlockCount → Type 0
+IsSumOf node sum = IsBlockOf node.rows.now node.kind.now node.visits.now node.span sum
+
+-- the same of the node at an index
+abbrev pub IsSumIn : List NodeVisits → ℕ → BlockCount → Type 0
+IsSumIn nodes v sum = (node : NodeVisits) → slice_get nodes v ≡ Some node → IsSumOf node sum
+
+-- of each node
+abbrev pub AreSumsOf : List NodeVisits → List BlockCount → Type 0
+AreSumsOf nodes sums = AreAll (IsSumIn nodes) (length nodes) sums

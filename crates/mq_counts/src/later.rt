@@ -1,0 +1,24 @@
+// The totals of a node by a later time, at which a run ends.
+ghost use Rattle.std.specs.Prelude.{◌≡◌, ◌-◌, ◌<◌, ◌≤◌, ◌^◌};
+ghost use Rattle.mq_stats.specs.Numbers.{AreSmall, totals_from};
+ghost use Rattle.mq_counts.specs.Later.{HeldStayOn, held_on};
+
+use mq_stats::NodeTotals;
+
+/// The totals of a node up to a later time, in ticks: held visits stay on.
+pub fn totals_until(totals: &NodeTotals, last: u64, span: u64) -> NodeTotals
+    requires small { AreSmall totals.now }
+    requires later { last ≤ span }
+    ensures totals { totals_from result ≡ held_on (span - last) (totals_from totals.now) }
+    ensures small { result.busy < 2 ^ 100 }
+{
+    NodeTotals {
+        area: totals.area + totals.held as u128 * (span - last) as u128,
+        ..*totals
+    }
+}
+
+/// So are the totals of a node by a time at which all has happened there, and by a later one. It does nothing when it runs.
+pub fn held_stay_on()
+    ensures { HeldStayOn }
+{}

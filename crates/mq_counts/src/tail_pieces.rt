@@ -1,0 +1,223 @@
+// The waits at nodes, counted by pieces of their visits, where they weren't with the totals.
+ghost use Rattle.std.specs.Prelude.{◌≡◌, ◌<◌, ◌≤◌, ◌^◌, ℕ, List as Items, length, IfOk, IfSome};
+ghost use Rattle.std.specs.List.{AllByRecursion};
+ghost use Rattle.mq_crew.specs.Crew.{AreAll, AreGroups};
+ghost use Rattle.mq_stats.specs.Percentiles.{ArePercentiles, waits_at};
+ghost use Rattle.mq_stats.specs.WaitCounts.{AreCounts};
+ghost use Rattle.mq_counts.specs.TailPieces.{AreNodeWaits, IsPieceCounts, IsWaited, counted_pieces};
+ghost use Rattle.mq_counts.specs.Tails.{AreCountedOf, AreKnown};
+ghost use Rattle.mq_counts.specs.Totals.{IsVisited};
+
+use crate::tails::KnownNodes;
+use crate::totals::{NodeVisits, PIECE, piece_count, piece_ends};
+use mq_base::{List, OutOfMemory};
+use mq_core::{Kind, Rows, Visits};
+use mq_crew::{Gate, Pieces, run_parts};
+use mq_stats::{
+    BlockCount, Percentiles, WaitCounts, count_between, counted_percentiles, counts_added,
+    no_counts, waits_join,
+};
+use std::alloc::Global;
+use std::thread::Threads;
+
+/// The visits to a node of this kind. A piece of them is the counts of the waits of `size` neighbours, where none has
+/// more than `most` ticks. Where that is 0 there are no pieces.
+#[derive(Clone, Copy)]
+pub struct NodeWaits<'a> {
+    pub rows: &'a Rows,
+    pub kind: &'a Kind,
+    pub visits: &'a Visits,
+    pub most: u32,
+    pub size: u32,
+}
+
+impl<'a> Pieces for NodeWaits<'a> {
+    type Piece = Option<WaitCounts>;
+
+    ghost fit = { IsWaited };
+
+    ghost size = { counted_pieces };
+
+    ghost is_piece = { IsPieceCounts };
+
+    fn count(&self) -> u32 {
+        if self.most == 0 {
+            return 0;
+        }
+        piece_count(self.visits.job.len() as u32, self.size)
+    }
+
+    fn piece(&self, alloc: Global, b: u32) -> Result<Option<WaitCounts>, OutOfMemory> {
+        let (from, to) = piece_ends(self.visits.job.len() as u32, self.size, b);
+        count_between(
+            alloc,
+            self.rows,
+            self.kind,
+            self.visits,
+            self.most,
+            from,
+            to,
+        )
+    }
+}
+
+// Up to how many ticks the waits of so many visits are counted by a second look, where one look found this: 0 where it counted
+// them, and where the longest has more ticks than a piece has visits, and than there are visits.
+fn counted_up_to(sum: &BlockCount, visits: u32) -> u32
+    requires { visits ≤ 1048576 }
+    ensures { result ≤ 1048576 }
+{
+    if sum.waits.is_some() {
+        return 0;
+    }
+    let longest = sum.totals.longest;
+    if longest <= PIECE.max(visits) as u64 {
+        longest as u32
+    } else {
+        0
+    }
+}
+
+// How many visits are a piece, where waits are counted up to so many ticks: no fewer, so that to make a table takes no longer than
+// to look at the visits of a whole piece, and the table of a short piece fits a processor's own memory.
+fn visits_in_piece(most: u32) -> u32
+    requires { most ≤ 1048576 }
+    ensures least { 16384 ≤ result }
+    ensures most { result ≤ 1048576 }
+    ensures all { most ≤ result }
+{
+    PIECE.max(most)
+}
+
+// The visits to a node of which this is counted.
+fn waits_of_node<'a>(node: &NodeVisits<'a>, sum: &BlockCount) -> NodeWaits<'a>
+    requires visited { IsVisited node.now }
+    ensures waited { IsWaited result }
+    ensures waits { waits_at result.rows.now result.kind.now result.visits.now ≡ waits_at node.now.rows.now node.now.kind.now node.now.visits.now }
+{
+    let most = counted_up_to(sum, node.visits.job.len() as u32);
+    NodeWaits {
+        rows: node.rows,
+        kind: node.kind,
+        visits: node.visits,
+        most,
+        size: visits_in_piece(most),
+    }
+}
+
+// The visits to each node, with how far their waits are counted.
+fn waits_by_node<'a, 'b>(
+    alloc: Global,
+    known: &KnownNodes<'a, 'b>,
+) -> Result<List<NodeWaits<'b>>, OutOfMemory>
+    requires { AreKnown known.now }
+    ensures { IfOk result (λ all. AreNodeWaits known.now.nodes.now (length known.now.nodes.now) all) }
+{
+    let mut all = Vec::with_capacity(alloc, known.nodes.len())?;
+    for node in 0..known.nodes.len() {
+        all.push_reserved(waits_of_node(known.nodes.get(node), known.sums.get(node)));
+    }
+    Ok(List::from_vec(all))
+}
+
+// The percentiles of the waits of these counts, where there are some.
+fn tail_of(counts: &Option<WaitCounts>) -> Option<Percentiles>
+    requires { (waits : Items ℕ) × IfSome counts.now (AreCounts waits) }
+    ensures { (waits : Items ℕ) → IfSome counts.now (AreCounts waits) → IfSome result (ArePercentiles waits) }
+{
+    match counts {
+        Some(counts) => counted_percentiles(counts),
+        None => None,
+    }
+}
+
+// The percentiles of the waits at a node, where its pieces count them.
+fn looked_at(
+    alloc: Global,
+    node: &NodeWaits,
+    group: &List<Option<WaitCounts>>,
+) -> Result<Option<Percentiles>, OutOfMemory>
+    requires waited { IsWaited node.now }
+    requires group { AreAll (IsPieceCounts node.now) (counted_pieces node.now) group.now }
+    ensures { IfOk result (λ tail. IfSome tail (ArePercentiles (waits_at node.now.rows.now node.now.kind.now node.now.visits.now))) }
+{
+    if node.most == 0 {
+        return Ok(None);
+    }
+    waits_join();
+    let mut sum = no_counts(alloc)?;
+    for b in 0..group.len() {
+        let Some(more) = group.get(b) else {
+            drop(sum);
+            return Ok(None);
+        };
+        sum = counts_added(alloc, sum, more)?;
+    }
+    let tail = counted_percentiles(&sum);
+    drop(sum);
+    Ok(tail)
+}
+
+// The same, where they were counted with the totals or are by now.
+fn counted_at(
+    alloc: Global,
+    node: &NodeWaits,
+    sum: &BlockCount,
+    group: &List<Option<WaitCounts>>,
+) -> Result<Option<Percentiles>, OutOfMemory>
+    requires waited { IsWaited node.now }
+    requires sum { IfSome sum.now.waits (AreCounts (waits_at node.now.rows.now node.now.kind.now node.now.visits.now)) }
+    requires group { AreAll (IsPieceCounts node.now) (counted_pieces node.now) group.now }
+    ensures { IfOk result (λ tail. IfSome tail (ArePercentiles (waits_at node.now.rows.now node.now.kind.now node.now.visits.now))) }
+{
+    if let Some(tail) = tail_of(&sum.waits) {
+        return Ok(Some(tail));
+    }
+    looked_at(alloc, node, group)
+}
+
+// The same of each node.
+fn counted_of(
+    alloc: Global,
+    known: &KnownNodes,
+    all: &List<NodeWaits>,
+    groups: &List<List<Option<WaitCounts>>>,
+) -> Result<List<Option<Percentiles>>, OutOfMemory>
+    requires known { AreKnown known.now }
+    requires waits { AreNodeWaits known.now.nodes.now (length known.now.nodes.now) all.now }
+    requires groups { AreGroups counted_pieces IsPieceCounts all.now groups.now }
+    ensures { IfOk result (λ counted. AreCountedOf known.now.nodes.now (length known.now.nodes.now) counted) }
+{
+    let mut counted = List::new(alloc);
+    for node in 0..all.len() {
+        match counted_at(alloc, all.get(node), known.sums.get(node), groups.get(node)) {
+            Ok(tail) => counted.push(tail)?,
+            Err(fault) => {
+                drop(counted);
+                return Err(fault);
+            }
+        }
+    }
+    Ok(counted)
+}
+
+/// The percentiles of the waits at each of these nodes, where they were counted with the totals, or where none is longer than as many
+/// ticks as there are visits: then the visits are cut into pieces, of as many visits as the longest wait has ticks, and 1 to 64
+/// workers make them, who enter the gate. It refuses for want of memory alone.
+pub fn counted_tails<R: Threads + Sync, G: Gate>(
+    rt: &R,
+    alloc: Global,
+    workers: u32,
+    known: &KnownNodes,
+    gate: &G,
+) -> Result<List<Option<Percentiles>>, OutOfMemory>
+    requires some { 1 ≤ workers }
+    requires most { workers ≤ 64 }
+    requires few { length known.now.nodes.now < 2 ^ 16 }
+    requires known { AreKnown known.now }
+    ensures { IfOk result (λ counted. AreCountedOf known.now.nodes.now (length known.now.nodes.now) counted) }
+{
+    let all = waits_by_node(alloc, known)?;
+    let groups = run_parts(rt, alloc, workers, all.as_slice(), gate)?;
+    counted_of(alloc, known, &all, &groups)
+}

@@ -1,0 +1,132 @@
+// The percentiles of the waits at nodes.
+ghost use Rattle.std.specs.Prelude.{◌≡◌, ◌<◌, ◌≤◌, ◌^◌, IfOk, IfSome, Some, length, slice_get};
+ghost use Rattle.std.specs.List.{AllByRecursion};
+ghost use Rattle.mq_counts.specs.Tails.{AreCounting, AreKnown, AreTailsOf, IsTailIn};
+ghost use Rattle.mq_counts.specs.Totals.{AreSumsOf, IsVisited};
+
+use crate::tail_pieces::counted_tails;
+use crate::totals::NodeVisits;
+use mq_base::{List, OutOfMemory};
+use mq_crew::{Gate, Pieces, made};
+use mq_stats::{BlockCount, Percentiles, tail_below};
+use std::alloc::Global;
+use std::thread::Threads;
+
+// Where none are told.
+pub const NO_WAIT: Percentiles = Percentiles {
+    p50: 0,
+    p90: 0,
+    p99: 0,
+};
+
+/// The visits to nodes, with what is counted of them.
+#[derive(Clone, Copy)]
+pub struct KnownNodes<'a, 'b> {
+    pub nodes: &'a List<NodeVisits<'b>>,
+    pub sums: &'a List<BlockCount>,
+}
+
+/// What the percentiles are told from: a piece is those of the waits at one node.
+#[derive(Clone, Copy)]
+pub struct NodesTails<'a, 'b> {
+    pub known: KnownNodes<'a, 'b>,
+    /// Those that were counted, by node.
+    pub counted: &'a List<Option<Percentiles>>,
+}
+
+impl<'a, 'b> Pieces for NodesTails<'a, 'b> {
+    type Piece = Percentiles;
+
+    ghost fit = { AreCounting };
+
+    ghost size = { λ of. length of.known.nodes.now };
+
+    ghost is_piece = { λ of. IsTailIn of.known.nodes.now };
+
+    fn count(&self) -> u32 {
+        self.known.nodes.len() as u32
+    }
+
+    fn piece(&self, alloc: Global, b: u32) -> Result<Percentiles, OutOfMemory> {
+        let counted = *self.counted.get(b as usize);
+        tail_at(alloc, &self.known, counted, b as usize)
+    }
+}
+
+// The percentiles of the waits at a node, which are looked for only where they weren't counted.
+fn tail_at(
+    alloc: Global,
+    known: &KnownNodes,
+    counted: Option<Percentiles>,
+    node: usize,
+) -> Result<Percentiles, OutOfMemory>
+    requires known { AreKnown known.now }
+    requires inside { node < length known.now.nodes.now }
+    requires counted { IfSome counted (IsTailIn known.now.nodes.now node) }
+    ensures { IfOk result (IsTailIn known.now.nodes.now node) }
+{
+    if let Some(tail) = counted {
+        return Ok(tail);
+    }
+    let its = known.nodes.get(node);
+    let longest = known.sums.get(node).totals.longest;
+    tail_below(alloc, its.rows, its.kind, its.visits, longest)
+}
+
+// The percentiles of the waits at each node, where all were counted.
+fn known_tails(alloc: Global, of: &NodesTails) -> Result<Option<List<Percentiles>>, OutOfMemory>
+    requires { AreCounting of.now }
+    ensures { IfOk result (λ known. IfSome known (AreTailsOf of.now.known.nodes.now)) }
+{
+    let count = of.known.nodes.len();
+    let mut tails = Vec::with_capacity(alloc, count)?;
+    for node in 0..count {
+        let Some(tail) = *of.counted.get(node) else {
+            return Ok(None);
+        };
+        tails.push_reserved(tail);
+    }
+    Ok(Some(List::from_vec(tails)))
+}
+
+/// The percentiles of the waits at each of these nodes, at most 65,535, of which this is counted. Mostly the waits are counted by
+/// now, or are by a second look, by pieces of the visits; a node with percentiles that aren't counted by themselves is a piece of its own. 1 to 64 workers make the
+/// pieces, who enter the gate. Where no piece is left there are no workers. No node has more than 1,048,576 visits. It refuses for
+/// want of memory alone.
+pub fn tails_of<R: Threads + Sync, G: Gate>(
+    rt: &R,
+    alloc: Global,
+    workers: u32,
+    nodes: &List<NodeVisits>,
+    sums: &List<BlockCount>,
+    gate: &G,
+) -> Result<List<Percentiles>, OutOfMemory>
+    requires some { 1 ≤ workers }
+    requires most { workers ≤ 64 }
+    requires few { length nodes.now < 2 ^ 16 }
+    requires visited { AllByRecursion IsVisited nodes.now }
+    requires sums { AreSumsOf nodes.now sums.now }
+    ensures { IfOk result (λ tails. AreTailsOf nodes.now tails) }
+{
+    let known = KnownNodes { nodes, sums };
+    let counted = counted_tails(rt, alloc, workers, &known, gate)?;
+    let all = NodesTails {
+        known,
+        counted: &counted,
+    };
+    match known_tails(alloc, &all) {
+        Ok(Some(tails)) => {
+            drop(counted);
+            Ok(tails)
+        }
+        Ok(None) => {
+            let tails = made(rt, alloc, workers, &all, gate);
+            drop(counted);
+            tails
+        }
+        Err(fault) => {
+            drop(counted);
+            Err(fault)
+        }
+    }
+}

@@ -1,0 +1,53 @@
+use Rattle.std.proofs.Common.{[], ◌∷◌, length, ap, sym, subst, arith, length-append}
+use Rattle.std.specs.Prelude.{Contains}
+use Rattle.std.specs.List.{AllByRecursion as Each}
+use Rattle.mq_base.proofs.lemmas.Each.{Each-append, Each-back, Each-front}
+use Rattle.mq_engine.specs.Sources.{IsSentAmong, IsSourceArrived}
+use Rattle.mq_engine.proofs.sources.all_sent.Goals as goal
+
+pub sent_arrived-requires-clause-loaded : goal.sent_arrived-requires-clause-loaded
+sent_arrived-requires-clause-loaded c = (Each-back _ c.pop.new.self.items (c.in-Some.one ∷ []) (subst (Each (IsSourceArrived c.args.arriving.now)) c.in-Some.ensures.items c.loop-one.invariant.left)).0.0.0
+
+pub sent_arrived-requires-clause-source : goal.sent_arrived-requires-clause-source
+sent_arrived-requires-clause-source c = (Each-back _ c.pop.new.self.items (c.in-Some.one ∷ []) (subst (Each (IsSourceArrived c.args.arriving.now)) c.in-Some.ensures.items c.loop-one.invariant.left)).0.1
+
+pub push_reserved-requires : goal.push_reserved-requires
+push_reserved-requires c =
+    let size = c.loop-one.sent.ok.0 in
+    let len = c.loop-one.invariant.len in
+    let room = c.loop-one.invariant.room in
+    let left = ap length c.in-Some.ensures.items in
+    let more = length-append c.pop.new.self.items (c.in-Some.one ∷ []) in
+    omega arith
+
+pub loop-one-preserved : goal.loop-one-preserved
+loop-one-preserved c =
+    let s = c.args.arriving.now in
+    let one = c.in-Some.one in
+    let node = c.in-Ok-sent_arrived.node in
+    let all = subst (Each (IsSourceArrived s)) c.in-Some.ensures.items c.loop-one.invariant.left in
+    let is = IsSentAmong s.plan.now s.rows.now s.ready.now in
+    let own : is node = (subst (Contains s.ready.now) (sym c.in-Ok-sent_arrived.ensures.0) (Each-back _ c.pop.new.self.items (one ∷ []) all).0.0.1, c.in-Ok-sent_arrived.ensures.1) in
+    let size = c.loop-one.invariant.len in
+    let left = ap length c.in-Some.ensures.items in
+    let less = length-append c.pop.new.self.items (one ∷ []) in
+    let grown = ap length c.push_reserved.ensures.items in
+    let more = length-append c.loop-one.sent.items (node ∷ []) in
+    record {
+      len = omega arith;
+      left = Each-front _ c.pop.new.self.items (one ∷ []) all;
+      made = subst (Each is) (sym c.push_reserved.ensures.items) (Each-append is c.loop-one.sent.items (node ∷ []) c.loop-one.invariant.made (own, tt));
+      room = let room = c.loop-one.invariant.room in let same = c.push_reserved.ensures.capacity in omega arith;
+    }
+
+pub returns-clause-len : goal.returns-clause-len
+returns-clause-len c =
+    let count = c.loop-one.invariant.len in
+    let none = c.in_default-pop.ensures.cases.0 in
+    let size = c.loop-one.arrived.ok.0 in
+    let all = ap length c.into_vec-arrived.ensures in
+    let made = ap length c.from_vec.ensures in
+    omega arith
+
+pub returns-clause-known : goal.returns-clause-known
+returns-clause-known c = subst (Each _) (sym c.from_vec.ensures) c.loop-one.invariant.made
