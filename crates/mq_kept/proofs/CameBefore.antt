@@ -1,9 +1,11 @@
 -- What came to a node before, be it nothing, and which of its blocks stay.
 use Rattle.mq_alike.specs.Again.{Coming, alike}
+use Rattle.mq_arrivals.specs.declared.nodes.Arriving.{Arriving}
 use Rattle.mq_base.proofs.lemmas.Lists.{some_inj}
 use Rattle.mq_core.specs.Results.{visits_of}
 use Rattle.mq_core.specs.StandardTable.{run_of}
 use Rattle.mq_core.specs.declared.model.Fate.{Fate}
+use Rattle.mq_core.specs.declared.model.Kind.{Kind}
 use Rattle.mq_core.specs.declared.model.Node.{Node}
 use Rattle.mq_core.specs.declared.model.Plan.{Plan}
 use Rattle.mq_core.specs.declared.model.Rows.{Rows}
@@ -16,15 +18,14 @@ use Rattle.mq_exits.specs.declared.working.Ending.TheVariants.{OnTime}
 use Rattle.mq_kept.proofs.KeptRuns.{kept-demands}
 use Rattle.mq_kept.proofs.None.{kept-none}
 use Rattle.mq_kept.specs.Formers.{no_lists}
-use Rattle.mq_kept.specs.KeptNodes.{IsKeptNode, IsStayingNode, coming_of}
-use Rattle.mq_kept.specs.NodeRuns.{IsNodeBefore, IsNodeKept, IsStayingAt, came_before, coming_to, earlier_rows, kept_rows}
+use Rattle.mq_kept.specs.KeptNodes.{IsKeptNode, coming_of}
+use Rattle.mq_kept.specs.NodeRuns.{IsNodeBefore, IsNodeKept, came_before, coming_to, earlier_rows, kept_rows}
 use Rattle.mq_kept.specs.declared.checkpoints.Checkpoints.{Checkpoints}
 use Rattle.mq_kept.specs.declared.former.NodeLists.{NodeLists}
-use Rattle.mq_kept.specs.declared.stations.Stays.{Stays}
 use Rattle.mq_merge.specs.Borrowed.{stream_in}
-use Rattle.mq_redo.specs.Kept.{coming_as}
+use Rattle.mq_redo.specs.Kept.{IsStaying, coming_as}
 use Rattle.mq_stations.specs.Leaving.{HaveDemands}
-use Rattle.std.proofs.Common.{◌≡◌, ℕ, ◌*◌, ◌/◌, ◌≤◌, List, [], length, Option, Some, None, refl, sym, ap, ◌∙◌, subst, arith}
+use Rattle.std.proofs.Common.{◌≡◌, ◌==◌, ◌&&◌, ◌⊎◌, inl, inr, false, ℕ, ◌*◌, ◌/◌, ◌≤◌, List, [], length, Option, Some, None, refl, sym, ap, ◌∙◌, subst, arith}
 use Rattle.std.proofs.lemmas.List.{length-map}
 use Rattle.std.proofs.lemmas.Nat.{div-add-mod'}
 use Rattle.std.specs.Borrow.{Bor}
@@ -43,6 +44,12 @@ module _ (plan : Plan) (rows : Rows) (block v : ℕ) (lists : NodeLists) (k : Is
 -- nothing is kept before the first run, and behind it what the run has
 pub none-before : (plan : Plan) (rows : Rows) (earlier : Option (Bor Rows)) (block v : ℕ) (lists : NodeLists) → earlier ≡ None → IsNodeBefore plan (earlier_rows rows earlier) block v lists → lists ≡ no_lists
 none-before plan rows earlier block v lists e h = subst (λ o. IsNodeBefore plan (earlier_rows rows o) block v lists) e h
+
+-- where no run is kept no visit came
+pub none-or-differs : (s : Arriving) (earlier : Option (Bor Rows)) (v : ℕ) (lists : NodeLists) → IsNodeBefore s.plan.now (earlier_rows s.rows.now earlier) s.block v lists → (same visits count : ℕ) → (earlier ≡ None) ⊎ (((same == visits) && (same == count)) ≡ false) →
+    (lists.visits.job ≡ []) ⊎ (((same == visits) && (same == count)) ≡ false)
+none-or-differs s earlier v lists h same visits count (inl none) = inl (ap (λ (l : NodeLists). l.visits.job) (none-before s.plan.now s.rows.now earlier s.block v lists none h))
+none-or-differs s earlier v lists h same visits count (inr differs) = inr differs
 
 -- What came before, be it nothing.
 module _ (laws : CoreLaws) (plan : Plan) (rows : Rows) (block v : ℕ) (lists : NodeLists) (node : Node) (there : slice_get plan.net.nodes v ≡ Some node) where
@@ -69,16 +76,20 @@ module _ (laws : CoreLaws) (plan : Plan) (rows : Rows) (block v : ℕ) (lists : 
   before-kept None some none = subst (λ (l : NodeLists). IsKeptNode node.kind (coming_of rows l.visits) block l.visits.fate l.checkpoints) (sym none) (kept-none node.kind rows block some)
   before-kept (Some old) some h = h.1.checkpoints node there
 
-  pub staying-by : (old : Option Rows) (new : Coming) (same : ℕ) (stays : Stays) → 1 ≤ block → IsNodeBefore plan old block v lists → same ≡ alike node.kind (came_before rows old lists) new → stays.blocks ≡ same / block → stays.fates.now ≡ lists.visits.fate → stays.checkpoints.now ≡ lists.checkpoints →
-      IsStayingNode node.kind (came_before rows old lists) new block stays
-  staying-by old new same stays some h is first fates points =
+  pub staying-by : (old : Option Rows) (new : Coming) (same blocks : ℕ) → 1 ≤ block → IsNodeBefore plan old block v lists → same ≡ alike node.kind (came_before rows old lists) new → blocks ≡ same / block →
+      IsKeptNode node.kind (came_before rows old lists) block lists.visits.fate lists.checkpoints × IsStaying node.kind (came_before rows old lists) new block blocks
+  staying-by old new same blocks some h is first =
       let whole = div-add-mod' same block in
       let many = ap (λ (b : ℕ). b * block) first in
-      (subst (λ (p : List Fate × Checkpoints). IsKeptNode node.kind (came_before rows old lists) block p.0 p.1) (λ i. (sym fates i, sym points i)) (before-kept old some h), record { even = before-even old h; same = omega arith })
+      (before-kept old some h, record { even = before-even old h; same = omega arith })
 
--- so these blocks of it stay
-pub staying-at : (held : Held) (plan : Plan) (rows : Rows) (v block : ℕ) (node : Node) (arrivals : Stream) (old : Coming) (stays : Stays) → held.plan.now ≡ plan → held.rows.now ≡ rows → held.number ≡ v → held.block ≡ block → arrivals ≡ stream_in held.arrivals → slice_get plan.net.nodes v ≡ Some node →
-    IsStayingNode node.kind old (coming_as rows arrivals) block stays → IsStayingAt held stays
-staying-at held plan rows v block node arrivals old stays a b c d e there h =
-    subst (λ (t : Plan × Rows × ℕ × ℕ × Stream). (n : Node) → slice_get t.0.net.nodes t.2 ≡ Some n → (x : Coming) × IsStayingNode n.kind x (coming_as t.1 t.4) t.3 stays) (λ i. (sym a i, sym b i, sym c i, sym d i, e i))
-    (λ n g. (old, subst (λ (m : Node). IsStayingNode m.kind old (coming_as rows arrivals) block stays) (some_inj node n (sym there ∙ g)) h))
+-- so many blocks of a node stay of which this is kept
+abbrev pub Stay : Kind → Coming → Coming → ℕ → List Fate → Checkpoints → ℕ → Type 0
+Stay kind old new block fates points blocks = IsKeptNode kind old block fates points × IsStaying kind old new block blocks
+
+pub staying-at : (held : Held) (plan : Plan) (rows : Rows) (v block : ℕ) (node : Node) (arrivals : Stream) (old : Coming) (fates : List Fate) (points : Checkpoints) (blocks : ℕ) → held.plan.now ≡ plan → held.rows.now ≡ rows → held.number ≡ v → held.block ≡ block → arrivals ≡ stream_in held.arrivals → slice_get plan.net.nodes v ≡ Some node →
+    Stay node.kind old (coming_as rows arrivals) block fates points blocks →
+    (n : Node) → slice_get held.plan.now.net.nodes held.number ≡ Some n → (x : Coming) × Stay n.kind x (coming_as held.rows.now (stream_in held.arrivals)) held.block fates points blocks
+staying-at held plan rows v block node arrivals old fates points blocks a b c d e there h =
+    subst (λ (t : Plan × Rows × ℕ × ℕ × Stream). (n : Node) → slice_get t.0.net.nodes t.2 ≡ Some n → (x : Coming) × Stay n.kind x (coming_as t.1 t.4) t.3 fates points blocks) (λ i. (sym a i, sym b i, sym c i, sym d i, e i))
+    (λ n g. (old, subst (λ (m : Node). Stay m.kind old (coming_as rows arrivals) block fates points blocks) (some_inj node n (sym there ∙ g)) h))

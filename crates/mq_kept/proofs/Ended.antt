@@ -45,7 +45,7 @@ use Rattle.std.proofs.Common.{◌≡◌, ℕ, zero, suc, ◌^◌, ◌<◌, ◌�
 use Rattle.std.proofs.lemmas.List.{length-map}
 use Rattle.std.proofs.lemmas.Option.{slice_get-get_or}
 use Rattle.std.specs.List.{AllByRecursion as Each}
-use Rattle.std.specs.Prelude.{Contains, IfErr, IfOk, Result, Ok, Err, slice_get}
+use Rattle.std.specs.Prelude.{Contains, IfErr, IfOk, OnOk, Result, Ok, Err, slice_get}
 
 -- the only node that is ready
 pub contains-one : (v w : ℕ) → Contains (v ∷ []) w → w ≡ v
@@ -152,6 +152,17 @@ changed-run s old lists v again all made (Ok gives) a b few few' kept h = record
   all_few = subst (λ (n : ℕ). n < 2 ^ 32) (sym h.3) few';
 }
 changed-run s old lists v again all made (Err refusal) a b few few' kept h = tt
+
+-- what holds where they were made
+pub changed-ok : (X : Type 0) (lists : NodeLists) (again all : ℕ) (made : Result NodeLists RunFault) (result : Result NodeRun NodeRefusal) → OnOk made X → IfOk result (λ gives. (made ≡ Ok gives.lists) × (gives.former ≡ Whole lists) × (gives.again ≡ again) × (gives.all ≡ all)) → OnOk result X
+changed-ok X lists again all made (Ok gives) ok h = subst (λ r. OnOk r X) h.0 ok
+changed-ok X lists again all made (Err refusal) ok h = tt
+
+-- what is kept of lists that were made
+pub kept-lists : (plan : Plan) (rows : Rows) (v block : ℕ) (made : Result NodeLists RunFault) → IfOk made (λ lists. IsWorkedOut plan rows (record { number = v; ending = OnTime lists.visits lists.streams })) →
+    IfOk made (λ lists. (node : Node) → slice_get plan.net.nodes v ≡ Some node → IsKeptNode node.kind (coming_of rows lists.visits) block lists.visits.fate lists.checkpoints) → IfOk made (IsNodeKept plan rows block v)
+kept-lists plan rows v block (Ok lists) known checkpoints = record { known = known; checkpoints = checkpoints }
+kept-lists plan rows v block (Err fault) known checkpoints = tt
 
 -- or the cause
 pub changed-cause : (plan : Plan) (rows : Rows) (lists : NodeLists) (v : ℕ) (made : Result NodeLists RunFault) (result : Result NodeRun NodeRefusal) → IfErr made (IsFaultAt plan rows v) → IfErr result (λ refusal. (made ≡ Err refusal.fault) × (refusal.lists ≡ lists)) → IfErr result (λ refusal. IsFaultAt plan rows v refusal.fault)

@@ -2,7 +2,6 @@
 use Rattle.mq_alike.specs.Again.{AlikeIsFirst, Coming, SequencesStay, again_at, again_of, alike, asks_same, blocks_in, blocks_of, is_counted}
 use Rattle.mq_arrivals.specs.declared.nodes.Arriving.{Arriving}
 use Rattle.mq_base.proofs.lemmas.Lists.{some_inj}
-use Rattle.mq_core.specs.Results.{stream_from}
 use Rattle.mq_core.specs.SequenceLaws.{sends_once}
 use Rattle.mq_core.specs.StandardTable.{run_of}
 use Rattle.mq_core.specs.Theorems.{IsReadFor}
@@ -21,17 +20,17 @@ use Rattle.mq_exits.specs.declared.working.Ending.TheVariants.{OnTime}
 use Rattle.mq_exits.specs.declared.working.Ending.{Ending}
 use Rattle.mq_kept.proofs.Asking.{kept-stays, same-coming}
 use Rattle.mq_kept.proofs.CameBefore.{kept-came, kept-known}
-use Rattle.mq_kept.proofs.Ended.{ended-so}
+use Rattle.mq_kept.proofs.Ended.{changed-run, ended-so}
 use Rattle.mq_kept.proofs.Numbers.{again-none, apart-uncounted}
 use Rattle.mq_kept.proofs.SameNodes.{IsSameAt, apart-same, coming-is, known-stays, whole-same}
 use Rattle.mq_kept.specs.Formers.{lists_before}
 use Rattle.mq_kept.specs.KeptNodes.{IsKeptNode, coming_of}
 use Rattle.mq_kept.specs.NodeRuns.{HasStayed, HaveStayed, IsNodeBefore, IsNodeKept, IsNodeRun, came_before, coming_to, earlier_rows}
-use Rattle.mq_kept.specs.declared.checkpoints.Checkpoints.TheVariants.{Nothing}
 use Rattle.mq_kept.specs.declared.checkpoints.Checkpoints.{Checkpoints}
 use Rattle.mq_kept.specs.declared.former.Former.{Former}
-use Rattle.mq_kept.specs.declared.former.Former.TheVariants.{Same}
+use Rattle.mq_kept.specs.declared.former.Former.TheVariants.{Same, Whole}
 use Rattle.mq_kept.specs.declared.former.NodeLists.{NodeLists}
+use Rattle.mq_kept.specs.declared.nodes.NodeRefusal.{NodeRefusal}
 use Rattle.mq_kept.specs.declared.nodes.NodeRun.{NodeRun}
 use Rattle.mq_redo.specs.Kept.{coming_as}
 use Rattle.std.proofs.Common.{◌≡◌, ℕ, ◌^◌, ◌<◌, true, false, cond, List, length, Option, Some, refl, sym, ap, ◌∙◌, subst, arith}
@@ -139,3 +138,15 @@ apart-ended s v ending (Ok lists) apart w e = record {
   checkpoints = λ node at. apart-kept node.kind (coming_of s.rows.now lists.visits) s.block lists.visits.fate lists.checkpoints (apart node at);
 }
 apart-ended s v ending (Err fault) apart w e = tt
+
+-- what it gives then
+pub apart-changed : (s : Arriving) (old : Option Rows) (lists : NodeLists) (v : ℕ) (node : Node) (made : Result NodeLists RunFault) (result : Result NodeRun NodeRefusal) → slice_get s.plan.now.net.nodes v ≡ Some node → sends_once node.kind ≡ false →
+    IfOk made (IsNodeKept s.plan.now s.rows.now s.block v) → IfOk result (λ gives. (made ≡ Ok gives.lists) × (gives.former ≡ Whole lists) × (gives.again ≡ 0) × (gives.all ≡ 0)) → IfOk result (IsNodeRun s old lists v)
+apart-changed s old lists v node made result there apart kept h =
+    let came = came_before s.rows.now old lists in
+    let new = coming_to s.plan.now s.rows.now v in
+    let uncounted = apart-uncounted node.kind apart in
+    changed-run s old lists v 0 0 made result
+    (sym (ap (λ o. again_of s.block o came new) there ∙ ap (λ b. cond b (again_at s.block node.kind came new) 0) uncounted))
+    (sym (ap (λ o. blocks_of s.block o new) there ∙ ap (λ b. cond b (blocks_in s.block (length new.job)) 0) uncounted))
+    (omega arith) (omega arith) kept h

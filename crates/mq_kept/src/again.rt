@@ -14,7 +14,7 @@ use crate::checkpoints::Checkpoints;
 use crate::former::{Former, Nodes, come_back, no_lists, put_at};
 use crate::nodes::{NodeRun, Past, node_run};
 use mq_arrivals::Arriving;
-use mq_base::{List, OutOfMemory, Steps};
+use mq_base::{List, Steps};
 use mq_core::{Plan, Rows, Run, runs_are_of_networks};
 use mq_engine::{RunFault, core_laws};
 use std::alloc::Global;
@@ -56,6 +56,7 @@ pub fn run_again<R: Threads + Sync, L: Ledger>(
     rows: &Rows,
     earlier: Option<&Rows>,
     nodes: Nodes,
+    formers: Vec<Former>,
     workers: u32,
     block: u32,
     steps: &mut Steps<L>,
@@ -66,23 +67,23 @@ pub fn run_again<R: Threads + Sync, L: Ledger>(
     requires block { 64 ≤ block }
     requires large { block ≤ 65536 }
     requires before { AreNodesBefore plan.now (earlier_rows rows.now earlier) block nodes }
+    requires formers { length formers.items ≡ length plan.now.net.nodes }
+    requires same { All (λ former. former ≡ Same) formers.items }
     ensures kept { IfOk result (λ whole. AreKept plan.now rows.now block whole.run whole.checkpoints) }
-    ensures redone { IfOk result (λ whole. whole.redone ≡ record { again = all_again plan.now.net (earlier_rows rows.now earlier) rows.now block; all = all_blocks plan.now.net rows.now block }) }
+    ensures redone { IfOk result (λ whole. whole.redone ≡ record { again = all_again plan.now.net (earlier_rows rows.now earlier.entry) rows.now block; all = all_blocks plan.now.net rows.now block }) }
     ensures cause { IfErr result (λ refusal. IsCause plan.now rows.now refusal.fault) }
     ensures back { IfErr result (λ refusal. AreSameNodes nodes refusal.nodes) }
     ensures steps { steps.old ≤ steps.new }
-    ensures spent { steps.new ≤ steps.old + all_worked plan.now.net (earlier_rows rows.now earlier) rows.now block }
-    ensures counted { OnOk result (steps.new ≡ steps.old + all_worked plan.now.net (earlier_rows rows.now earlier) rows.now block) }
+    ensures spent { steps.new ≤ steps.old + all_worked plan.now.net (earlier_rows rows.now earlier.entry) rows.now block }
+    ensures counted { OnOk result (steps.new ≡ steps.old + all_worked plan.now.net (earlier_rows rows.now earlier.entry) rows.now block) }
 {
     core_laws();
     runs_are_of_networks();
-    let Ok(formers) = all_same(alloc, plan.net.nodes.len()) else {
-        return Err(RunRefusal {
-            fault: RunFault::Memory,
-            nodes,
-        });
+    let mut worked = SoFar {
+        nodes,
+        formers,
+        redone: Redone { again: 0, all: 0 },
     };
-    let mut worked = none_worked(nodes, formers);
     for rank in 0..plan.order.len() {
         let number = *plan.order.get(rank);
         let lists = put_at(&mut worked.nodes, number as usize, no_lists(alloc));
@@ -117,31 +118,6 @@ struct SoFar {
     // How each node comes back to what it had.
     formers: Vec<Former>,
     redone: Redone,
-}
-
-// No node is worked out.
-fn none_worked(nodes: Nodes, formers: Vec<Former>) -> SoFar
-    ensures nodes { result.nodes ≡ nodes }
-    ensures formers { result.formers ≡ formers }
-    ensures redone { result.redone ≡ record { again = 0; all = 0 } }
-{
-    SoFar {
-        nodes,
-        formers,
-        redone: Redone { again: 0, all: 0 },
-    }
-}
-
-// Each node has what it had.
-fn all_same(alloc: Global, nodes: usize) -> Result<Vec<Former>, OutOfMemory>
-    ensures count { IfOk result (λ formers. length formers.items ≡ nodes) }
-    ensures same { IfOk result (λ formers. All (λ former. former ≡ Same) formers.items) }
-{
-    let mut formers = Vec::with_capacity(alloc, nodes)?;
-    for _ in 0..nodes {
-        formers.push_reserved(Former::Same);
-    }
-    Ok(formers)
 }
 
 // Puts down what a node gives.

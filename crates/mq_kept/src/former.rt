@@ -1,6 +1,7 @@
 // What is kept of the nodes, and how they come back to what they had before an edit.
-ghost use Rattle.std.specs.Prelude.{◌≡◌, ◌<◌, ◌≤◌, length, IfOk};
+ghost use Rattle.std.specs.Prelude.{◌≡◌, ◌<◌, ◌≤◌, All, length, IfOk};
 ghost use Rattle.mq_kept.specs.Formers.{AreNodes, AreNothing, AreSameNodes, CanComeBack, HasLists, IsPut, lists_before, no_lists};
+ghost use Rattle.mq_kept.specs.declared.former.Former.TheVariants.{Same};
 ghost use Rattle.mq_kept.specs.declared.former.Nodes.{Nodes as TheNodes};
 
 use crate::checkpoints::Checkpoints;
@@ -85,6 +86,18 @@ pub fn no_nodes(alloc: Global, count: usize) -> Result<Nodes, OutOfMemory>
         outputs,
         checkpoints,
     })
+}
+
+/// So many nodes have what they had.
+pub fn all_same(alloc: Global, count: usize) -> Result<Vec<Former>, OutOfMemory>
+    ensures count { IfOk result (λ formers. length formers.items ≡ count) }
+    ensures same { IfOk result (λ formers. All (λ former. former ≡ Same) formers.items) }
+{
+    let mut formers = Vec::with_capacity(alloc, count)?;
+    for _ in 0..count {
+        formers.push_reserved(Former::Same);
+    }
+    Ok(formers)
 }
 
 /// Puts these lists at a node, and gives those that it had.

@@ -4,13 +4,12 @@ ghost use Rattle.mq_alike.specs.Again.{again, all_blocks, worked};
 ghost use Rattle.mq_core.specs.Theorems.{IsReadFor};
 ghost use Rattle.mq_edits.specs.Edited.{AreEditsFor, edited_rows};
 ghost use Rattle.mq_engine.specs.Answer.{IsCause};
-ghost use Rattle.mq_kept.specs.Formers.{AreNodes, AreNothing};
 ghost use Rattle.mq_kept.specs.Keeping.{IsKeptRun};
 ghost use Rattle.mq_kept.specs.NodeRuns.{AreKept};
 
 use crate::again::{Redone, Whole, run_again};
 use crate::checkpoints::Checkpoints;
-use crate::former::{Nodes, no_nodes};
+use crate::former::{Nodes, all_same, no_nodes};
 use mq_alike::again_is_bounded;
 use mq_base::{List, Steps};
 use mq_core::{Plan, Rows, Run, runs_have_sequences};
@@ -65,8 +64,7 @@ impl<'p> Kept<'p> {
         ensures kept { IfOk result IsKeptRun }
         ensures cause { IfErr result (λ fault. IsCause plan.now rows fault) }
     {
-        let nodes = no_nodes(alloc, plan.net.nodes.len())?;
-        let whole = begun::<R, Brand>(rt, alloc, plan, &rows, nodes, workers, block, Blank::new(1))?;
+        let whole = begun::<R, Brand>(rt, alloc, plan, &rows, workers, block, Blank::new(1))?;
         Ok(Kept {
             plan,
             rows,
@@ -105,6 +103,7 @@ impl<'p> Kept<'p> {
         core_laws();
         runs_have_sequences();
         again_is_bounded();
+        let formers = all_same(alloc, self.plan.net.nodes.len())?;
         let rows = edited(alloc, &self.rows, edits)?;
         let earlier = replace(&mut self.rows, rows);
         let nodes = taken(alloc, &mut self.run, &mut self.checkpoints);
@@ -115,6 +114,7 @@ impl<'p> Kept<'p> {
             &self.rows,
             Some(&earlier),
             nodes,
+            formers,
             self.workers,
             self.block,
             steps,
@@ -180,7 +180,6 @@ fn begun<R: Threads + Sync, L: Ledger>(
     alloc: Global,
     plan: &Plan,
     rows: &Rows,
-    nodes: Nodes,
     workers: u32,
     block: u32,
     blank: Blank,
@@ -190,16 +189,17 @@ fn begun<R: Threads + Sync, L: Ledger>(
     requires most { workers ≤ 64 }
     requires block { 64 ≤ block }
     requires large { block ≤ 65536 }
-    requires count { AreNodes (length plan.now.net.nodes) nodes }
-    requires nothing { AreNothing nodes }
     requires name { blank.name ≡ L.name }
     requires parts { blank.parts ≡ L.parts }
     requires whole { 0 < blank.parts }
     ensures kept { IfOk result (λ whole. AreKept plan.now rows.now block whole.run whole.checkpoints) }
     ensures cause { IfErr result (λ fault. IsCause plan.now rows.now fault) }
 {
+    let count = plan.net.nodes.len();
+    let formers = all_same(alloc, count)?;
+    let nodes = no_nodes(alloc, count)?;
     let mut steps = Steps::<L>::new(blank);
-    match run_again(rt, alloc, plan, rows, None, nodes, workers, block, &mut steps) {
+    match run_again(rt, alloc, plan, rows, None, nodes, formers, workers, block, &mut steps) {
         Ok(whole) => Ok(whole),
         Err(refusal) => Err(refusal.fault),
     }

@@ -1,12 +1,14 @@
-use Rattle.std.proofs.Common.{sym, subst, arith, ◌<◌, length, refl}
+use Rattle.std.proofs.Common.{◌<◌, sym, subst}
+use Rattle.std.proofs.lemmas.Option.{slice_get_within}
 use Rattle.mq_kept.proofs.CameBefore.{before-few}
-use Rattle.mq_kept.proofs.Ended.{changed-cause, changed-run}
-use Rattle.mq_kept.proofs.Unchanged.{apart-run}
+use Rattle.mq_kept.proofs.Ended.{changed-cause}
+use Rattle.mq_kept.proofs.Unchanged.{apart-changed, apart-run}
 use Rattle.mq_kept.proofs.nodes.apart_run.Goals as goal
 
 pub reads_the_same-requires : goal.reads_the_same-requires
 reads_the_same-requires g c port input e =
-    subst (λ n. input.node < n) (sym c.requires.formers) ((c.core_laws.ensures.limits c.args.arriving.now.plan.now c.args.number c.get-node.result.now c.get-node.ensures).reads port input e).inside
+    let named = (c.core_laws.ensures.limits c.args.arriving.now.plan.now c.args.number c.get-node.result.now c.get-node.ensures).reads port input e in
+    subst (λ n. input.node < n) (sym c.requires.formers) (slice_get_within c.args.arriving.now.plan.now.net.nodes input.node named.node named.there)
 
 pub unchanged_run-requires-clause-few : goal.unchanged_run-requires-clause-few
 unchanged_run-requires-clause-few g c =
@@ -24,7 +26,9 @@ returns-then-reads_the_same-clause-gives g c =
     past.formers.now (c.requires.can.apart c.get-node.result.now c.get-node.ensures) c.requires.stayed (c.reads_the_same.ensures.same c.if-reads_the_same.true)
 
 pub returns-clause-gives : goal.returns-clause-gives
-returns-clause-gives g c = ?
+returns-clause-gives g c =
+    let s = c.args.arriving.now in
+    apart-changed s _ c.args.lists c.args.number c.get-node.result.now c.apart_lists-now.result c.changed_run.result c.get-node.ensures (c.requires.can.apart c.get-node.result.now c.get-node.ensures) c.apart_lists-now.ensures.kept c.changed_run.ensures.gives
 
 pub returns-clause-cause : goal.returns-clause-cause
 returns-clause-cause g c =
