@@ -13,7 +13,6 @@ use Rattle.mq_core.specs.declared.model.Rows.{Rows}
 use Rattle.mq_core.specs.declared.model.Stream.{Stream}
 use Rattle.mq_core.specs.declared.model.Visits.{Visits}
 use Rattle.mq_core.proofs.lemmas.Plans.{order-few}
-use Rattle.mq_arrivals.specs.declared.nodes.Arriving.{Arriving}
 use Rattle.mq_exits.specs.Refusals.{over_told, past_told}
 use Rattle.mq_exits.specs.Results.{IsKnown}
 use Rattle.mq_exits.specs.declared.working.Ending.TheVariants.{OnTime}
@@ -24,7 +23,7 @@ use Rattle.mq_engine.specs.declared.fault.RunFault.{RunFault}
 use Rattle.mq_engine.specs.declared.fault.RunFault.TheVariants.{Memory, Over, Past}
 use Rattle.mq_kept.specs.Formers.{AreNodes, CanComeBack, HasLists, IsPut, lists_before, no_lists}
 use Rattle.mq_kept.specs.KeptNodes.{IsKeptNode, coming_of}
-use Rattle.mq_kept.specs.NodeRuns.{AreKept, AreNodesBefore, HasStayed, HaveStayed, IsFaultAt, IsNodeBefore, again_behind, blocks_at, came_before, coming_to, worked_behind}
+use Rattle.mq_kept.specs.NodeRuns.{AreKept, AreNodesBefore, HasStayed, HaveStayed, IsFaultAt, IsNodeBefore, came_before, coming_to}
 use Rattle.mq_kept.specs.Totals.{all_again, all_worked, came_in_kept}
 use Rattle.mq_kept.specs.declared.again.Redone.{Redone}
 use Rattle.mq_kept.specs.declared.again.SoFar.{SoFar}
@@ -92,15 +91,15 @@ came-net same plan rows block v lists node there None none = ap (λ (l : NodeLis
 came-net same plan rows block v lists node there (Some old) h = kept-came plan old block v lists h.1 node there ∙ coming-net same plan old v
 
 -- The numbers of a node by the network's runs.
-module _ (same : RunsAreOfNetworks) (s : Arriving) (old : Option Rows) (v : ℕ) (lists : NodeLists) (node : Node) (there : slice_get s.plan.now.net.nodes v ≡ Some node) (h : IsNodeBefore s.plan.now old s.block v lists) where
-  pub again-net : again_behind s (came_before s.rows.now old lists) v ≡ again_at_node s.plan.now s.rows.now s.block old v
-  again-net = (λ i. again_of s.block (slice_get s.plan.now.net.nodes v) (came-net same s.plan.now s.rows.now s.block v lists node there old h i) (coming-net same s.plan.now s.rows.now v i))
+module _ (same : RunsAreOfNetworks) (plan : Plan) (rows : Rows) (block : ℕ) (old : Option Rows) (v : ℕ) (lists : NodeLists) (node : Node) (there : slice_get plan.net.nodes v ≡ Some node) (h : IsNodeBefore plan old block v lists) where
+  pub again-net : again_of block (slice_get plan.net.nodes v) (came_before rows old lists) (coming_to plan rows v) ≡ again_at_node plan rows block old v
+  again-net = (λ i. again_of block (slice_get plan.net.nodes v) (came-net same plan rows block v lists node there old h i) (coming-net same plan rows v i))
 
-  pub worked-net : worked_behind s (came_before s.rows.now old lists) v ≡ worked_at_node s.plan.now s.rows.now s.block old v
-  worked-net = (λ i. worked_of s.block (slice_get s.plan.now.net.nodes v) (came-net same s.plan.now s.rows.now s.block v lists node there old h i) (coming-net same s.plan.now s.rows.now v i))
+  pub worked-net : worked_of block (slice_get plan.net.nodes v) (came_before rows old lists) (coming_to plan rows v) ≡ worked_at_node plan rows block old v
+  worked-net = (λ i. worked_of block (slice_get plan.net.nodes v) (came-net same plan rows block v lists node there old h i) (coming-net same plan rows v i))
 
-pub blocks-net : RunsAreOfNetworks → (s : Arriving) (v : ℕ) → blocks_at s v ≡ blocks_at_node s.plan.now s.rows.now s.block v
-blocks-net same s v = ap (blocks_of s.block (slice_get s.plan.now.net.nodes v)) (coming-net same s.plan.now s.rows.now v)
+  pub blocks-net : blocks_of block (slice_get plan.net.nodes v) (coming_to plan rows v) ≡ blocks_at_node plan rows block v
+  blocks-net = ap (blocks_of block (slice_get plan.net.nodes v)) (coming-net same plan rows v)
 
 -- the next node
 module _ (laws : CoreLaws) (plan : Plan) (rows : Rows) (block : ℕ) (old : Option Rows) (first : Nodes) (worked : SoFar) (rank v : ℕ) (w : IsWorkedTo plan rows block old first worked rank) (here : slice_get plan.order rank ≡ Some v) where

@@ -42,12 +42,12 @@ pub node_run-requires-clause-before : goal.node_run-requires-clause-before
 node_run-requires-clause-before g c κs within = before-at c.core_laws.ensures c.args.plan.now c.args.rows.now c.args.block (earlier_rows c.args.rows.now c.args.earlier) c.args.nodes c.loop-rank.worked c.loop-rank.rank c.get-number.result.now c.loop-rank.invariant.worked c.get-number.ensures c.requires.before c.put_at-lists.result c.put_at-lists.ensures.had
 
 pub node_run-requires-clause-formers : goal.node_run-requires-clause-formers
-node_run-requires-clause-formers g c κs within = ap length c.as_slice-2.ensures.value ∙ c.loop-rank.invariant.worked.long
+node_run-requires-clause-formers g c κs within = ap length c.as_slice-in-loop-rank.ensures.value ∙ c.loop-rank.invariant.worked.long
 
 pub node_run-requires-clause-stayed : goal.node_run-requires-clause-stayed
 node_run-requires-clause-stayed g c κs within =
     let old = earlier_rows c.args.rows.now c.args.earlier in
-    subst (λ formers. HaveStayed c.args.plan.now old c.args.rows.now formers c.get-number.result.now) (sym c.as_slice-2.ensures.value)
+    subst (λ formers. HaveStayed c.args.plan.now old c.args.rows.now formers c.get-number.result.now) (sym c.as_slice-in-loop-rank.ensures.value)
     (reads-stayed c.core_laws.ensures c.args.plan.now c.args.rows.now c.args.block old c.args.nodes c.loop-rank.worked c.loop-rank.rank c.get-number.result.now c.loop-rank.invariant.worked c.get-number.ensures)
 
 pub put-requires-clause-nodes : goal.put-requires-clause-nodes
@@ -73,14 +73,14 @@ loop-rank-preserved g c =
     let t = c.in-Ok.ensures.gives in
     let w = t.kept.known in
     let before = before-at c.core_laws.ensures c.args.plan.now c.args.rows.now c.args.block old c.args.nodes worked c.loop-rank.rank v it c.get-number.ensures c.requires.before lists c.put_at-lists.ensures.had in
-    let all = t.all ∙ blocks-net c.runs_are_of_networks.ensures _ v in
+    let all = t.all ∙ blocks-net c.runs_are_of_networks.ensures c.args.plan.now c.args.rows.now c.args.block old v lists w.0 w.1 before in
     record {
       worked = worked-more c.core_laws.ensures c.args.plan.now c.args.rows.now c.args.block old c.args.nodes worked c.loop-rank.rank v it c.get-number.ensures lists c.put_at-lists.ensures.had gives w.0 w.1 w.2 (t.kept.checkpoints w.0 w.1) t.back t.stayed
-          (t.again ∙ again-net c.runs_are_of_networks.ensures _ old v lists w.0 w.1 before) all t.again_few t.all_few c.put.new.worked
+          (t.again ∙ again-net c.runs_are_of_networks.ensures c.args.plan.now c.args.rows.now c.args.block old v lists w.0 w.1 before) all t.again_few t.all_few c.put.new.worked
           (put-twice worked.nodes c.put_at-lists.new.nodes v c.no_lists.result c.put_at-lists.ensures.put c.put.new.worked.nodes gives.lists c.put.ensures.put) c.put.ensures.formers c.put.ensures.redone;
       steps = let so_far = c.loop-rank.invariant.steps in let more = c.node_run.ensures.steps in omega arith;
       spent = spent-more c.core_laws.ensures c.args.plan.now c.args.rows.now c.args.block old c.args.nodes worked c.loop-rank.rank v it c.get-number.ensures c.loop-rank.steps c.args.steps.now c.node_run.new.steps c.loop-rank.invariant.spent
-          (c.in-Ok.ensures.counted ∙ ap (λ n. c.loop-rank.steps + n) (worked-net c.runs_are_of_networks.ensures _ old v lists w.0 w.1 before));
+          (c.in-Ok.ensures.counted ∙ ap (λ n. c.loop-rank.steps + n) (worked-net c.runs_are_of_networks.ensures c.args.plan.now c.args.rows.now c.args.block old v lists w.0 w.1 before));
     }
 
 pub put_at-requires-clause-visits : goal.put_at-requires-clause-visits
@@ -105,7 +105,7 @@ pub undone-requires : goal.undone-requires
 undone-requires g c =
     let worked = c.loop-rank.worked in
     let twice = put-twice worked.nodes c.put_at-lists.new.nodes c.get-number.result.now c.no_lists.result c.put_at-lists.ensures.put c.put_at.new.nodes c.in-Err.refusal.lists c.put_at.ensures.put in
-    put-count worked.nodes c.put_at.new.nodes c.get-number.result.now c.in-Err.refusal.lists twice (length worked.formers.items) c.loop-rank.invariant.worked.count
+    record { nodes = put-count worked.nodes c.put_at.new.nodes c.get-number.result.now c.in-Err.refusal.lists twice (length worked.formers.items) c.loop-rank.invariant.worked.count }
 
 pub returns-in-Err-clause-cause : goal.returns-in-Err-clause-cause
 returns-in-Err-clause-cause g c =
@@ -130,7 +130,7 @@ returns-in-Err-clause-spent g c =
     let node = the-node c.core_laws.ensures c.args.plan.now c.args.rows.now c.args.block old c.args.nodes worked c.loop-rank.rank v it c.get-number.ensures in
     let before = before-at c.core_laws.ensures c.args.plan.now c.args.rows.now c.args.block old c.args.nodes worked c.loop-rank.rank v it c.get-number.ensures c.requires.before lists c.put_at-lists.ensures.had in
     let within = spent-within c.core_laws.ensures c.args.plan.now c.args.rows.now c.args.block old c.args.nodes worked c.loop-rank.rank v it c.get-number.ensures in
-    let spent = subst (λ n. c.node_run.new.steps ≤ c.loop-rank.steps + n) (worked-net c.runs_are_of_networks.ensures _ old v lists node.0 node.1 before) c.node_run.ensures.spent in
+    let spent = subst (λ n. c.node_run.new.steps ≤ c.loop-rank.steps + n) (worked-net c.runs_are_of_networks.ensures c.args.plan.now c.args.rows.now c.args.block old v lists node.0 node.1 before) c.node_run.ensures.spent in
     let so_far = c.loop-rank.invariant.spent in
     omega arith
 
