@@ -1,5 +1,6 @@
 pub mod Bounded
 mod First
+mod Former
 mod Same
 mod Whole
 mod Known

@@ -17,7 +17,7 @@ use mq_base::{List, OutOfMemory};
 use mq_core::nodes_are_in_limits;
 use mq_crew::{Gate, run_parts};
 pub use nodes::{Arrived, Arriving};
-pub use rows::stream_of;
+pub use rows::{rows_by_time, stream_of};
 use std::alloc::Global;
 use std::thread::Threads;
 

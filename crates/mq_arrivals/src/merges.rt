@@ -60,7 +60,9 @@ impl<'a> Pieces for Coming<'a> {
 
     fn piece(&self, alloc: Global, b: u32) -> Result<Stream, OutOfMemory> {
         match &self.origin {
-            Origin::Unsorted(rows) => rows_by_time(alloc, self.number, &rows.source, &rows.time),
+            Origin::Unsorted(rows) => {
+                rows_by_time(alloc, self.number, &rows.source, &rows.time, 0)
+            }
             Origin::Ports(before, next, blocks) => {
                 merged_block(alloc, before.stream(), next, blocks, b)
             }

@@ -1,11 +1,13 @@
 // The fates of visits, which take the room of their departures where all visits depart.
-ghost use Rattle.std.specs.Prelude.{◌≡◌, ◌<◌, ◌≤◌, IfErr, IfOk, Some, length, map, slice_get};
+ghost use Rattle.std.specs.Prelude.{◌≡◌, ◌+◌, ◌++◌, ◌<◌, ◌≤◌, IfOk, OnErr, OnOk, Some, length, map, slice_get, take};
 ghost use Rattle.mq_base.specs.Lists.{between};
 ghost use Rattle.mq_core.specs.declared.model.Fate.TheVariants.{Departs};
 
 use crate::model::Fate;
-use mq_base::List;
+use mq_base::{List, OutOfMemory};
+use std::alloc::Global;
 use std::marker::Model;
+use std::mem::replace;
 
 // How fates are kept.
 #[derive(Drop)]
@@ -53,15 +55,33 @@ impl Fates {
         }
     }
 
-    /// When the visits depart, in ticks, where it is kept that none is lost or held; else the fates themselves. It takes no
-    /// memory.
-    pub fn into_departures(self) -> Result<List<u64>, Fates>
-        ensures departures { IfOk result (λ times. self ≡ map (λ time. Departs time) times) }
-        ensures fates { IfErr result (λ fates. fates ≡ self) }
+    /// Puts departures at these times, in ticks, in the place of all fates from a position on, up to which there are as many.
+    /// Where memory runs out the fates are as before.
+    pub fn replace_from(
+        &mut self,
+        alloc: Global,
+        from: usize,
+        times: &[u64],
+    ) -> Result<(), OutOfMemory>
+        requires { from ≤ length self.old }
+        ensures ok { OnOk result (self.new ≡ take from self.old ++ map (λ time. Departs time) times.now) }
+        ensures err { OnErr result (self.new ≡ self.old) }
     {
-        match self.kept {
-            Kept::Departures(times) => Ok(times),
-            Kept::Each(fates) => Err(Fates::each(fates)),
+        match &mut self.kept {
+            Kept::Departures(kept) => kept.replace_from(from, times),
+            Kept::Each(kept) => replace_each(alloc, kept, from, times),
+        }
+    }
+
+    /// Puts departures at these times, in ticks, in the place of all fates from a position on, of which there are as many at
+    /// least. It takes no memory.
+    pub fn put_back(&mut self, alloc: Global, from: usize, times: &[u64])
+        requires { from + length times.now ≤ length self.old }
+        ensures { self.new ≡ take from self.old ++ map (λ time. Departs time) times.now }
+    {
+        match &mut self.kept {
+            Kept::Departures(kept) => kept.put_back(from, times),
+            Kept::Each(kept) => put_each(alloc, kept, from, times),
         }
     }
 
@@ -116,6 +136,45 @@ impl Fates {
             },
         }
     }
+}
+
+// Departures at these times, as fates.
+fn departing(alloc: Global, times: &[u64]) -> Result<Vec<Fate>, OutOfMemory>
+    ensures { IfOk result (λ fates. fates.items ≡ map (λ time. Departs time) times.now) }
+{
+    let mut fates = Vec::with_capacity(alloc, times.len())?;
+    for time in times {
+        fates.push_reserved(Fate::Departs(*time));
+    }
+    Ok(fates)
+}
+
+// Puts departures at these times in the place of all fates from a position on.
+fn replace_each(
+    alloc: Global,
+    kept: &mut List<Fate>,
+    from: usize,
+    times: &[u64],
+) -> Result<(), OutOfMemory>
+    requires { from ≤ length kept.old }
+    ensures ok { OnOk result (kept.new ≡ take from kept.old ++ map (λ time. Departs time) times.now) }
+    ensures err { OnErr result (kept.new ≡ kept.old) }
+{
+    let fates = departing(alloc, times)?;
+    kept.replace_from(from, fates.as_slice())
+}
+
+// The same without taking memory, where there are as many of them at least.
+fn put_each(alloc: Global, kept: &mut List<Fate>, from: usize, times: &[u64])
+    requires { from + length times.now ≤ length kept.old }
+    ensures { kept.new ≡ take from kept.old ++ map (λ time. Departs time) times.now }
+{
+    let mut fates = replace(kept, List::new(alloc)).into_vec();
+    fates.truncate(from + times.len());
+    for at in 0..times.len() {
+        fates[from + at] = Fate::Departs(times[at]);
+    }
+    drop(replace(kept, List::from_vec(fates)));
 }
 
 // How neighbouring fates are kept.

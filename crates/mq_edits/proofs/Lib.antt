@@ -1,3 +1,4 @@
+mod FormerFacts
 mod ReadFacts
 mod RowFacts
 mod WordFacts

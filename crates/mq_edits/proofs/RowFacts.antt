@@ -115,7 +115,7 @@ columns_more columns i column edits is less =
     ap (λ front. edited_columns 1 front edits) (take-at columns i column is) ∙ column_more 1 (take i columns) column edits
     ∙ ap (λ n. edited_columns 1 (take i columns) edits ++ edited_list (number_of n) column edits ∷ []) long
 
-length_columns : (place : ℕ) (columns : List (List ℕ)) (edits : List Edit) → length (edited_columns place columns edits) ≡ length columns
+pub length_columns : (place : ℕ) (columns : List (List ℕ)) (edits : List Edit) → length (edited_columns place columns edits) ≡ length columns
 length_columns place [] edits = refl
 length_columns place (column ∷ columns) edits = ap suc (length_columns (place + 1) columns edits)
 

@@ -1,3 +1,4 @@
 pub mod Edited
 pub mod Edits
 pub mod Examples
+pub mod Former

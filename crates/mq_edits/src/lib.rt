@@ -5,6 +5,7 @@
 
 mod edit;
 mod fault;
+mod former;
 mod laws;
 mod line;
 mod read;
@@ -12,6 +13,7 @@ mod rows;
 
 pub use edit::Edit;
 pub use fault::EditFault;
+pub use former::FormerRows;
 pub use laws::{edited_rows_are_read, edits_are_answered};
 pub use read::read_edits;
-pub use rows::edited;
+pub use rows::{edit_rows, edited};

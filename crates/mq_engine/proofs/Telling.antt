@@ -56,7 +56,7 @@ count-more outputs inputs port count count' input stream there is reads short e 
     (omega arith, omega arith)
 
 -- the rows of a source are no more than all
-rows-less : (node job : ℕ) (sources times : List ℕ) → length (rows_at node job sources times) ≤ length times
+pub rows-less : (node job : ℕ) (sources times : List ℕ) → length (rows_at node job sources times) ≤ length times
 rows-less node job [] times = omega arith
 rows-less node job (s ∷ ss) [] = omega arith
 rows-less node job (s ∷ ss) (t ∷ ts) = go (eqb s node) (rows-less node (suc job) ss ts)

@@ -14,7 +14,7 @@ use Rattle.mq_core.proofs.lemmas.Orders.{in_order_of-length}
 use Rattle.mq_core.specs.Alone.{came as came_at}
 use Rattle.mq_core.specs.Came.{came_by, came_of}
 use Rattle.mq_core.specs.Laws.{in_order_of}
-use Rattle.mq_core.specs.SequenceLaws.{arrives_of, jobs_of, read_from}
+use Rattle.mq_core.specs.SequenceLaws.{arrives_of, jobs_of, read_from, sends_once}
 use Rattle.mq_core.specs.Sequences.{IsStream, sequence_stream, rows_at, streams_below}
 use Rattle.mq_core.specs.Streams.{by_first, pairs_of}
 use Rattle.mq_core.specs.Results.{stream_from, visits_of}
@@ -118,12 +118,11 @@ module _ (laws : CoreLaws) (plan : Plan) (rows : Rows) (visits : List Visits) (o
   arriving-ports read e =
       (laws.arrivals plan rows read v node n.there).ports e ∙ ap (in_order_of (λ (p : ℕ × ℕ × ℕ). p.0)) (read-ports 0 node.inputs (inputs-read laws plan rows visits outputs stands v node r n))
 
-is-arrived : (plan : Plan) (rows : Rows) (outputs : List (List Stream)) (v : ℕ) (node : Node) (arrivals : Stream) → CanWork plan rows outputs v → slice_get plan.net.nodes v ≡ Some node →
-    IsStream arrivals → pairs_of arrivals ≡ by_first (arriving rows v node outputs) → IsArrived plan rows v arrivals
-is-arrived plan rows outputs v node arrivals can there s e =
+-- a stream of what comes in the run, item by item
+pub arrived-by : (plan : Plan) (rows : Rows) (v : ℕ) (arrivals : Stream) → IsStream arrivals → pairs_of arrivals ≡ zip (arrives_of ((run_of plan rows).stations v).visits) (jobs_of ((run_of plan rows).stations v).visits) → IsArrived plan rows v arrivals
+arrived-by plan rows v arrivals s same =
     let xs = ((run_of plan rows).stations v).visits in
     let even : length (jobs_of xs) ≡ length (arrives_of xs) = length-map xs _ ∙ sym (length-map xs _) in
-    let same : zip arrivals.time arrivals.job ≡ zip (arrives_of xs) (jobs_of xs) = e ∙ sym (can.comes node there) in
     record {
       job = zip-jobs arrivals.time arrivals.job (arrives_of xs) (jobs_of xs) s.even even same;
       time = zip-times arrivals.time arrivals.job (arrives_of xs) (jobs_of xs) s.even even same;
@@ -137,22 +136,18 @@ arriving-early plan rows outputs v node read early = go (is_source_kind node.kin
     go true = rows-early v 0 rows.source rows.time (Each-at _ rows.time read.early)
     go false = flat-early (pairs_read outputs) (λ input. reads-early outputs input early) node.inputs
 
-loaded : (laws : CoreLaws) (plan : Plan) (rows : Rows) (outputs : List (List Stream)) (v : ℕ) (node : Node) (arrivals : Stream) → IsReadFor plan.net rows → AreEarly outputs → CanWork plan rows outputs v → slice_get plan.net.nodes v ≡ Some node →
-    IsStream arrivals → pairs_of arrivals ≡ by_first (arriving rows v node outputs) → IsLoad rows node.kind arrivals
-loaded laws plan rows outputs v node arrivals read early can there s e =
-    let a = is-arrived plan rows outputs v node arrivals can there s e in
+pub loaded : (laws : CoreLaws) (plan : Plan) (rows : Rows) (v : ℕ) (node : Node) (arrivals : Stream) → IsReadFor plan.net rows → slice_get plan.net.nodes v ≡ Some node → sends_once node.kind ≡ true → IsArrived plan rows v arrivals → IsEarlyStream arrivals → length arrivals.time ≤ 1048576 →
+    IsLoad rows node.kind arrivals
+loaded laws plan rows v node arrivals read there once a early few =
     let xs = ((run_of plan rows).stations v).visits in
     record {
       columns = length plan.net.columns;
       sound = (laws.limits plan v node there).kind;
-      ordered = record { ordered = s; early = stream-early arrivals (arriving rows v node outputs) s e (arriving-early plan rows outputs v node read early) };
-      few =
-          let long : length arrivals.time ≡ length xs = ap length a.time ∙ length-map xs _ in
-          let few = can.few in
-          omega arith;
+      ordered = early;
+      few = few;
       leaves =
           let sequences = laws.sequences plan rows read v node there in
-          let blind = laws.blind rows node.kind (came_of (length node.inputs) ((run_of plan rows).stations v).visits) (once-leaves node.kind (can.once node there)) in
+          let blind = laws.blind rows node.kind (came_of (length node.inputs) xs) (once-leaves node.kind once) in
           λ out. subst IsStream (sequences.stream out ∙ (blind.stream out ∙ (λ k. sequence_stream rows node.kind (came_by (sym a.job k) (sym a.time k)) out))) ((laws.streams plan rows v).streams out);
       told = λ k job g.
           let below = subst (λ m. job < m) read.times (Each-get (λ j. j < length rows.time) (jobs_of xs) k job (laws.jobs plan rows v) (subst (λ l. slice_get l k ≡ Some job) a.job g)) in
@@ -183,13 +178,17 @@ has-loaded laws s arrived h early all come =
     let at = get-some s.plan.now.net.nodes v can.inside in
     let node = at.0 in
     let there = at.1 in
-    let items = come.items node there in (
+    let items = come.items node there in
+    let stream = stream_in arrived.arrivals in
+    let came = arrived-by s.plan.now s.rows.now v stream come.ordered (items ∙ sym (can.comes node there)) in
+    let long : length stream.time ≡ length ((run_of s.plan.now s.rows.now).stations v).visits = ap length came.time ∙ length-map ((run_of s.plan.now s.rows.now).stations v).visits _ in
+    let few = can.few in (
       record {
         node = node;
         there = there;
         once = can.once node there;
-        came = is-arrived s.plan.now s.rows.now s.outputs.now v node (stream_in arrived.arrivals) can there come.ordered items;
-        load = loaded laws s.plan.now s.rows.now s.outputs.now v node (stream_in arrived.arrivals) h.read early can there come.ordered items;
+        came = came;
+        load = loaded laws s.plan.now s.rows.now v node stream h.read there (can.once node there) came (record { ordered = come.ordered; early = stream-early stream (arriving s.rows.now v node s.outputs.now) come.ordered items (arriving-early s.plan.now s.rows.now s.outputs.now v node h.read early) }) (omega arith);
       },
       come.ready,
     )

@@ -1,4 +1,5 @@
 pub mod Recurrence
 pub mod ForkJoining
 mod Departing
+pub mod Carries
 mod Serving

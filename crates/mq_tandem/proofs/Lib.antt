@@ -9,4 +9,4 @@ mod Columns
 mod Mapping
 mod Running
 mod LatestRows
-mod Recurrence
+pub mod Recurrence

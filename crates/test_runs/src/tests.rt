@@ -2,6 +2,7 @@
 mod chain;
 mod claims;
 mod crew;
+mod fates;
 mod graph;
 mod meeting;
 mod pass;

@@ -1,7 +1,8 @@
 use Rattle.std.proofs.Common.{◌≡◌, true, take}
 use Rattle.std.specs.List.{list_all}
 use Rattle.mq_alike.specs.Again.{same_demand}
+use Rattle.mq_edits.specs.Former.{rows_before}
 use Rattle.mq_alike.proofs.comparing.asks_each.Given as goal
 
 abbrev pub invariant-loop-at : goal.invariant-loop-at
-invariant-loop-at l = list_all (same_demand l.earlier l.rows l.job) (take l.at l.demands) ≡ true
+invariant-loop-at l = list_all (same_demand (rows_before l.former l.rows) l.rows l.job) (take l.at l.demands) ≡ true

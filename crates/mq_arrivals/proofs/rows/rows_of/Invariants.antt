@@ -9,7 +9,7 @@ use Rattle.mq_arrivals.proofs.rows.rows_of.Given as goal
 abbrev pub invariant-loop-job : goal.invariant-loop-job
 invariant-loop-job l = record {
   even : vec_len l.jobs ≡ vec_len l.times;
-  items : zip l.times.items l.jobs.items ++ rows_at l.node l.job (drop l.job l.source) (drop l.job l.time) ≡ rows_at l.node 0 l.source l.time;
+  items : zip l.times.items l.jobs.items ++ rows_at l.node l.job (drop l.job l.source) (drop l.job l.time) ≡ rows_at l.node l.from (drop l.from l.source) (drop l.from l.time);
   room : vec_len l.jobs + count_by (λ other. other == l.node) (drop l.job l.source) ≤ vec_capacity l.jobs;
   space : vec_capacity l.jobs ≤ vec_capacity l.times;
 }
