@@ -15,10 +15,14 @@ use Rattle.mq_core.specs.declared.model.Rows.{Rows}
 use Rattle.mq_core.specs.declared.model.Run.{Run}
 use Rattle.mq_core.specs.declared.model.Stream.{Stream}
 use Rattle.mq_core.specs.declared.model.Visits.{Visits}
+use Rattle.mq_edits.specs.Edited.{edited_rows}
+use Rattle.mq_edits.specs.declared.edit.Edit.{Edit}
 use Rattle.mq_engine.specs.CoreLaws.{CoreLaws}
 use Rattle.mq_engine.specs.Progress.{AreEarly}
 use Rattle.mq_kept.specs.Formers.{AreNodes, AreNothing, HasLists, no_lists}
-use Rattle.mq_kept.specs.Keeping.{IsKept}
+use Rattle.mq_kept.specs.Keeping.{IsKept, KeptRun}
+use Rattle.mq_kept.specs.Totals.{all_again, all_worked}
+use Rattle.mq_kept.specs.declared.again.Redone.{Redone}
 use Rattle.mq_kept.specs.NodeRuns.{AreKept, AreNodesBefore, IsNodeBefore}
 use Rattle.mq_kept.specs.declared.checkpoints.Checkpoints.{Checkpoints}
 use Rattle.mq_kept.specs.declared.former.NodeLists.{NodeLists}
@@ -92,3 +96,21 @@ pub kept-back : (plan : Plan) (rows rows1 : Rows) (run : Run) (visits1 : List Vi
     IsKept plan rows1 (record { visits = visits1; outputs = outputs1 }) points1 workers block
 kept-back plan rows rows1 run visits1 outputs1 points points1 workers block was r v o h =
     subst (λ (p : Rows × Run × List Checkpoints). IsKept plan p.0 p.1 p.2 workers block) (λ i. (sym r i, record { visits = sym v i; outputs = sym o i }, sym h i)) was
+
+-- What contracts see of it, where these were the rows before, of which edits made these.
+module _ (plan : Plan) (old before new : Rows) (run : Run) (workers block : ℕ) (edits : List Edit) (is_old : before ≡ old) (is_new : new ≡ edited_rows old edits) (k : KeptRun) (view : record { plan = plan; rows = old; run = run; workers = workers; block = block } ≡ k) where
+  pub redone-view : (redone : Redone) → redone ≡ record { again = all_again plan.net (Some before) new block; all = all_blocks plan.net new block } →
+      redone ≡ record { again = again k.plan.net k.rows (edited_rows k.rows edits) k.block; all = all_blocks k.plan.net (edited_rows k.rows edits) k.block }
+  redone-view redone h =
+      h
+      ∙ ((λ i. record { again = again plan.net (is_old i) (is_new i) block; all = all_blocks plan.net (is_new i) block })
+      ∙ ap (λ (seen : KeptRun). record { again = again seen.plan.net seen.rows (edited_rows seen.rows edits) seen.block; all = all_blocks seen.plan.net (edited_rows seen.rows edits) seen.block }) view)
+
+  pub worked-view : all_worked plan.net (Some before) new block ≡ worked k.plan.net k.rows (edited_rows k.rows edits) k.block
+  worked-view = (λ i. worked plan.net (is_old i) (is_new i) block) ∙ ap (λ (seen : KeptRun). worked seen.plan.net seen.rows (edited_rows seen.rows edits) seen.block) view
+
+  pub spent-view : (steps more : ℕ) → more ≤ steps + all_worked plan.net (Some before) new block → more ≤ steps + worked k.plan.net k.rows (edited_rows k.rows edits) k.block
+  spent-view steps more h = subst (λ n. more ≤ steps + n) worked-view h
+
+  pub counted-view : (steps more : ℕ) → more ≡ steps + all_worked plan.net (Some before) new block → more ≡ steps + worked k.plan.net k.rows (edited_rows k.rows edits) k.block
+  counted-view steps more h = subst (λ n. more ≡ steps + n) worked-view h

@@ -10,6 +10,7 @@ use Rattle.mq_core.specs.declared.model.Node.{Node}
 use Rattle.mq_core.specs.declared.model.Plan.{Plan}
 use Rattle.mq_core.specs.declared.model.Rows.{Rows}
 use Rattle.mq_core.specs.declared.model.Stream.{Stream}
+use Rattle.mq_edits.specs.declared.former.FormerRows.{FormerRows}
 use Rattle.mq_engine.specs.CoreLaws.{CoreLaws}
 use Rattle.mq_exits.proofs.Known.{fine-few}
 use Rattle.mq_exits.specs.Results.{IsKnown}
@@ -42,11 +43,11 @@ module _ (plan : Plan) (rows : Rows) (block v : ℕ) (lists : NodeLists) (k : Is
   kept-came = ap (coming_of rows) kept-known.0
 
 -- nothing is kept before the first run, and behind it what the run has
-pub none-before : (plan : Plan) (rows : Rows) (earlier : Option (Bor Rows)) (block v : ℕ) (lists : NodeLists) → earlier ≡ None → IsNodeBefore plan (earlier_rows rows earlier) block v lists → lists ≡ no_lists
+pub none-before : (plan : Plan) (rows : Rows) (earlier : Option (Bor FormerRows)) (block v : ℕ) (lists : NodeLists) → earlier ≡ None → IsNodeBefore plan (earlier_rows rows earlier) block v lists → lists ≡ no_lists
 none-before plan rows earlier block v lists e h = subst (λ o. IsNodeBefore plan (earlier_rows rows o) block v lists) e h
 
 -- where no run is kept no visit came
-pub none-or-differs : (s : Arriving) (earlier : Option (Bor Rows)) (v : ℕ) (lists : NodeLists) → IsNodeBefore s.plan.now (earlier_rows s.rows.now earlier) s.block v lists → (same visits count : ℕ) → (earlier ≡ None) ⊎ (((same == visits) && (same == count)) ≡ false) →
+pub none-or-differs : (s : Arriving) (earlier : Option (Bor FormerRows)) (v : ℕ) (lists : NodeLists) → IsNodeBefore s.plan.now (earlier_rows s.rows.now earlier) s.block v lists → (same visits count : ℕ) → (earlier ≡ None) ⊎ (((same == visits) && (same == count)) ≡ false) →
     (lists.visits.job ≡ []) ⊎ (((same == visits) && (same == count)) ≡ false)
 none-or-differs s earlier v lists h same visits count (inl none) = inl (ap (λ (l : NodeLists). l.visits.job) (none-before s.plan.now s.rows.now earlier s.block v lists none h))
 none-or-differs s earlier v lists h same visits count (inr differs) = inr differs

@@ -12,6 +12,8 @@ use Rattle.mq_core.specs.declared.model.Kind.{Kind}
 use Rattle.mq_core.specs.declared.model.Node.{Node}
 use Rattle.mq_core.specs.declared.model.Rows.{Rows}
 use Rattle.mq_core.specs.declared.model.Stream.{Stream}
+use Rattle.mq_edits.specs.Former.{rows_before}
+use Rattle.mq_edits.specs.declared.former.FormerRows.{FormerRows}
 use Rattle.mq_engine.specs.CoreLaws.{CoreLaws}
 use Rattle.mq_engine.specs.declared.fault.RunFault.{RunFault}
 use Rattle.mq_exits.specs.Loads.{IsLoaded}
@@ -111,9 +113,9 @@ module _ (laws : CoreLaws) (s : Arriving) (old : Rows) (v : ℕ) (node : Node) (
         (again-none s.block node.kind (coming_of old lists.visits) is (ap (λ (c : Coming). alike node.kind c is) p ∙ (a' ∙ ap (λ (c : Coming). length c.job) (sym p))) (ap (λ (c : Coming). alike node.kind c is) p ∙ b'))
 
 -- The same of a node of which a run is kept.
-module _ (laws : CoreLaws) (s : Arriving) (earlier : Option (Bor Rows)) (b : Bor Rows) (some : earlier ≡ Some b) (v : ℕ) (node : Node) (lists : NodeLists) (gives : NodeRun) (there : slice_get s.plan.now.net.nodes v ≡ Some node)
+module _ (laws : CoreLaws) (s : Arriving) (earlier : Option (Bor FormerRows)) (b : Bor FormerRows) (some : earlier ≡ Some b) (v : ℕ) (node : Node) (lists : NodeLists) (gives : NodeRun) (there : slice_get s.plan.now.net.nodes v ≡ Some node)
     (now : IsReadFor s.plan.now.net s.rows.now) (h : IsNodeBefore s.plan.now (earlier_rows s.rows.now earlier) s.block v lists) (left : IsLeft s node lists gives) where
-  was-kept : IsReadFor s.plan.now.net b.now × IsNodeKept s.plan.now b.now s.block v lists
+  was-kept : IsReadFor s.plan.now.net (rows_before b.now s.rows.now) × IsNodeKept s.plan.now (rows_before b.now s.rows.now) s.block v lists
   was-kept = subst (λ o. IsNodeBefore s.plan.now (earlier_rows s.rows.now o) s.block v lists) some h
 
   pub apart-run : (formers : List Former) → sends_once node.kind ≡ false → HaveStayed s.plan.now (earlier_rows s.rows.now earlier) s.rows.now formers v → ((port : ℕ) (input : Input) → slice_get node.inputs port ≡ Some input → slice_get formers input.node ≡ Some Same) →
@@ -121,13 +123,13 @@ module _ (laws : CoreLaws) (s : Arriving) (earlier : Option (Bor Rows)) (b : Bor
   apart-run formers apart stayed same =
       let reads = subst (λ o. HaveStayed s.plan.now (earlier_rows s.rows.now o) s.rows.now formers v) some stayed in
       subst (λ o. IsNodeRun s (earlier_rows s.rows.now o) lists v gives) (sym some)
-      (apart-unchanged laws s b.now v node lists gives there was-kept.0 now was-kept.1 left apart (λ port input e. reads node port input there e (same port input e)))
+      (apart-unchanged laws s (rows_before b.now s.rows.now) v node lists gives there was-kept.0 now was-kept.1 left apart (λ port input e. reads node port input there e (same port input e)))
 
   pub station-run : SequencesStay → AlikeIsFirst → (arrivals : Stream) → IsLoaded s.plan.now s.rows.now v arrivals → (same visits count : ℕ) → sends_once node.kind ≡ true → same ≡ alike node.kind (came_before s.rows.now (earlier_rows s.rows.now earlier) lists) (coming_as s.rows.now arrivals) →
       visits ≡ length lists.visits.job → count ≡ length arrivals.job → same ≡ visits → same ≡ count → IsNodeRun s (earlier_rows s.rows.now earlier) lists v gives
   station-run stay first arrivals loaded same visits count once is visits-are count-is all-old all-new =
       subst (λ o. IsNodeRun s (earlier_rows s.rows.now o) lists v gives) (sym some)
-      (station-unchanged laws s b.now v node lists gives there was-kept.0 now was-kept.1 left stay first arrivals loaded same visits count once
+      (station-unchanged laws s (rows_before b.now s.rows.now) v node lists gives there was-kept.0 now was-kept.1 left stay first arrivals loaded same visits count once
       (subst (λ o. same ≡ alike node.kind (came_before s.rows.now (earlier_rows s.rows.now o) lists) (coming_as s.rows.now arrivals)) some is) visits-are count-is all-old all-new)
 
 -- The lists of a fork or a join that were made anew.

@@ -13,6 +13,8 @@ use Rattle.mq_core.specs.declared.model.Node.{Node}
 use Rattle.mq_core.specs.declared.model.Plan.{Plan}
 use Rattle.mq_core.specs.declared.model.Rows.{Rows}
 use Rattle.mq_core.specs.declared.model.Run.{Run}
+use Rattle.mq_edits.specs.Former.{rows_before}
+use Rattle.mq_edits.specs.declared.former.FormerRows.{FormerRows}
 use Rattle.mq_engine.specs.Progress.{AreEarly}
 use Rattle.mq_engine.specs.declared.fault.RunFault.{RunFault}
 use Rattle.mq_engine.specs.declared.fault.RunFault.TheVariants.{Memory, Over, Past}
@@ -46,9 +48,9 @@ pub record IsNodeKept (plan : Plan) (rows : Rows) (block v : ℕ) (lists : NodeL
   pub checkpoints : (node : Node) → slice_get plan.net.nodes v ≡ Some node → IsKeptNode node.kind (coming_of rows lists.visits) block lists.visits.fate lists.checkpoints
 
 -- the rows of the kept run, where one is kept
-abbrev pub earlier_rows : Rows → Option (Bor Rows) → Option Rows
+abbrev pub earlier_rows : Rows → Option (Bor FormerRows) → Option Rows
 earlier_rows rows None = None
-earlier_rows rows (Some earlier) = Some earlier.now
+earlier_rows rows (Some former) = Some (rows_before former.now rows)
 
 -- what is kept of a node before it is worked out: nothing before the first run
 abbrev pub IsNodeBefore : Plan → Option Rows → ℕ → ℕ → NodeLists → Type 0

@@ -1,5 +1,4 @@
 // A run that is done again in the place of a kept one, one node after another by rank.
-ghost use Rattle.std.specs.Borrow.{Bor};
 ghost use Rattle.std.specs.Prelude.{◌≡◌, ◌+◌, ◌<◌, ◌≤◌, ◌^◌, All, length, slice_set, IfErr, IfOk, OnOk};
 ghost use Rattle.mq_alike.specs.Again.{all_blocks};
 ghost use Rattle.mq_core.specs.Theorems.{IsReadFor};
@@ -16,6 +15,7 @@ use crate::nodes::{NodeRun, Past, node_run};
 use mq_arrivals::Arriving;
 use mq_base::{List, Steps};
 use mq_core::{Plan, Rows, Run, runs_are_of_networks};
+use mq_edits::FormerRows;
 use mq_engine::{RunFault, core_laws};
 use std::alloc::Global;
 use std::mem::replace;
@@ -54,7 +54,7 @@ pub fn run_again<R: Threads + Sync, L: Ledger>(
     alloc: Global,
     plan: &Plan,
     rows: &Rows,
-    earlier: Option<&Rows>,
+    earlier: Option<&FormerRows>,
     nodes: Nodes,
     formers: Vec<Former>,
     workers: u32,

@@ -13,7 +13,7 @@ use crate::former::{Nodes, all_same, no_nodes};
 use mq_alike::again_is_bounded;
 use mq_base::{List, Steps};
 use mq_core::{Plan, Rows, Run, runs_have_sequences};
-use mq_edits::{Edit, edited};
+use mq_edits::{Edit, edit_rows};
 use mq_engine::{RunFault, core_laws};
 use std::alloc::Global;
 use std::marker::{Brand, Model};
@@ -104,15 +104,14 @@ impl<'p> Kept<'p> {
         runs_have_sequences();
         again_is_bounded();
         let formers = all_same(alloc, self.plan.net.nodes.len())?;
-        let rows = edited(alloc, &self.rows, edits)?;
-        let earlier = replace(&mut self.rows, rows);
+        let former = edit_rows(alloc, &mut self.rows, edits)?;
         let nodes = taken(alloc, &mut self.run, &mut self.checkpoints);
         let result = run_again(
             rt,
             alloc,
             self.plan,
             &self.rows,
-            Some(&earlier),
+            Some(&former),
             nodes,
             formers,
             self.workers,
@@ -121,13 +120,14 @@ impl<'p> Kept<'p> {
         );
         match result {
             Ok(whole) => {
-                drop(earlier);
+                drop(former);
                 drop(replace(&mut self.run, whole.run));
                 drop(replace(&mut self.checkpoints, whole.checkpoints));
                 Ok(whole.redone)
             }
             Err(refusal) => {
-                drop(replace(&mut self.rows, earlier));
+                former.put_back(alloc, &mut self.rows);
+                drop(former);
                 put(&mut self.run, &mut self.checkpoints, refusal.nodes);
                 Err(refusal.fault)
             }

@@ -4,7 +4,7 @@ ghost use Rattle.std.specs.Prelude.{◌≡◌, ◌<◌, ◌≤◌, ◌+◌, ◌�
 ghost use Rattle.mq_alike.specs.Again.{alike, blocks_in, is_counted};
 ghost use Rattle.mq_core.specs.declared.model.Input.{Input as Port};
 ghost use Rattle.mq_core.specs.declared.model.Node.{Node as TheNode};
-ghost use Rattle.mq_core.specs.declared.model.Rows.{Rows as TheRows};
+ghost use Rattle.mq_edits.specs.declared.former.FormerRows.{FormerRows as TheFormer};
 ghost use Rattle.mq_engine.specs.Apart.{CanGather};
 ghost use Rattle.mq_engine.specs.Progress.{CanWork};
 ghost use Rattle.mq_engine.specs.Waves.{IsWave};
@@ -26,6 +26,7 @@ use mq_arrivals::{Arrived, Arriving, arrivals_of};
 use mq_base::{List, OutOfMemory, Steps};
 use mq_core::{Kind, Node, OverFault, Rows, Stream};
 use mq_crew::Open;
+use mq_edits::FormerRows;
 use mq_engine::{RunFault, Way, core_laws, wave_of, way_of};
 use mq_exits::{Emptied, Ending, Held, NodeResult, station_results};
 use mq_redo::counted;
@@ -37,8 +38,8 @@ use std::thread::Threads;
 /// The kept run, behind which a node is worked out.
 #[derive(Clone, Copy)]
 pub struct Past<'a> {
-    /// The rows of it, where a run is kept.
-    pub earlier: Option<&'a Rows>,
+    /// How the rows come back to those of it, where a run is kept.
+    pub earlier: Option<&'a FormerRows>,
     /// How each node comes back to what it had in it, by node.
     pub formers: &'a [Former],
 }
@@ -135,7 +136,7 @@ fn apart_run<R: Threads + Sync>(
 // Whether a run is kept, in which each port of a node reads the same.
 fn reads_the_same(past: &Past, node: &Node) -> bool
     requires { (port : ℕ) (input : Port) → slice_get node.now.inputs port ≡ Some input → input.node < length past.now.formers.now }
-    ensures kept { result ≡ true → (earlier : Bor TheRows) × (past.now.earlier ≡ Some earlier) }
+    ensures kept { result ≡ true → (former : Bor TheFormer) × (past.now.earlier ≡ Some former) }
     ensures same { result ≡ true → (port : ℕ) (input : Port) → slice_get node.now.inputs port ≡ Some input → slice_get past.now.formers.now input.node ≡ Some Same }
 {
     if past.earlier.is_none() {
@@ -309,14 +310,14 @@ fn alike_at(past: &Past, rows: &Rows, kind: &Kind, lists: &NodeLists, arrivals: 
     ensures { result ≡ alike kind.now (came_before rows.now (earlier_rows rows.now past.now.earlier) lists.now) (coming_as rows.now arrivals.now) }
 {
     match past.earlier {
-        Some(earlier) => alike(earlier, rows, kind, &lists.visits, arrivals),
+        Some(former) => alike(former, rows, kind, &lists.visits, arrivals),
         None => 0,
     }
 }
 
 // Whether a run is kept in which a node has no difference, of whose visits so many are the same as the kept ones.
 fn is_unchanged(past: &Past, same: u32, visits: u32, count: u32) -> bool
-    ensures yes { result ≡ true → ((earlier : Bor TheRows) × (past.now.earlier ≡ Some earlier)) × (same ≡ visits) × (same ≡ count) }
+    ensures yes { result ≡ true → ((former : Bor TheFormer) × (past.now.earlier ≡ Some former)) × (same ≡ visits) × (same ≡ count) }
     ensures no { result ≡ false → (past.now.earlier ≡ None) ⊎ (((same == visits) && (same == count)) ≡ false) }
 {
     past.earlier.is_some() && same == visits && same == count
