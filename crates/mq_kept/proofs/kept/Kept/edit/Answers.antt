@@ -15,6 +15,11 @@ run_again-result-requires-clause-before g c κs within =
 pub invariant_of-self : goal.invariant_of-self
 invariant_of-self g c =
     let it = c.self.inside in
+    kept-back it.plan.now it.rows c.edit_rows.new.rows it.run it.run.visits it.run.outputs it.checkpoints it.checkpoints it.workers it.block c.self.invariant c.in_err-former.ensures.err refl refl refl
+
+pub invariant_of-self-in-Ok : goal.invariant_of-self-in-Ok
+invariant_of-self-in-Ok g c =
+    let it = c.self.inside in
     kept-behind it.plan.now c.edit_rows.new.rows it.rows c.edit_rows.new.rows c.in-Ok.whole.run it.run c.replace.new.dest c.in-Ok.whole.checkpoints it.checkpoints c.replace-in-Ok.new.dest it.workers it.block c.self.invariant c.in-Ok.ensures.kept refl c.replace.ensures.after c.replace-in-Ok.ensures.after
 
 pub invariant_of-self-in-Err : goal.invariant_of-self-in-Err
