@@ -19,7 +19,7 @@ use Rattle.mq_edits.specs.Edited.{edited_rows}
 use Rattle.mq_edits.specs.declared.edit.Edit.{Edit}
 use Rattle.mq_engine.specs.CoreLaws.{CoreLaws}
 use Rattle.mq_engine.specs.Progress.{AreEarly}
-use Rattle.mq_kept.specs.Formers.{AreNodes, AreNothing, HasLists, no_lists}
+use Rattle.mq_kept.specs.Formers.{AreNodes, AreNothing, HasLists}
 use Rattle.mq_kept.specs.Keeping.{IsKept, KeptRun}
 use Rattle.mq_kept.specs.Totals.{all_again, all_worked}
 use Rattle.mq_kept.specs.declared.again.Redone.{Redone}

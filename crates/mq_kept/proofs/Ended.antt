@@ -35,7 +35,7 @@ use Rattle.mq_kept.specs.KeptNodes.{IsKeptNode, coming_of}
 use Rattle.mq_kept.specs.Formers.{lists_before}
 use Rattle.mq_kept.specs.NodeRuns.{IsFaultAt, IsFaultOf, IsNodeKept, IsNodeRun, again_behind, blocks_at, came_before}
 use Rattle.mq_kept.specs.declared.checkpoints.Checkpoints.{Checkpoints}
-use Rattle.mq_kept.specs.declared.former.Former.TheVariants.{Same, Whole}
+use Rattle.mq_kept.specs.declared.former.Former.TheVariants.{Whole}
 use Rattle.mq_kept.specs.declared.former.NodeLists.{NodeLists}
 use Rattle.mq_kept.specs.declared.nodes.NodeRefusal.{NodeRefusal}
 use Rattle.mq_kept.specs.declared.nodes.NodeRun.{NodeRun}

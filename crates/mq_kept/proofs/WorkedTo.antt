@@ -1,5 +1,5 @@
 -- What a run that goes by rank has worked out in the place of a kept one, node after node.
-use Rattle.std.proofs.Common.{◌≡◌, ◌≢◌, ℕ, ◌+◌, ◌*◌, ◌^◌, ◌<◌, ◌≤◌, ◌⊎◌, inl, inr, All, List, [], length, set, take, Option, Some, None, refl, sym, ap, ◌∙◌, subst, arith}
+use Rattle.std.proofs.Common.{◌≡◌, ◌≢◌, ℕ, ◌+◌, ◌*◌, ◌^◌, ◌<◌, ◌≤◌, ◌⊎◌, inl, inr, All, List, length, set, take, Option, Some, None, refl, sym, ap, ◌∙◌, subst, arith}
 use Rattle.std.specs.Prelude.{slice_get, sum_by}
 use Rattle.std.proofs.lemmas.List.{length-set}
 use Rattle.std.proofs.lemmas.Option.{slice_get-get_or, slice_get_within}
@@ -21,19 +21,18 @@ use Rattle.mq_engine.specs.CoreLaws.{CoreLaws}
 use Rattle.mq_engine.specs.Progress.{AreEarly}
 use Rattle.mq_engine.specs.declared.fault.RunFault.{RunFault}
 use Rattle.mq_engine.specs.declared.fault.RunFault.TheVariants.{Memory, Over, Past}
-use Rattle.mq_kept.specs.Formers.{AreNodes, CanComeBack, HasLists, IsPut, lists_before, no_lists}
+use Rattle.mq_kept.specs.Formers.{AreNodes, CanComeBack, HasLists, IsPut, lists_before}
 use Rattle.mq_kept.specs.KeptNodes.{IsKeptNode, coming_of}
 use Rattle.mq_kept.specs.NodeRuns.{AreKept, AreNodesBefore, HasStayed, HaveStayed, IsFaultAt, IsNodeBefore, came_before, coming_to}
 use Rattle.mq_kept.specs.Totals.{all_again, all_worked, came_in_kept}
 use Rattle.mq_kept.specs.declared.again.Redone.{Redone}
 use Rattle.mq_kept.specs.declared.again.SoFar.{SoFar}
 use Rattle.mq_kept.specs.declared.checkpoints.Checkpoints.{Checkpoints}
-use Rattle.mq_kept.specs.declared.former.Former.{Former}
 use Rattle.mq_kept.specs.declared.former.Former.TheVariants.{Same}
 use Rattle.mq_kept.specs.declared.former.NodeLists.{NodeLists}
 use Rattle.mq_kept.specs.declared.former.Nodes.{Nodes}
 use Rattle.mq_kept.specs.declared.nodes.NodeRun.{NodeRun}
-use Rattle.mq_kept.proofs.CameBefore.{kept-came, kept-known}
+use Rattle.mq_kept.proofs.CameBefore.{kept-came}
 use Rattle.mq_kept.proofs.Formers.{comes-first, comes-put, lists-there, put-count}
 use Rattle.mq_kept.proofs.KeptNodes.{AreCheckpointsTo, coming-net, checkpoints-all, checkpoints-begin, checkpoints-more}
 use Rattle.mq_kept.proofs.Ranks.{IsDoneTo, decide-eq, done-begins, inside, is-fine, is-run, later-apart, more, rank-below, read-before, refuses, sum-more, sum-within}

@@ -199,7 +199,9 @@ fn begun<R: Threads + Sync, L: Ledger>(
     let formers = all_same(alloc, count)?;
     let nodes = no_nodes(alloc, count)?;
     let mut steps = Steps::<L>::new(blank);
-    match run_again(rt, alloc, plan, rows, None, nodes, formers, workers, block, &mut steps) {
+    match run_again(
+        rt, alloc, plan, rows, None, nodes, formers, workers, block, &mut steps,
+    ) {
         Ok(whole) => Ok(whole),
         Err(refusal) => Err(refusal.fault),
     }

@@ -1,8 +1,8 @@
-use Rattle.std.proofs.Common.{◌+◌, ◌<◌, ◌≤◌, ◌∙◌, ℕ, [], List, length, set, refl, sym, ap, subst, arith}
+use Rattle.std.proofs.Common.{◌+◌, ◌<◌, ◌≤◌, ◌∙◌, List, length, set, refl, sym, ap, subst, arith}
 use Rattle.mq_core.specs.declared.model.Stream.{Stream}
 use Rattle.mq_core.specs.declared.model.Visits.{Visits}
 use Rattle.mq_engine.specs.Answer.{IsCause}
-use Rattle.mq_kept.specs.Formers.{AreNodes, IsPut}
+use Rattle.mq_kept.specs.Formers.{IsPut}
 use Rattle.mq_kept.specs.NodeRuns.{AreKept, HaveStayed, earlier_rows}
 use Rattle.mq_kept.specs.declared.checkpoints.Checkpoints.{Checkpoints}
 use Rattle.mq_kept.specs.declared.former.NodeLists.{NodeLists}

@@ -1,9 +1,8 @@
 use Rattle.std.proofs.Common.{◌≡◌, ◌≤◌, length}
 use Rattle.std.specs.Vec.{vec_capacity}
-use Rattle.mq_kept.specs.Formers.{HasLists, no_lists}
-use Rattle.mq_kept.specs.declared.former.NodeLists.{NodeLists}
+use Rattle.mq_kept.specs.Formers.{no_lists}
 use Rattle.mq_kept.proofs.former.no_nodes.Given as goal
-use Rattle.std.proofs.Common.{All, [], ℕ}
+use Rattle.std.proofs.Common.{All, []}
 use Rattle.mq_kept.specs.declared.checkpoints.Checkpoints.TheVariants.{Nothing}
 
 abbrev pub invariant-loop : goal.invariant-loop

@@ -1,4 +1,4 @@
-use Rattle.std.proofs.Common.{◌≡◌, subst, sym}
+use Rattle.std.proofs.Common.{subst}
 use Rattle.mq_kept.specs.Formers.{AreNodes}
 use Rattle.mq_kept.proofs.Behind.{nothing-before}
 use Rattle.mq_kept.proofs.kept.begun.Goals as goal

@@ -1,4 +1,4 @@
-use Rattle.std.proofs.Common.{◌+◌, ◌≤◌, ◌∙◌, Some, refl, sym, subst, arith}
+use Rattle.std.proofs.Common.{◌∙◌, Some, refl, sym, subst, arith}
 use Rattle.mq_core.specs.declared.model.Rows.{Rows}
 use Rattle.mq_edits.specs.Edited.{edited_rows}
 use Rattle.mq_kept.specs.NodeRuns.{AreNodesBefore}
