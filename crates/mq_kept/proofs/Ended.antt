@@ -32,17 +32,20 @@ use Rattle.mq_exits.specs.declared.working.Ending.{Ending}
 use Rattle.mq_exits.specs.declared.working.NodeResult.{NodeResult}
 use Rattle.mq_kept.proofs.SameNodes.{visits-by}
 use Rattle.mq_kept.specs.KeptNodes.{IsKeptNode, coming_of}
-use Rattle.mq_kept.specs.NodeRuns.{IsFaultAt, IsFaultOf, IsNodeRun, again_behind, blocks_at}
+use Rattle.mq_kept.specs.Formers.{lists_before}
+use Rattle.mq_kept.specs.NodeRuns.{IsFaultAt, IsFaultOf, IsNodeKept, IsNodeRun, again_behind, blocks_at, came_before}
 use Rattle.mq_kept.specs.declared.checkpoints.Checkpoints.{Checkpoints}
-use Rattle.mq_kept.specs.declared.nodes.Before.{Before}
+use Rattle.mq_kept.specs.declared.former.Former.TheVariants.{Whole}
+use Rattle.mq_kept.specs.declared.former.NodeLists.{NodeLists}
+use Rattle.mq_kept.specs.declared.nodes.NodeRefusal.{NodeRefusal}
 use Rattle.mq_kept.specs.declared.nodes.NodeRun.{NodeRun}
 use Rattle.mq_merge.specs.Borrowed.{stream_in}
 use Rattle.mq_redo.specs.Kept.{coming_as}
-use Rattle.std.proofs.Common.{◌≡◌, ℕ, zero, suc, ◌^◌, ◌<◌, ◌≤◌, List, [], ◌∷◌, ◌++◌, length, get_or, Some, refl, sym, ap, ◌∙◌, subst, arith}
+use Rattle.std.proofs.Common.{◌≡◌, ℕ, zero, suc, ◌^◌, ◌<◌, ◌≤◌, List, [], ◌∷◌, ◌++◌, length, get_or, Option, Some, refl, sym, ap, ◌∙◌, subst, arith}
 use Rattle.std.proofs.lemmas.List.{length-map}
 use Rattle.std.proofs.lemmas.Option.{slice_get-get_or}
 use Rattle.std.specs.List.{AllByRecursion as Each}
-use Rattle.std.specs.Prelude.{Contains, IfErr, IfOk, Result, Ok, Err, slice_get}
+use Rattle.std.specs.Prelude.{Contains, IfErr, IfOk, OnOk, Result, Ok, Err, slice_get}
 
 -- the only node that is ready
 pub contains-one : (v w : ℕ) → Contains (v ∷ []) w → w ≡ v
@@ -109,8 +112,8 @@ pub ended-known : (plan : Plan) (rows : Rows) (v : ℕ) (results : List NodeResu
 ended-known plan rows v results r e all = result-at plan rows v r (subst (Each (IsResultOf plan rows (v ∷ []))) e all).0
 
 -- how it ended
-pub ended-fault : (plan : Plan) (rows : Rows) (v : ℕ) (ending : Ending) (result : Result NodeRun RunFault) → IsWorkedOut plan rows (record { number = v; ending = ending }) → IfErr result (IsFaultOf ending) → IfErr result (IsFaultAt plan rows v)
-ended-fault plan rows v ending (Ok gives) w h = tt
+pub ended-fault : (plan : Plan) (rows : Rows) (v : ℕ) (ending : Ending) (result : Result NodeLists RunFault) → IsWorkedOut plan rows (record { number = v; ending = ending }) → IfErr result (IsFaultOf ending) → IfErr result (IsFaultAt plan rows v)
+ended-fault plan rows v ending (Ok lists) w h = tt
 ended-fault plan rows v ending (Err fault) w h = fault-at plan rows v ending fault w h
 
 -- the only result of a station that was held is how it ended
@@ -121,35 +124,50 @@ held-known held completion list results r e known only =
     let own = subst (Each (λ (l : Emptied). IsLoadOf held.plan.now held.rows.now ready l.held)) (sym e) ((refl, refl, (0, omega arith, refl)), tt) in
     ended-known held.plan.now held.rows.now held.number results r only (known held.plan.now held.rows.now ready own)
 
--- what it gives
-pub ended-on_time : (plan : Plan) (rows : Rows) (v : ℕ) (ending : Ending) (result : Result NodeRun RunFault) → IsWorkedOut plan rows (record { number = v; ending = ending }) → IfOk result (λ gives. ending ≡ OnTime gives.visits gives.streams) →
-    IfOk result (λ gives. IsWorkedOut plan rows (record { number = v; ending = OnTime gives.visits gives.streams }))
-ended-on_time plan rows v ending (Ok gives) w e = ended-so plan rows v ending (OnTime gives.visits gives.streams) e w
+-- its lists
+pub ended-on_time : (plan : Plan) (rows : Rows) (v : ℕ) (ending : Ending) (result : Result NodeLists RunFault) → IsWorkedOut plan rows (record { number = v; ending = ending }) → IfOk result (λ lists. ending ≡ OnTime lists.visits lists.streams) →
+    IfOk result (λ lists. IsWorkedOut plan rows (record { number = v; ending = OnTime lists.visits lists.streams }))
+ended-on_time plan rows v ending (Ok lists) w e = ended-so plan rows v ending (OnTime lists.visits lists.streams) e w
 ended-on_time plan rows v ending (Err fault) w e = tt
 
-pub ended-checkpoints : (laws : CoreLaws) (plan : Plan) (rows : Rows) (v block : ℕ) (arrivals : Stream) (ending : Ending) (checkpoints : Checkpoints) (result : Result NodeRun RunFault) → IsReadFor plan.net rows → IsLoaded plan rows v arrivals → IsWorkedOut plan rows (record { number = v; ending = ending }) →
-    IfOk result (λ gives. ending ≡ OnTime gives.visits gives.streams) → IfOk result (λ gives. gives.checkpoints ≡ checkpoints) →
+pub ended-checkpoints : (laws : CoreLaws) (plan : Plan) (rows : Rows) (v block : ℕ) (arrivals : Stream) (ending : Ending) (checkpoints : Checkpoints) (result : Result NodeLists RunFault) → IsReadFor plan.net rows → IsLoaded plan rows v arrivals → IsWorkedOut plan rows (record { number = v; ending = ending }) →
+    IfOk result (λ lists. ending ≡ OnTime lists.visits lists.streams) → IfOk result (λ lists. lists.checkpoints ≡ checkpoints) →
     ((node : Node) → slice_get plan.net.nodes v ≡ Some node → IsKeptNode node.kind (coming_as rows arrivals) block (sequence_fates rows node.kind (came_in arrivals)) checkpoints) →
-    IfOk result (λ gives. (node : Node) → slice_get plan.net.nodes v ≡ Some node → IsKeptNode node.kind (coming_of rows gives.visits) block gives.visits.fate gives.checkpoints)
-ended-checkpoints laws plan rows v block arrivals ending checkpoints (Ok gives) read loaded w e m kept =
-    worked-checkpoints laws plan rows v block arrivals gives.visits gives.streams gives.checkpoints read loaded (ended-so plan rows v ending (OnTime gives.visits gives.streams) e w)
+    IfOk result (λ lists. (node : Node) → slice_get plan.net.nodes v ≡ Some node → IsKeptNode node.kind (coming_of rows lists.visits) block lists.visits.fate lists.checkpoints)
+ended-checkpoints laws plan rows v block arrivals ending checkpoints (Ok lists) read loaded w e m kept =
+    worked-checkpoints laws plan rows v block arrivals lists.visits lists.streams lists.checkpoints read loaded (ended-so plan rows v ending (OnTime lists.visits lists.streams) e w)
     (λ node there. subst (IsKeptNode node.kind (coming_as rows arrivals) block (sequence_fates rows node.kind (came_in arrivals))) (sym m) (kept node there))
 ended-checkpoints laws plan rows v block arrivals ending checkpoints (Err fault) read loaded w e m kept = tt
 
--- What a station gives that was gone through again.
-pub station-ended : (s : Arriving) (before : Before) (v : ℕ) (result : Result NodeRun RunFault) (again all : ℕ) → again ≡ again_behind s before v → all ≡ blocks_at s v → again < 2 ^ 32 → all < 2 ^ 32 →
-    IfOk result (λ gives. IsWorkedOut s.plan.now s.rows.now (record { number = v; ending = OnTime gives.visits gives.streams })) →
-    IfOk result (λ gives. (node : Node) → slice_get s.plan.now.net.nodes v ≡ Some node → IsKeptNode node.kind (coming_of s.rows.now gives.visits) s.block gives.visits.fate gives.checkpoints) →
-    IfOk result (λ gives. gives.again ≡ again) → IfOk result (λ gives. gives.all ≡ all) → IfOk result (IsNodeRun s before v)
-station-ended s before v (Ok gives) again all a b few few' known checkpoints c d = record {
-  known = known;
-  checkpoints = checkpoints;
-  again = c ∙ a;
-  all = d ∙ b;
-  again_few = subst (λ (n : ℕ). n < 2 ^ 32) (sym c) few;
-  all_few = subst (λ (n : ℕ). n < 2 ^ 32) (sym d) few';
+-- What a node gives whose lists were made anew.
+pub changed-run : (s : Arriving) (old : Option Rows) (lists : NodeLists) (v again all : ℕ) (made : Result NodeLists RunFault) (result : Result NodeRun NodeRefusal) → again ≡ again_behind s (came_before s.rows.now old lists) v → all ≡ blocks_at s v → again < 2 ^ 32 → all < 2 ^ 32 →
+    IfOk made (IsNodeKept s.plan.now s.rows.now s.block v) → IfOk result (λ gives. (made ≡ Ok gives.lists) × (gives.former ≡ Whole lists) × (gives.again ≡ again) × (gives.all ≡ all)) → IfOk result (IsNodeRun s old lists v)
+changed-run s old lists v again all made (Ok gives) a b few few' kept h = record {
+  kept = subst (λ r. IfOk r (IsNodeKept s.plan.now s.rows.now s.block v)) h.0 kept;
+  back = ap (λ f. lists_before f gives.lists) h.1;
+  stayed = λ same. absurd (let differ = sym h.1 ∙ same in cc);
+  again = h.2 ∙ a;
+  all = h.3 ∙ b;
+  again_few = subst (λ (n : ℕ). n < 2 ^ 32) (sym h.2) few;
+  all_few = subst (λ (n : ℕ). n < 2 ^ 32) (sym h.3) few';
 }
-station-ended s before v (Err fault) again all a b few few' known checkpoints c d = tt
+changed-run s old lists v again all made (Err refusal) a b few few' kept h = tt
+
+-- what holds where they were made
+pub changed-ok : (X : Type 0) (lists : NodeLists) (again all : ℕ) (made : Result NodeLists RunFault) (result : Result NodeRun NodeRefusal) → OnOk made X → IfOk result (λ gives. (made ≡ Ok gives.lists) × (gives.former ≡ Whole lists) × (gives.again ≡ again) × (gives.all ≡ all)) → OnOk result X
+changed-ok X lists again all made (Ok gives) ok h = subst (λ r. OnOk r X) h.0 ok
+changed-ok X lists again all made (Err refusal) ok h = tt
+
+-- what is kept of lists that were made
+pub kept-lists : (plan : Plan) (rows : Rows) (v block : ℕ) (made : Result NodeLists RunFault) → IfOk made (λ lists. IsWorkedOut plan rows (record { number = v; ending = OnTime lists.visits lists.streams })) →
+    IfOk made (λ lists. (node : Node) → slice_get plan.net.nodes v ≡ Some node → IsKeptNode node.kind (coming_of rows lists.visits) block lists.visits.fate lists.checkpoints) → IfOk made (IsNodeKept plan rows block v)
+kept-lists plan rows v block (Ok lists) known checkpoints = record { known = known; checkpoints = checkpoints }
+kept-lists plan rows v block (Err fault) known checkpoints = tt
+
+-- or the cause
+pub changed-cause : (plan : Plan) (rows : Rows) (lists : NodeLists) (v : ℕ) (made : Result NodeLists RunFault) (result : Result NodeRun NodeRefusal) → IfErr made (IsFaultAt plan rows v) → IfErr result (λ refusal. (made ≡ Err refusal.fault) × (refusal.lists ≡ lists)) → IfErr result (λ refusal. IsFaultAt plan rows v refusal.fault)
+changed-cause plan rows lists v made (Ok gives) cause h = tt
+changed-cause plan rows lists v made (Err refusal) cause h = subst (λ r. IfErr r (IsFaultAt plan rows v)) h.0 cause
 
 -- what is held is what came to the one station
 pub loaded-at : (held : Held) (plan : Plan) (rows : Rows) (v : ℕ) (arrivals : Stream) → IsReadyLoad held → held.plan.now ≡ plan → held.rows.now ≡ rows → held.number ≡ v → arrivals ≡ stream_in held.arrivals → IsLoaded plan rows v arrivals

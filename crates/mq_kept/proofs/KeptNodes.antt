@@ -5,19 +5,14 @@ use Rattle.std.proofs.lemmas.List.{length-set}
 use Rattle.mq_base.proofs.lemmas.Lists.{get-set_other, get-set_same, some_inj}
 use Rattle.mq_alike.specs.Again.{Coming, coming_in}
 use Rattle.mq_core.specs.NetworkRun.{RunsAreOfNetworks}
-use Rattle.mq_core.specs.RunLaws.{RunsHaveSequences}
 use Rattle.mq_core.specs.SequenceLaws.{arrives_of, jobs_of}
 use Rattle.mq_core.specs.Local.{Local}
 use Rattle.mq_core.specs.Machine.{State}
-use Rattle.mq_core.specs.Results.{visits_of}
-use Rattle.mq_core.specs.Sequences.{IsRunOf}
-use Rattle.mq_core.specs.StandardTable.{run_of}
 use Rattle.mq_core.specs.declared.model.Node.{Node}
 use Rattle.mq_core.specs.declared.model.Plan.{Plan}
 use Rattle.mq_core.specs.declared.model.Rows.{Rows}
-use Rattle.mq_core.specs.declared.model.Run.{Run}
 use Rattle.mq_core.specs.declared.model.Visits.{Visits}
-use Rattle.mq_kept.specs.KeptNodes.{AreCheckpoints, IsKeptNode, coming_by, coming_of}
+use Rattle.mq_kept.specs.KeptNodes.{AreCheckpoints, IsKeptNode, coming_of}
 use Rattle.mq_kept.specs.NodeRuns.{coming_to}
 use Rattle.mq_kept.specs.declared.checkpoints.Checkpoints.{Checkpoints}
 use Rattle.mq_kept.proofs.Ranks.{decide-eq, has-rank, rank-below}
@@ -63,15 +58,9 @@ checkpoints-all plan rows block visits checkpoints rank all was = record {
       was.each index.0 v node seen points (omega arith) index.2 a b c;
 }
 
--- What comes to a node in a run is what comes to it in that of the network, and what its visits have.
+-- What comes to a node in a run is what comes to it in that of the network.
 pub coming-net : RunsAreOfNetworks → (plan : Plan) (rows : Rows) (v : ℕ) → coming_to plan rows v ≡ coming_in plan.net rows v
 coming-net same plan rows v = ap (λ (end : State Local). at end) (same plan rows).0
   where
     at : State Local → Coming
     at end = record { rows = rows; job = jobs_of (end.stations v).visits; arrive = arrives_of (end.stations v).visits }
-
-pub coming-seen : (plan : Plan) (rows : Rows) (v : ℕ) (node : Node) (seen : Visits) → seen ≡ visits_of node.kind ((run_of plan rows).stations v) → coming_of rows seen ≡ coming_to plan rows v
-coming-seen plan rows v node seen e = ap (coming_of rows) e
-
-pub coming-run : RunsHaveSequences → (plan : Plan) (rows : Rows) (run : Run) (v : ℕ) (node : Node) → IsRunOf plan rows run → slice_get plan.net.nodes v ≡ Some node → coming_by rows (slice_get run.visits v) ≡ coming_to plan rows v
-coming-run have plan rows run v node is_run there = ap (coming_by rows) (have plan rows run is_run v node there).visits

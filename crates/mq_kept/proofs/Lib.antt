@@ -2,6 +2,7 @@ pub mod Asking
 pub mod Behind
 pub mod CameBefore
 pub mod Ended
+pub mod Formers
 pub mod KeptNodes
 pub mod KeptRuns
 pub mod None

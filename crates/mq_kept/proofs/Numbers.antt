@@ -1,5 +1,5 @@
 -- How many blocks of a node are done again, and how many it has.
-use Rattle.mq_alike.specs.Again.{Coming, again_at, again_of, alike, blocks_in, blocks_of, is_counted, is_worked, worked_of}
+use Rattle.mq_alike.specs.Again.{Coming, again_at, again_of, alike, alike_from, blocks_in, blocks_of, is_counted, is_worked, worked_of}
 use Rattle.mq_alike.proofs.Bounded.{worked-within}
 use Rattle.mq_arrivals.specs.declared.nodes.Arriving.{Arriving}
 use Rattle.mq_base.proofs.lemmas.Lists.{get-some}
@@ -10,13 +10,11 @@ use Rattle.mq_core.specs.declared.model.Node.{Node}
 use Rattle.mq_core.specs.declared.model.Stream.{Stream}
 use Rattle.mq_engine.specs.Apart.{CanGather}
 use Rattle.mq_exits.specs.Loads.{IsLoaded}
-use Rattle.mq_kept.proofs.CameBefore.{nothing-came}
 use Rattle.mq_kept.proofs.SameNodes.{coming-is}
 use Rattle.mq_kept.specs.KeptNodes.{blocks_behind}
-use Rattle.mq_kept.specs.NodeRuns.{again_behind, blocks_at, came_before, coming_to, worked_behind}
-use Rattle.mq_kept.specs.declared.nodes.Before.{Before}
+use Rattle.mq_kept.specs.NodeRuns.{again_behind, blocks_at, coming_to, worked_behind}
 use Rattle.mq_redo.specs.Kept.{coming_as}
-use Rattle.std.proofs.Common.{◌≡◌, ◌==◌, ◌&&◌, ℕ, zero, suc, ◌+◌, ◌-◌, ◌*◌, ◌/◌, ◌<◌, ◌≤◌, ◌⊎◌, inl, inr, Bool, true, false, cond, [], length, Some, refl, sym, ap, ◌∙◌, arith}
+use Rattle.std.proofs.Common.{◌≡◌, ◌==◌, ◌&&◌, ℕ, zero, suc, ◌+◌, ◌-◌, ◌*◌, ◌/◌, ◌<◌, ◌≤◌, ◌⊎◌, inl, inr, Bool, true, false, cond, List, [], length, Some, refl, sym, ap, ◌∙◌, arith}
 use Rattle.std.proofs.lemmas.Bool.Decides.{nat_tests}
 use Rattle.std.proofs.lemmas.Nat.{div-mul-add}
 use Rattle.std.specs.Prelude.{slice_get}
@@ -104,54 +102,54 @@ pub numbers-all : (block : ℕ) (node : Node) (new is : Coming) (jobs size all :
 numbers-all block node new is jobs size all c d e h = h ∙ ((λ i. cond (is_counted node.kind) (blocks_in (d i) (c i)) 0) ∙ (λ i. blocks_of block (Some node) (e i)))
 
 -- Of a station that is gone through again the two numbers, and what it spends.
-module _ (s : Arriving) (before : Before) (v : ℕ) (node : Node) (arrivals : Stream) (there : slice_get s.plan.now.net.nodes v ≡ Some node) (loaded : IsLoaded s.plan.now s.rows.now v arrivals) where
+module _ (s : Arriving) (old : Coming) (v : ℕ) (node : Node) (arrivals : Stream) (there : slice_get s.plan.now.net.nodes v ≡ Some node) (loaded : IsLoaded s.plan.now s.rows.now v arrivals) where
   abbrev is-coming : coming_as s.rows.now arrivals ≡ coming_to s.plan.now s.rows.now v
   is-coming = coming-is s.plan.now s.rows.now v arrivals loaded.came
 
-  pub station-again : (same visits jobs size again : ℕ) → same ≡ alike node.kind (came_before before v) (coming_as s.rows.now arrivals) → visits ≡ length (came_before before v).job → jobs ≡ length arrivals.job → size ≡ s.block →
-      again ≡ cond (is_counted node.kind) (cond ((same == visits) && (same == jobs)) 0 (blocks_in size jobs - same / size)) 0 → again ≡ again_behind s before v
+  pub station-again : (same visits jobs size again : ℕ) → same ≡ alike node.kind old (coming_as s.rows.now arrivals) → visits ≡ length old.job → jobs ≡ length arrivals.job → size ≡ s.block →
+      again ≡ cond (is_counted node.kind) (cond ((same == visits) && (same == jobs)) 0 (blocks_in size jobs - same / size)) 0 → again ≡ again_behind s old v
   station-again same visits jobs size again a b c d h =
-      numbers-again s.block node (came_before before v) (coming_as s.rows.now arrivals) (coming_to s.plan.now s.rows.now v) same visits jobs size again a b c d is-coming h
-      ∙ ap (λ o. again_of s.block o (came_before before v) (coming_to s.plan.now s.rows.now v)) (sym there)
+      numbers-again s.block node old (coming_as s.rows.now arrivals) (coming_to s.plan.now s.rows.now v) same visits jobs size again a b c d is-coming h
+      ∙ ap (λ o. again_of s.block o old (coming_to s.plan.now s.rows.now v)) (sym there)
 
   pub station-all : (jobs size all : ℕ) → jobs ≡ length arrivals.job → size ≡ s.block → all ≡ cond (is_counted node.kind) (blocks_in size jobs) 0 → all ≡ blocks_at s v
   station-all jobs size all c d h =
       numbers-all s.block node (coming_as s.rows.now arrivals) (coming_to s.plan.now s.rows.now v) jobs size all c d is-coming h ∙ ap (λ o. blocks_of s.block o (coming_to s.plan.now s.rows.now v)) (sym there)
 
   -- there is a difference, or nothing comes and nothing came
-  differs-so : (same visits count : ℕ) → same ≡ alike node.kind (came_before before v) (coming_as s.rows.now arrivals) → visits ≡ length (came_before before v).job → count ≡ length arrivals.job → (before.visits.now ≡ []) ⊎ (((same == visits) && (same == count)) ≡ false) →
-      (length arrivals.job ≡ 0) ⊎ (((same == length (came_before before v).job) && (same == length arrivals.job)) ≡ false)
+  differs-so : (same visits count : ℕ) → same ≡ alike node.kind old (coming_as s.rows.now arrivals) → visits ≡ length old.job → count ≡ length arrivals.job → (old.job ≡ []) ⊎ (((same == visits) && (same == count)) ≡ false) →
+      (length arrivals.job ≡ 0) ⊎ (((same == length old.job) && (same == length arrivals.job)) ≡ false)
   differs-so same visits count a b c (inr e) = inr (sym (λ i. (same == b i) && (same == c i)) ∙ e)
   differs-so same visits count a b c (inl none) = go (length arrivals.job) refl
     where
       none-same : same ≡ 0
-      none-same = a ∙ ap (λ (x : Coming). alike node.kind x (coming_as s.rows.now arrivals)) (nothing-came before v none)
+      none-same = a ∙ ap (λ (jobs : List ℕ). alike_from node.kind old.rows jobs old.arrive s.rows.now arrivals.job arrivals.time) none
 
-      none-old : length (came_before before v).job ≡ 0
-      none-old = ap (λ (x : Coming). length x.job) (nothing-came before v none)
+      none-old : length old.job ≡ 0
+      none-old = ap length none
 
-      go : (n : ℕ) → length arrivals.job ≡ n → (length arrivals.job ≡ 0) ⊎ (((same == length (came_before before v).job) && (same == length arrivals.job)) ≡ false)
+      go : (n : ℕ) → length arrivals.job ≡ n → (length arrivals.job ≡ 0) ⊎ (((same == length old.job) && (same == length arrivals.job)) ≡ false)
       go zero e = inl e
       go (suc n) e =
           let other : (0 == suc n) ≡ false = grind (arith, nat_tests) in
           inr ((λ i. (none-same i == none-old i) && (none-same i == e i)) ∙ other)
 
-  pub station-worked : (same visits count first : ℕ) → 1 ≤ s.block → same ≡ alike node.kind (came_before before v) (coming_as s.rows.now arrivals) → visits ≡ length (came_before before v).job → count ≡ length arrivals.job → (before.visits.now ≡ []) ⊎ (((same == visits) && (same == count)) ≡ false) → first ≡ same / s.block →
-      blocks_behind s.block node.kind (length arrivals.job) first ≡ worked_behind s before v
+  pub station-worked : (same visits count first : ℕ) → 1 ≤ s.block → same ≡ alike node.kind old (coming_as s.rows.now arrivals) → visits ≡ length old.job → count ≡ length arrivals.job → (old.job ≡ []) ⊎ (((same == visits) && (same == count)) ≡ false) → first ≡ same / s.block →
+      blocks_behind s.block node.kind (length arrivals.job) first ≡ worked_behind s old v
   station-worked same visits count first some a b c differ f =
       ap (blocks_behind s.block node.kind (length arrivals.job)) f
-      ∙ (behind-again s.block node.kind (came_before before v) (coming_as s.rows.now arrivals) same some a (differs-so same visits count a b c differ)
-      ∙ ((λ i. worked_of s.block (Some node) (came_before before v) (is-coming i)) ∙ ap (λ o. worked_of s.block o (came_before before v) (coming_to s.plan.now s.rows.now v)) (sym there)))
+      ∙ (behind-again s.block node.kind old (coming_as s.rows.now arrivals) same some a (differs-so same visits count a b c differ)
+      ∙ ((λ i. worked_of s.block (Some node) old (is-coming i)) ∙ ap (λ o. worked_of s.block o old (coming_to s.plan.now s.rows.now v)) (sym there)))
 
 -- where no block is done again none is worked
-pub none-worked : (s : Arriving) (before : Before) (v : ℕ) (again : ℕ) → again ≡ again_behind s before v → again ≡ 0 → worked_behind s before v ≡ 0
-none-worked s before v again is none =
-    let within = worked-within s.block (slice_get s.plan.now.net.nodes v) (came_before before v) (coming_to s.plan.now s.rows.now v) in
+pub none-worked : (s : Arriving) (old : Coming) (v : ℕ) (again : ℕ) → again ≡ again_behind s old v → again ≡ 0 → worked_behind s old v ≡ 0
+none-worked s old v again is none =
+    let within = worked-within s.block (slice_get s.plan.now.net.nodes v) old (coming_to s.plan.now s.rows.now v) in
     omega arith
 
 -- so none of a fork or a join
-pub apart-worked : (s : Arriving) (before : Before) (v : ℕ) → v < length s.plan.now.net.nodes → CanGather s.plan.now s.rows.now s.outputs.now v → worked_behind s before v ≡ 0
-apart-worked s before v inside can =
+pub apart-worked : (s : Arriving) (old : Coming) (v : ℕ) → v < length s.plan.now.net.nodes → CanGather s.plan.now s.rows.now s.outputs.now v → worked_behind s old v ≡ 0
+apart-worked s old v inside can =
     let at = get-some s.plan.now.net.nodes v inside in
     let new = coming_to s.plan.now s.rows.now v in
-    ap (λ o. worked_of s.block o (came_before before v) new) at.1 ∙ ap (λ b. cond b (again_at s.block at.0.kind (came_before before v) new) 0) (apart-unworked at.0.kind (can.apart at.0 at.1))
+    ap (λ o. worked_of s.block o old new) at.1 ∙ ap (λ b. cond b (again_at s.block at.0.kind old new) 0) (apart-unworked at.0.kind (can.apart at.0 at.1))

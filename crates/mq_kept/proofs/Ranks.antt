@@ -1,12 +1,11 @@
 -- A run that goes node after node by rank: those of lower rank are done, and the others wait.
-use Rattle.std.proofs.Common.{◌≡◌, ◌≢◌, ℕ, zero, suc, ◌+◌, ◌<◌, ◌≤◌, ◌⊎◌, inl, inr, All, Bool, true, false, List, [], ◌∷◌, length, replicate, set, take, Some, None, refl, sym, ap, ◌∙◌, subst, arith}
+use Rattle.std.proofs.Common.{◌≡◌, ◌≢◌, ℕ, zero, suc, ◌+◌, ◌<◌, ◌≤◌, ◌⊎◌, inl, inr, Bool, true, false, List, [], ◌∷◌, length, replicate, set, take, Some, None, refl, sym, ap, ◌∙◌, subst, arith}
 use Rattle.std.specs.Prelude.{◌==◌, ◌&&◌, ◌||◌, slice_get, sum_by}
 use Rattle.std.specs.Option.{option_map}
 use Rattle.std.specs.List.{list_all}
 use Rattle.std.proofs.lemmas.Bool.{cases_lt}
 use Rattle.std.proofs.lemmas.Bool.Decides.{nat_tests}
-use Rattle.std.proofs.lemmas.List.{get_or-replicate, length-replicate}
-use Rattle.std.proofs.lemmas.List.Elements.{All-replicate}
+use Rattle.std.proofs.lemmas.List.{get_or-replicate, length-replicate, length-set}
 use Rattle.std.proofs.lemmas.List.Sums.{sum_by_more, sum_by-take-le}
 use Rattle.std.proofs.lemmas.Option.{get_or_from_slice_get, slice_get-get_or, slice_get-map, slice_get_within}
 use Rattle.mq_base.proofs.lemmas.Lists.{get-set_other, get-set_same, get-some, get-take, some_inj}
@@ -25,14 +24,14 @@ use Rattle.mq_arrivals.specs.declared.nodes.Arriving.{Arriving}
 use Rattle.mq_exits.specs.Results.{IsKnown}
 use Rattle.mq_exits.specs.declared.working.Ending.TheVariants.{OnTime}
 use Rattle.mq_engine.specs.CoreLaws.{CoreLaws}
-use Rattle.mq_engine.specs.Progress.{HasAll, IsReached, is_done, is_read, is_ready, is_waiting, reads_done, stands_at}
+use Rattle.mq_engine.specs.Progress.{AreEarly, HasAll, IsReached, Tells, is_done, is_read, is_ready, is_waiting, reads_done, stands_at}
 use Rattle.mq_engine.specs.Waves.{IsWave}
 use Rattle.mq_engine.specs.declared.progress.Stand.{Stand}
-use Rattle.mq_engine.specs.declared.progress.Stand.TheVariants.{Waiting, Done}
+use Rattle.mq_engine.specs.declared.progress.Stand.TheVariants.{Waiting, Done, Crowded, Late}
 use Rattle.mq_engine.proofs.Endings.{each-done, none-refused, reached-stands, run-done}
 use Rattle.mq_engine.proofs.Lists.{has-index}
-use Rattle.mq_engine.proofs.Settling.{reached-begins}
 use Rattle.mq_engine.proofs.Waves.{has-all, put-keeps}
+use Rattle.mq_stations.specs.Leaving.{IsEarlyStream}
 
 -- what is worked out so far is what the run has at the nodes below a rank, and nothing stands at the others yet
 pub record IsDoneTo (plan : Plan) (rows : Rows) (visits : List Visits) (outputs : List (List Stream)) (rank : ℕ) : Type 0 where
@@ -48,12 +47,20 @@ get-replicate n k x l =
     slice_get-get_or (replicate n x) k x inside ∙ ap Some (get_or-replicate n k x x l)
 
 -- before the first rank none is
-pub done-begins : (laws : CoreLaws) (plan : Plan) (rows : Rows) (visits : List Visits) (outputs : List (List Stream)) → length visits ≡ length plan.net.nodes → length outputs ≡ length plan.net.nodes → All (λ streams. streams ≡ []) outputs →
-    IsDoneTo plan rows visits outputs 0
-done-begins laws plan rows visits outputs came left none =
+pub done-begins : (laws : CoreLaws) (plan : Plan) (rows : Rows) (visits : List Visits) (outputs : List (List Stream)) → length visits ≡ length plan.net.nodes → length outputs ≡ length plan.net.nodes → AreEarly outputs → IsDoneTo plan rows visits outputs 0
+done-begins laws plan rows visits outputs came left early =
+    let stands = replicate (length plan.net.nodes) Waiting in
     record {
-      stands = replicate (length plan.net.nodes) Waiting;
-      reached = reached-begins plan rows visits outputs (replicate (length plan.net.nodes) Waiting) came left none (length-replicate (length plan.net.nodes) Waiting) (All-replicate (λ stand. is_waiting stand ≡ true) (length plan.net.nodes) Waiting refl);
+      stands = stands;
+      reached = record {
+        came = came;
+        left = left;
+        stand = length-replicate (length plan.net.nodes) Waiting;
+        told = λ v node at there e.
+            let waiting : at ≡ Waiting = some_inj at Waiting (sym e ∙ get-replicate (length plan.net.nodes) v Waiting (slice_get_within plan.net.nodes v node there)) in
+            subst (Tells plan rows visits outputs v node) (sym waiting) tt;
+        early = early;
+      };
       done = λ q v l e. absurd (omega arith);
       waits = λ q v l e. get-replicate (length plan.net.nodes) v Waiting (laws.ranks plan q v e).inside;
     }
@@ -97,15 +104,21 @@ module _ (laws : CoreLaws) (plan : Plan) (rows : Rows) (visits : List Visits) (o
   pub inside : v < length plan.net.nodes
   inside = (laws.ranks plan rank v here).inside
 
+  -- what it reads stands below it
+  pub read-before : (node : Node) → slice_get plan.net.nodes v ≡ Some node → (port : ℕ) (input : Input) → slice_get node.inputs port ≡ Some input → (q : ℕ) × (q < rank) × (slice_get plan.order q ≡ Some input.node)
+  read-before node there port input g =
+      let before = (laws.ranks plan rank v here).reads port (input.node, input.out) (ap (λ o. slice_get (outputs_read o) port) there ∙ (slice_get-map _ node.inputs port ∙ ap (option_map (λ (i : Input). (i.node, i.out))) g)) in
+      let index = has-index (take rank plan.order) input.node before in
+      let front = get-take plan.order rank index.0 input.node index.1 in
+      (index.0, front.0, front.1)
+
   -- the next node can be worked out: all that it reads is done
   ready : is_ready plan.net.nodes d.stands v ≡ true
   ready =
       let node = get-some plan.net.nodes v inside in
       let reads : list_all (is_read d.stands) node.0.inputs ≡ true = all-pass (is_read d.stands) node.0.inputs (λ port input g.
-      let before = (laws.ranks plan rank v here).reads port (input.node, input.out) (ap (λ o. slice_get (outputs_read o) port) node.1 ∙ (slice_get-map _ node.0.inputs port ∙ ap (option_map (λ (i : Input). (i.node, i.out))) g)) in
-      let index = has-index (take rank plan.order) input.node before in
-      let front = get-take plan.order rank index.0 input.node index.1 in
-      ap (stands_at is_done) (d.done index.0 input.node front.0 front.1)) in
+      let front = read-before node.0 node.1 port input g in
+      ap (stands_at is_done) (d.done front.0 input.node front.1 front.2)) in
       (λ k. stands_at is_waiting (d.waits rank v (omega arith) here k) && reads_done d.stands (node.1 k)) ∙ reads
 
   pub comes : IsReadFor plan.net rows → HasAll plan rows outputs v
@@ -115,6 +128,48 @@ module _ (laws : CoreLaws) (plan : Plan) (rows : Rows) (visits : List Visits) (o
   pub refuses : IsReadFor plan.net rows → (node : Node) (refusal : Refusal) → slice_get plan.net.nodes v ≡ Some node → sequence_refusal plan.net.bound v (visits_of node.kind ((run_of plan rows).stations v)) ≡ Some refusal → refusal_of plan rows ≡ Some refusal
   refuses read node refusal there h = laws.first plan rows read rank v node refusal here there (λ q w n l g t. (d.reached.told w n Done t (d.done q w l g)).1) h
 
+  -- no later one is the same
+  pub later-apart : (q w : ℕ) → rank + 1 ≤ q → slice_get plan.order q ≡ Some w → w ≢ v
+  later-apart q w l g same =
+      let once = (laws.ranks plan q w g).once in
+      let twice = has-front plan.order q rank w (omega arith) (here ∙ ap Some (sym same)) in
+      absurd cc
+
+  -- while its lists are taken the others are done so far
+  pub taken-done : (came : Visits) → IsDoneTo plan rows (set visits v came) (set outputs v []) rank
+  taken-done came =
+      record {
+        stands = d.stands;
+        reached = record {
+          came = length-set visits v came ∙ d.reached.came;
+          left = length-set outputs v [] ∙ d.reached.left;
+          stand = d.reached.stand;
+          told = λ w node at there e. told w node at there e (decide-eq w v);
+          early = λ u out streams stream a b. early u out streams stream a b (decide-eq u v);
+        };
+        done = d.done;
+        waits = d.waits;
+      }
+    where
+      others : (w : ℕ) (node : Node) → w ≢ v → (at : Stand) → Tells plan rows visits outputs w node at → Tells plan rows (set visits v came) (set outputs v []) w node at
+      others w node apart Waiting h = tt
+      others w node apart Done h = (record { visits = get-set_other visits v w came apart ∙ h.0.visits; outputs = get-set_other outputs v w [] apart ∙ h.0.outputs }, h.1)
+      others w node apart (Crowded fault) h = h
+      others w node apart (Late fault) h = h
+
+      told : (w : ℕ) (node : Node) (at : Stand) → slice_get plan.net.nodes w ≡ Some node → slice_get d.stands w ≡ Some at → (w ≡ v) ⊎ (w ≢ v) → Tells plan rows (set visits v came) (set outputs v []) w node at
+      told w node at there e (inl same) =
+          let waiting : at ≡ Waiting = some_inj at Waiting (sym e ∙ (ap (slice_get d.stands) same ∙ d.waits rank v (omega arith) here)) in
+          subst (Tells plan rows (set visits v came) (set outputs v []) w node) (sym waiting) tt
+      told w node at there e (inr apart) = others w node apart at (d.reached.told w node at there e)
+
+      early : (u out : ℕ) (streams : List Stream) (stream : Stream) → slice_get (set outputs v []) u ≡ Some streams → slice_get streams out ≡ Some stream → (u ≡ v) ⊎ (u ≢ v) → IsEarlyStream stream
+      early u out streams stream a b (inl same) =
+          let none : [] ≡ streams = some_inj [] streams (sym (get-set_same outputs v [] (subst (λ m. v < m) (sym d.reached.left) inside)) ∙ (ap (slice_get (set outputs v [])) (sym same) ∙ a)) in
+          let gone = ap (λ (l : List Stream). slice_get l out) none ∙ b in
+          absurd cc
+      early u out streams stream a b (inr apart) = d.reached.early u out streams stream (sym (get-set_other outputs v u [] apart) ∙ a) b
+
   -- where it is on time one node more is done
   pub more : (node : Node) (came : Visits) (left : List Stream) → slice_get plan.net.nodes v ≡ Some node → IsKnown plan rows v node (OnTime came left) → IsDoneTo plan rows (set visits v came) (set outputs v left) (rank + 1)
   more node came left there known =
@@ -122,7 +177,7 @@ module _ (laws : CoreLaws) (plan : Plan) (rows : Rows) (visits : List Visits) (o
         stands = set d.stands v Done;
         reached = put-keeps plan rows (record { number = v; ending = OnTime came left }) visits (set visits v came) outputs (set outputs v left) d.stands (set d.stands v Done) d.reached (node, there, known) (refl, refl, refl);
         done = λ q w l g. done w (decide-eq w v) (λ apart. d.done q w (rank-below plan rank q v w l here g apart) g);
-        waits = λ q w l g. get-set_other d.stands v w Done (apart q w l g) ∙ d.waits q w (omega arith) g;
+        waits = λ q w l g. get-set_other d.stands v w Done (later-apart q w l g) ∙ d.waits q w (omega arith) g;
       }
     where
       in_stands : v < length d.stands
@@ -131,12 +186,6 @@ module _ (laws : CoreLaws) (plan : Plan) (rows : Rows) (visits : List Visits) (o
       done : (w : ℕ) → (w ≡ v) ⊎ (w ≢ v) → (w ≢ v → slice_get d.stands w ≡ Some Done) → slice_get (set d.stands v Done) w ≡ Some Done
       done w (inl same) was = ap (slice_get (set d.stands v Done)) same ∙ get-set_same d.stands v Done in_stands
       done w (inr apart) was = get-set_other d.stands v w Done apart ∙ was apart
-
-      apart : (q w : ℕ) → rank + 1 ≤ q → slice_get plan.order q ≡ Some w → w ≢ v
-      apart q w l g same =
-          let once = (laws.ranks plan q w g).once in
-          let twice = has-front plan.order q rank w (omega arith) (here ∙ ap Some (sym same)) in
-          absurd cc
 
 -- so the one node that is ready makes a wave
 pub rank-wave : (laws : CoreLaws) (s : Arriving) (visits : List Visits) (rank v : ℕ) → IsReadFor s.plan.now.net s.rows.now → IsDoneTo s.plan.now s.rows.now visits s.outputs.now rank → slice_get s.plan.now.order rank ≡ Some v → s.ready.now ≡ v ∷ [] → 1 ≤ s.block → IsWave s

@@ -5,7 +5,6 @@ use Rattle.std.proofs.lemmas.Bool.{cases_lt}
 use Rattle.mq_base.proofs.lemmas.Lists.{some_inj}
 use Rattle.mq_stations.proofs.lemmas.Leaves.{once-leaves}
 use Rattle.mq_alike.specs.Again.{Coming, IsUnchanged}
-use Rattle.mq_arrivals.specs.Arrivals.{pairs_read}
 use Rattle.mq_core.specs.Alone.{came}
 use Rattle.mq_core.specs.Came.{Came, came_by, came_in, came_of}
 use Rattle.mq_core.specs.Laws.{in_order_of}
@@ -13,10 +12,11 @@ use Rattle.mq_core.specs.Local.{Local}
 use Rattle.mq_core.specs.Machine.{State, Visit}
 use Rattle.mq_core.specs.Results.{stream_from, visits_of}
 use Rattle.mq_core.specs.RunLaws.{HasSequences}
-use Rattle.mq_core.specs.SequenceLaws.{arrives_of, jobs_of, sends_once}
+use Rattle.mq_core.specs.SequenceLaws.{arrives_of, jobs_of, read_from, sends_once}
 use Rattle.mq_core.specs.Sequences.{sequence_refusal, sequence_stream, sequence_visits, streams_below}
 use Rattle.mq_core.specs.Sound.{outputs_in}
 use Rattle.mq_core.specs.StandardTable.{run_of}
+use Rattle.mq_core.specs.Streams.{by_port}
 use Rattle.mq_core.specs.Theorems.{IsReadFor}
 use Rattle.mq_core.specs.declared.model.Input.{Input}
 use Rattle.mq_core.specs.declared.model.Kind.{Kind}
@@ -33,7 +33,7 @@ use Rattle.mq_exits.specs.Results.{IsKnown}
 use Rattle.mq_exits.specs.declared.working.Ending.TheVariants.{OnTime}
 use Rattle.mq_kept.specs.NodeRuns.{coming_to}
 use Rattle.mq_engine.specs.CoreLaws.{CoreLaws}
-use Rattle.mq_engine.specs.Progress.{read_by}
+use Rattle.mq_engine.proofs.Gathers.{apart-other}
 
 -- the visits and the streams of a node of this kind are the same
 pub record IsSameAt (plan : Plan) (old new : Rows) (v : ℕ) (kind : Kind) : Type 0 where
@@ -102,11 +102,10 @@ row-free (Fork outputs) c h = record { visits = λ rows rows'. refl; stream = λ
 row-free Join c h = record { visits = λ rows rows'. refl; stream = λ rows rows' out. refl }
 row-free (Trunk servers demand) c h = absurd cc
 
--- what ports read that read the same
-pub reads-same : (outputs outputs' : List (List Stream)) (first : ℕ) (inputs : List Input) → ((port : ℕ) (input : Input) → slice_get inputs port ≡ Some input → pairs_read outputs input ≡ pairs_read outputs' input) → read_by outputs first inputs ≡ read_by outputs' first inputs
-reads-same outputs outputs' first [] h = refl
-reads-same outputs outputs' first (input ∷ inputs) h =
-    (λ k. map {B = ℕ × ℕ × ℕ} (λ (p : ℕ × ℕ). (p.0, first, p.1)) (h 0 input refl k) ++ reads-same outputs outputs' (suc first) inputs (λ port i e. h (suc port) i e) k)
+-- what ports read to which the same comes
+pub reads-same : (end end' : State Local) (first : ℕ) (inputs : List Input) → ((port : ℕ) (input : Input) → slice_get inputs port ≡ Some input → stream_from (end.stations input.node) input.out ≡ stream_from (end'.stations input.node) input.out) → read_from end first inputs ≡ read_from end' first inputs
+reads-same end end' first [] h = refl
+reads-same end end' first (input ∷ inputs) h = (λ k. by_port first (h 0 input refl k) ++ reads-same end end' (suc first) inputs (λ port i e. h (suc port) i e) k)
 
 -- A station: its sequences go by the jobs that come, when they come, and what they ask for.
 module _ (laws : CoreLaws) (plan : Plan) (old new : Rows) (v : ℕ) (node : Node) (there : slice_get plan.net.nodes v ≡ Some node) (read : IsReadFor plan.net old) (read' : IsReadFor plan.net new) where
@@ -146,11 +145,12 @@ module _ (laws : CoreLaws) (plan : Plan) (old new : Rows) (v : ℕ) (node : Node
       }
 
   -- so where each port reads the same as before
-  pub apart-same : (outputs outputs' : List (List Stream)) → sends_once node.kind ≡ false →
-      came olds ≡ in_order_of (λ (p : ℕ × ℕ × ℕ). p.0) (read_by outputs 0 node.inputs) → came news ≡ in_order_of (λ (p : ℕ × ℕ × ℕ). p.0) (read_by outputs' 0 node.inputs) →
-      ((port : ℕ) (input : Input) → slice_get node.inputs port ≡ Some input → pairs_read outputs input ≡ pairs_read outputs' input) → IsSameAt plan old new v node.kind
-  apart-same outputs outputs' apart h h' same =
-      came-same apart (h ∙ (ap (in_order_of (λ (p : ℕ × ℕ × ℕ). p.0)) (reads-same outputs outputs' 0 node.inputs same) ∙ sym h'))
+  pub apart-same : sends_once node.kind ≡ false → ((port : ℕ) (input : Input) → slice_get node.inputs port ≡ Some input → stream_from ((run_of plan old).stations input.node) input.out ≡ stream_from ((run_of plan new).stations input.node) input.out) →
+      IsSameAt plan old new v node.kind
+  apart-same apart same =
+      let other = apart-other node.kind apart in
+      came-same apart ((laws.arrivals plan old read v node there).ports other
+      ∙ (ap (in_order_of (λ (p : ℕ × ℕ × ℕ). p.0)) (reads-same (run_of plan old) (run_of plan new) 0 node.inputs same) ∙ sym ((laws.arrivals plan new read' v node there).ports other)))
 
 -- what comes to a station is what comes in the run
 pub coming-is : (plan : Plan) (rows : Rows) (v : ℕ) (arrivals : Stream) → IsArrived plan rows v arrivals → coming_as rows arrivals ≡ coming_to plan rows v
@@ -167,14 +167,12 @@ visits-by laws plan rows v arrivals visits streams read loaded known =
     ∙ ((laws.blind rows node.kind (came_of (length node.inputs) xs) (once-leaves node.kind loaded.once)).visits
     ∙ (λ k. sequence_visits rows node.kind (came_by (sym a.job k) (sym a.time k)))))
 
--- one port more that reads the same
-pub ports-more : (outputs outputs' : List (List Stream)) (inputs : List Input) (at : ℕ) (here : Input) → ((port : ℕ) (input : Input) → port < at → slice_get inputs port ≡ Some input → pairs_read outputs input ≡ pairs_read outputs' input) → slice_get inputs at ≡ Some here → pairs_read outputs here ≡ pairs_read outputs' here →
-    (port : ℕ) (input : Input) → port < at + 1 → slice_get inputs port ≡ Some input → pairs_read outputs input ≡ pairs_read outputs' input
-ports-more outputs outputs' inputs at here before e same port input l g = go (cases_lt port at)
+-- what holds of the ports so far, and of the next
+pub ports-more : (holds : Input → Type 0) (inputs : List Input) (at : ℕ) (here : Input) → ((port : ℕ) (input : Input) → port < at → slice_get inputs port ≡ Some input → holds input) → slice_get inputs at ≡ Some here → holds here → (port : ℕ) (input : Input) → port < at + 1 → slice_get inputs port ≡ Some input → holds input
+ports-more holds inputs at here before e it port input l g = go (cases_lt port at)
   where
-    go : (port < at) ⊎ (at ≤ port) → pairs_read outputs input ≡ pairs_read outputs' input
+    go : (port < at) ⊎ (at ≤ port) → holds input
     go (inl less) = before port input less g
     go (inr more) =
-        let it : port ≡ at = omega arith in
-        let is : here ≡ input = some_inj here input (sym e ∙ (ap (slice_get inputs) (sym it) ∙ g)) in
-        subst (λ (i : Input). pairs_read outputs i ≡ pairs_read outputs' i) is same
+        let same : port ≡ at = omega arith in
+        subst holds (some_inj here input (sym e ∙ (ap (slice_get inputs) (sym same) ∙ g))) it

@@ -1,9 +1,7 @@
--- A node without a difference gives what the kept run has of it.
+-- A node without a difference gives what it had.
 use Rattle.mq_alike.specs.Again.{AlikeIsFirst, Coming, SequencesStay, again_at, again_of, alike, asks_same, blocks_in, blocks_of, is_counted}
-use Rattle.mq_arrivals.specs.Arrivals.{pairs_read}
 use Rattle.mq_arrivals.specs.declared.nodes.Arriving.{Arriving}
 use Rattle.mq_base.proofs.lemmas.Lists.{some_inj}
-use Rattle.mq_core.specs.RunLaws.{HasSequences, RunsHaveSequences}
 use Rattle.mq_core.specs.SequenceLaws.{sends_once}
 use Rattle.mq_core.specs.StandardTable.{run_of}
 use Rattle.mq_core.specs.Theorems.{IsReadFor}
@@ -14,9 +12,8 @@ use Rattle.mq_core.specs.declared.model.Kind.{Kind}
 use Rattle.mq_core.specs.declared.model.Node.{Node}
 use Rattle.mq_core.specs.declared.model.Rows.{Rows}
 use Rattle.mq_core.specs.declared.model.Stream.{Stream}
-use Rattle.mq_core.specs.declared.model.Visits.{Visits}
-use Rattle.mq_engine.proofs.Gathers.{apart-other}
-use Rattle.mq_engine.specs.Apart.{CanGather}
+use Rattle.mq_edits.specs.Former.{rows_before}
+use Rattle.mq_edits.specs.declared.former.FormerRows.{FormerRows}
 use Rattle.mq_engine.specs.CoreLaws.{CoreLaws}
 use Rattle.mq_engine.specs.declared.fault.RunFault.{RunFault}
 use Rattle.mq_exits.specs.Loads.{IsLoaded}
@@ -24,19 +21,23 @@ use Rattle.mq_exits.specs.Results.{IsWorkedOut}
 use Rattle.mq_exits.specs.declared.working.Ending.TheVariants.{OnTime}
 use Rattle.mq_exits.specs.declared.working.Ending.{Ending}
 use Rattle.mq_kept.proofs.Asking.{kept-stays, same-coming}
-use Rattle.mq_kept.proofs.CameBefore.{run-came}
-use Rattle.mq_kept.proofs.Ended.{ended-so}
-use Rattle.mq_kept.proofs.KeptRuns.{kept-fine, kept-ports}
+use Rattle.mq_kept.proofs.CameBefore.{kept-came, kept-known}
+use Rattle.mq_kept.proofs.Ended.{changed-run, ended-so}
 use Rattle.mq_kept.proofs.Numbers.{again-none, apart-uncounted}
-use Rattle.mq_kept.proofs.SameNodes.{IsSameAt, apart-same, coming-is, has-known, known-stays, whole-same}
+use Rattle.mq_kept.proofs.SameNodes.{IsSameAt, apart-same, coming-is, known-stays, whole-same}
+use Rattle.mq_kept.specs.Formers.{lists_before}
 use Rattle.mq_kept.specs.KeptNodes.{IsKeptNode, coming_of}
-use Rattle.mq_kept.specs.NodeRuns.{AreKept, IsNodeRun, came_before, coming_to}
+use Rattle.mq_kept.specs.NodeRuns.{HasStayed, HaveStayed, IsNodeBefore, IsNodeKept, IsNodeRun, came_before, coming_to, earlier_rows}
 use Rattle.mq_kept.specs.declared.checkpoints.Checkpoints.{Checkpoints}
-use Rattle.mq_kept.specs.declared.nodes.Before.{Before}
+use Rattle.mq_kept.specs.declared.former.Former.{Former}
+use Rattle.mq_kept.specs.declared.former.Former.TheVariants.{Same, Whole}
+use Rattle.mq_kept.specs.declared.former.NodeLists.{NodeLists}
+use Rattle.mq_kept.specs.declared.nodes.NodeRefusal.{NodeRefusal}
 use Rattle.mq_kept.specs.declared.nodes.NodeRun.{NodeRun}
 use Rattle.mq_redo.specs.Kept.{coming_as}
-use Rattle.std.proofs.Common.{◌≡◌, ℕ, ◌^◌, ◌<◌, true, false, cond, List, length, Some, refl, sym, ap, ◌∙◌, subst, arith}
+use Rattle.std.proofs.Common.{◌≡◌, ℕ, ◌^◌, ◌<◌, true, false, cond, List, length, Option, Some, refl, sym, ap, ◌∙◌, subst, arith}
 use Rattle.std.proofs.lemmas.List.{length-map}
+use Rattle.std.specs.Borrow.{Bor}
 use Rattle.std.specs.List.{AllByRecursion as Each}
 use Rattle.std.specs.Prelude.{IfOk, Result, Ok, Err, slice_get}
 
@@ -53,89 +54,101 @@ apart-kept (Fork outputs) came block fates checkpoints h = tt
 apart-kept Join came block fates checkpoints h = tt
 apart-kept (Trunk servers demand) came block fates checkpoints h = absurd cc
 
--- The kept run has what a node gives that has no difference.
-module _ (has : RunsHaveSequences) (laws : CoreLaws) (s : Arriving) (before : Before) (v : ℕ) (node : Node) (gives : NodeRun) (there : slice_get s.plan.now.net.nodes v ≡ Some node)
-    (k : AreKept s.plan.now before.rows.now s.block (record { visits = before.visits.now; outputs = before.outputs.now }) before.checkpoints.now) where
-  abbrev rows-before : Rows
-  rows-before = before.rows.now
+-- What a node gives that stays as it is.
+pub record IsLeft (s : Arriving) (node : Node) (lists : NodeLists) (gives : NodeRun) : Type 0 where
+  pub lists_are : gives.lists ≡ lists
+  pub former : gives.former ≡ Same
+  pub again : gives.again ≡ 0
+  pub all : gives.all ≡ cond (is_counted node.kind) (blocks_in s.block (length lists.visits.job)) 0
+  pub few : gives.all < 2 ^ 32
 
-  abbrev rows-now : Rows
-  rows-now = s.rows.now
-
-  sequences : HasSequences (run_of s.plan.now rows-before) (record { visits = before.visits.now; outputs = before.outputs.now }) v node
-  sequences = has s.plan.now rows-before (record { visits = before.visits.now; outputs = before.outputs.now }) k.is_run v node there
-
-  pub gives-unchanged : IsSameAt s.plan.now rows-before rows-now v node.kind → slice_get before.visits.now v ≡ Some gives.visits → slice_get before.outputs.now v ≡ Some gives.streams → slice_get before.checkpoints.now v ≡ Some gives.checkpoints →
-      (IsKeptNode node.kind (coming_of rows-before gives.visits) s.block gives.visits.fate gives.checkpoints → IsKeptNode node.kind (coming_of rows-now gives.visits) s.block gives.visits.fate gives.checkpoints) →
-      again_of s.block (Some node) (came_before before v) (coming_to s.plan.now rows-now v) ≡ 0 →
-      gives.again ≡ 0 → gives.all ≡ cond (is_counted node.kind) (blocks_in s.block (length (came_before before v).job)) 0 → gives.all < 2 ^ 32 → IsNodeRun s before v gives
-  gives-unchanged same visits streams checkpoints stays none again all few =
-      let was = k.checkpoints.each v node gives.visits gives.checkpoints there visits checkpoints in
-      let fine = kept-fine laws s.plan.now rows-before k.read k.fine v node there in
-      let known = has-known s.plan.now rows-before v node before.visits.now before.outputs.now gives.visits gives.streams sequences visits streams (λ out stream e. k.early v out gives.streams stream streams e) fine in
-      let jobs : (came_before before v).job ≡ (coming_to s.plan.now rows-now v).job = ap (λ (c : Coming). c.job) (run-came s.plan.now before v node sequences) ∙ ap (λ (x : Visits). x.job) same.visits in
+module _ (laws : CoreLaws) (s : Arriving) (old : Rows) (v : ℕ) (node : Node) (lists : NodeLists) (gives : NodeRun) (there : slice_get s.plan.now.net.nodes v ≡ Some node)
+    (read : IsReadFor s.plan.now.net old) (now : IsReadFor s.plan.now.net s.rows.now) (k : IsNodeKept s.plan.now old s.block v lists) (left : IsLeft s node lists gives) where
+  pub gives-unchanged : IsSameAt s.plan.now old s.rows.now v node.kind →
+      (IsKeptNode node.kind (coming_of old lists.visits) s.block lists.visits.fate lists.checkpoints → IsKeptNode node.kind (coming_of s.rows.now lists.visits) s.block lists.visits.fate lists.checkpoints) →
+      again_of s.block (Some node) (coming_of old lists.visits) (coming_to s.plan.now s.rows.now v) ≡ 0 → IsNodeRun s (Some old) lists v gives
+  gives-unchanged same stays none =
+      let known = kept-known s.plan.now old s.block v lists k node there in
+      let came = kept-came s.plan.now old s.block v lists k node there in
+      let jobs : lists.visits.job ≡ (coming_to s.plan.now s.rows.now v).job = ap (λ (c : Coming). c.job) (came ∙ ap (coming_of old) (sym known.0)) ∙ ap (λ (x : Coming). x.job) (ap (coming_of old) (known.0 ∙ same.visits)) in
       record {
-        known = (node, there, known-stays s.plan.now rows-before rows-now v node gives.visits gives.streams same known);
-        checkpoints = λ other at. subst (λ (n : Node). IsKeptNode n.kind (coming_of rows-now gives.visits) s.block gives.visits.fate gives.checkpoints) (some_inj node other (sym there ∙ at)) (stays was);
-        again = again ∙ (sym none ∙ ap (λ o. again_of s.block o (came_before before v) (coming_to s.plan.now rows-now v)) (sym there));
-        all = all ∙ ((λ i. cond (is_counted node.kind) (blocks_in s.block (length (jobs i))) 0) ∙ ap (λ o. blocks_of s.block o (coming_to s.plan.now rows-now v)) (sym there));
-        again_few = subst (λ (n : ℕ). n < 2 ^ 32) (sym again) (omega arith);
-        all_few = few;
+        kept = subst (IsNodeKept s.plan.now s.rows.now s.block v) (sym left.lists_are) (record {
+          known = (node, there, known-stays s.plan.now old s.rows.now v node lists.visits lists.streams same known);
+          checkpoints = λ other at. subst (λ (n : Node). IsKeptNode n.kind (coming_of s.rows.now lists.visits) s.block lists.visits.fate lists.checkpoints) (some_inj node other (sym there ∙ at)) (stays (k.checkpoints node there));
+        });
+        back = λ i. lists_before (left.former i) (left.lists_are i);
+        stayed = λ is. same.stream;
+        again = left.again ∙ (sym none ∙ ap (λ o. again_of s.block o (coming_of old lists.visits) (coming_to s.plan.now s.rows.now v)) (sym there));
+        all = left.all ∙ ((λ i. cond (is_counted node.kind) (blocks_in s.block (length (jobs i))) 0) ∙ ap (λ o. blocks_of s.block o (coming_to s.plan.now s.rows.now v)) (sym there));
+        again_few = subst (λ (n : ℕ). n < 2 ^ 32) (sym left.again) (omega arith);
+        all_few = left.few;
       }
 
-  -- a fork or a join, each of whose ports reads the same
-  pub apart-unchanged : sends_once node.kind ≡ false → IsSameAt s.plan.now rows-before rows-now v node.kind → slice_get before.visits.now v ≡ Some gives.visits → slice_get before.outputs.now v ≡ Some gives.streams → slice_get before.checkpoints.now v ≡ Some gives.checkpoints →
-      gives.again ≡ 0 → gives.all ≡ cond (is_counted node.kind) (blocks_in s.block (length (came_before before v).job)) 0 → gives.all < 2 ^ 32 → IsNodeRun s before v gives
-  apart-unchanged apart same visits streams checkpoints again all few =
-      gives-unchanged same visits streams checkpoints (λ h. apart-kept node.kind (coming_of rows-now gives.visits) s.block gives.visits.fate gives.checkpoints apart)
-      (ap (λ b. cond b (again_at s.block node.kind (came_before before v) (coming_to s.plan.now rows-now v)) 0) (apart-uncounted node.kind apart)) again all few
+  -- a fork or a join, to which the same comes by each port
+  pub apart-unchanged : sends_once node.kind ≡ false → ((port : ℕ) (input : Input) → slice_get node.inputs port ≡ Some input → HasStayed s.plan.now (Some old) s.rows.now input.node) → IsNodeRun s (Some old) lists v gives
+  apart-unchanged apart reads =
+      gives-unchanged (apart-same laws s.plan.now old s.rows.now v node there read now apart (λ port input e. reads port input e input.out))
+      (λ h. apart-kept node.kind (coming_of s.rows.now lists.visits) s.block lists.visits.fate lists.checkpoints apart)
+      (ap (λ b. cond b (again_at s.block node.kind (coming_of old lists.visits) (coming_to s.plan.now s.rows.now v)) 0) (apart-uncounted node.kind apart))
 
   -- a station, all of whose visits are the same
-  module _ (stay : SequencesStay) (first : AlikeIsFirst) (arrivals : Stream) (loaded : IsLoaded s.plan.now rows-now v arrivals) (read : IsReadFor s.plan.now.net rows-now) where
-    pub station-unchanged : (same visits count : ℕ) → sends_once node.kind ≡ true → same ≡ alike node.kind (came_before before v) (coming_as rows-now arrivals) → visits ≡ length (came_before before v).job → count ≡ length arrivals.job → same ≡ visits → same ≡ count →
-        slice_get before.visits.now v ≡ Some gives.visits → slice_get before.outputs.now v ≡ Some gives.streams → slice_get before.checkpoints.now v ≡ Some gives.checkpoints →
-        gives.again ≡ 0 → gives.all ≡ cond (is_counted node.kind) (blocks_in s.block (length (came_before before v).job)) 0 → gives.all < 2 ^ 32 → IsNodeRun s before v gives
-    station-unchanged same visits count once same-is visits-are count-is all-old all-new seen streams checkpoints again all few =
+  module _ (stay : SequencesStay) (first : AlikeIsFirst) (arrivals : Stream) (loaded : IsLoaded s.plan.now s.rows.now v arrivals) where
+    pub station-unchanged : (same visits count : ℕ) → sends_once node.kind ≡ true → same ≡ alike node.kind (coming_of old lists.visits) (coming_as s.rows.now arrivals) → visits ≡ length lists.visits.job → count ≡ length arrivals.job → same ≡ visits → same ≡ count → IsNodeRun s (Some old) lists v gives
+    station-unchanged same visits count once same-is visits-are count-is all-old all-new =
         let a = sym same-is ∙ (all-old ∙ visits-are) in
         let b = sym same-is ∙ (all-new ∙ count-is) in
-        let was = coming_to s.plan.now rows-before v in
-        let is = coming_to s.plan.now rows-now v in
-        let p = run-came s.plan.now before v node sequences in
-        let q = coming-is s.plan.now rows-now v arrivals loaded.came in
+        let was = coming_to s.plan.now old v in
+        let is = coming_to s.plan.now s.rows.now v in
+        let p = kept-came s.plan.now old s.block v lists k node there in
+        let q = coming-is s.plan.now s.rows.now v arrivals loaded.came in
         let a' : alike node.kind was is ≡ length was.job = sym (λ i. alike node.kind (p i) (q i)) ∙ (a ∙ ap (λ (c : Coming). length c.job) p) in
         let b' : alike node.kind was is ≡ length is.job = sym (λ i. alike node.kind (p i) (q i)) ∙ (b ∙ ap (λ (c : Coming). length c.job) q) in
-        let olds = ((run_of s.plan.now rows-before).stations v).visits in
-        let news = ((run_of s.plan.now rows-now).stations v).visits in
+        let olds = ((run_of s.plan.now old).stations v).visits in
+        let news = ((run_of s.plan.now s.rows.now).stations v).visits in
         let whole = stay node.kind was is once (length-map olds _ ∙ sym (length-map olds _)) (length-map news _ ∙ sym (length-map news _)) a' b' in
         let asks = same-coming node.kind was is (first node.kind was is) a' whole.jobs whole.arrives in
-        let jobs : was.job ≡ gives.visits.job = ap (λ (x : Visits). x.job) (some_inj _ _ (sym sequences.visits ∙ seen)) in
-        gives-unchanged (whole-same laws s.plan.now rows-before rows-now v node there k.read read once whole) seen streams checkpoints
-        (kept-stays node.kind (coming_of rows-before gives.visits) (coming_of rows-now gives.visits) s.block gives.visits.fate gives.checkpoints (record { jobs = refl; arrives = refl; ask = subst (Each (λ job. asks_same rows-before rows-now node.kind job ≡ true)) jobs asks.ask }))
-        (again-none s.block node.kind (came_before before v) is (ap (λ (c : Coming). alike node.kind c is) p ∙ (a' ∙ ap (λ (c : Coming). length c.job) (sym p))) (ap (λ (c : Coming). alike node.kind c is) p ∙ b')) again all few
+        let jobs : was.job ≡ lists.visits.job = ap (λ (c : Coming). c.job) (sym p) in
+        gives-unchanged (whole-same laws s.plan.now old s.rows.now v node there read now once whole)
+        (kept-stays node.kind (coming_of old lists.visits) (coming_of s.rows.now lists.visits) s.block lists.visits.fate lists.checkpoints (record { jobs = refl; arrives = refl; ask = subst (Each (λ job. asks_same old s.rows.now node.kind job ≡ true)) jobs asks.ask }))
+        (again-none s.block node.kind (coming_of old lists.visits) is (ap (λ (c : Coming). alike node.kind c is) p ∙ (a' ∙ ap (λ (c : Coming). length c.job) (sym p))) (ap (λ (c : Coming). alike node.kind c is) p ∙ b'))
 
--- a fork or a join of which each port reads the same as in the kept run
-pub apart-run : (has : RunsHaveSequences) (laws : CoreLaws) (s : Arriving) (before : Before) (v : ℕ) (node : Node) (gives : NodeRun) → slice_get s.plan.now.net.nodes v ≡ Some node → IsReadFor s.plan.now.net s.rows.now → CanGather s.plan.now s.rows.now s.outputs.now v →
-    AreKept s.plan.now before.rows.now s.block (record { visits = before.visits.now; outputs = before.outputs.now }) before.checkpoints.now → ((port : ℕ) (input : Input) → slice_get node.inputs port ≡ Some input → pairs_read before.outputs.now input ≡ pairs_read s.outputs.now input) →
-    slice_get before.visits.now v ≡ Some gives.visits → slice_get before.outputs.now v ≡ Some gives.streams → slice_get before.checkpoints.now v ≡ Some gives.checkpoints →
-    gives.again ≡ 0 → gives.all ≡ cond (is_counted node.kind) (blocks_in s.block (length (came_before before v).job)) 0 → gives.all < 2 ^ 32 → IsNodeRun s before v gives
-apart-run has laws s before v node gives there read can k reads visits streams checkpoints again all few =
-    let apart = can.apart node there in
-    let other = apart-other node.kind apart in
-    let was = kept-ports laws s.plan.now before.rows.now (record { visits = before.visits.now; outputs = before.outputs.now }) has k.is_run v node there k.read other in
-    let same = apart-same laws s.plan.now before.rows.now s.rows.now v node there k.read read before.outputs.now s.outputs.now apart was (can.all.ports node there other) reads in
-    apart-unchanged has laws s before v node gives there k apart same visits streams checkpoints again all few
+-- The same of a node of which a run is kept.
+module _ (laws : CoreLaws) (s : Arriving) (earlier : Option (Bor FormerRows)) (b : Bor FormerRows) (some : earlier ≡ Some b) (v : ℕ) (node : Node) (lists : NodeLists) (gives : NodeRun) (there : slice_get s.plan.now.net.nodes v ≡ Some node)
+    (now : IsReadFor s.plan.now.net s.rows.now) (h : IsNodeBefore s.plan.now (earlier_rows s.rows.now earlier) s.block v lists) (left : IsLeft s node lists gives) where
+  was-kept : IsReadFor s.plan.now.net (rows_before b.now s.rows.now) × IsNodeKept s.plan.now (rows_before b.now s.rows.now) s.block v lists
+  was-kept = subst (λ o. IsNodeBefore s.plan.now (earlier_rows s.rows.now o) s.block v lists) some h
 
--- one that was worked out anew
-pub apart-ended : (s : Arriving) (before : Before) (v : ℕ) (node : Node) (ending : Ending) (result : Result NodeRun RunFault) → slice_get s.plan.now.net.nodes v ≡ Some node → sends_once node.kind ≡ false → IsWorkedOut s.plan.now s.rows.now (record { number = v; ending = ending }) →
-    IfOk result (λ gives. ending ≡ OnTime gives.visits gives.streams) → IfOk result (λ gives. gives.again ≡ 0) → IfOk result (λ gives. gives.all ≡ 0) → IfOk result (IsNodeRun s before v)
-apart-ended s before v node ending (Ok gives) there apart w e again all =
+  pub apart-run : (formers : List Former) → sends_once node.kind ≡ false → HaveStayed s.plan.now (earlier_rows s.rows.now earlier) s.rows.now formers v → ((port : ℕ) (input : Input) → slice_get node.inputs port ≡ Some input → slice_get formers input.node ≡ Some Same) →
+      IsNodeRun s (earlier_rows s.rows.now earlier) lists v gives
+  apart-run formers apart stayed same =
+      let reads = subst (λ o. HaveStayed s.plan.now (earlier_rows s.rows.now o) s.rows.now formers v) some stayed in
+      subst (λ o. IsNodeRun s (earlier_rows s.rows.now o) lists v gives) (sym some)
+      (apart-unchanged laws s (rows_before b.now s.rows.now) v node lists gives there was-kept.0 now was-kept.1 left apart (λ port input e. reads node port input there e (same port input e)))
+
+  pub station-run : SequencesStay → AlikeIsFirst → (arrivals : Stream) → IsLoaded s.plan.now s.rows.now v arrivals → (same visits count : ℕ) → sends_once node.kind ≡ true → same ≡ alike node.kind (came_before s.rows.now (earlier_rows s.rows.now earlier) lists) (coming_as s.rows.now arrivals) →
+      visits ≡ length lists.visits.job → count ≡ length arrivals.job → same ≡ visits → same ≡ count → IsNodeRun s (earlier_rows s.rows.now earlier) lists v gives
+  station-run stay first arrivals loaded same visits count once is visits-are count-is all-old all-new =
+      subst (λ o. IsNodeRun s (earlier_rows s.rows.now o) lists v gives) (sym some)
+      (station-unchanged laws s (rows_before b.now s.rows.now) v node lists gives there was-kept.0 now was-kept.1 left stay first arrivals loaded same visits count once
+      (subst (λ o. same ≡ alike node.kind (came_before s.rows.now (earlier_rows s.rows.now o) lists) (coming_as s.rows.now arrivals)) some is) visits-are count-is all-old all-new)
+
+-- The lists of a fork or a join that were made anew.
+pub apart-ended : (s : Arriving) (v : ℕ) (ending : Ending) (result : Result NodeLists RunFault) → ((node : Node) → slice_get s.plan.now.net.nodes v ≡ Some node → sends_once node.kind ≡ false) → IsWorkedOut s.plan.now s.rows.now (record { number = v; ending = ending }) →
+    IfOk result (λ lists. ending ≡ OnTime lists.visits lists.streams) → IfOk result (IsNodeKept s.plan.now s.rows.now s.block v)
+apart-ended s v ending (Ok lists) apart w e = record {
+  known = ended-so s.plan.now s.rows.now v ending (OnTime lists.visits lists.streams) e w;
+  checkpoints = λ node at. apart-kept node.kind (coming_of s.rows.now lists.visits) s.block lists.visits.fate lists.checkpoints (apart node at);
+}
+apart-ended s v ending (Err fault) apart w e = tt
+
+-- what it gives then
+pub apart-changed : (s : Arriving) (old : Option Rows) (lists : NodeLists) (v : ℕ) (node : Node) (made : Result NodeLists RunFault) (result : Result NodeRun NodeRefusal) → slice_get s.plan.now.net.nodes v ≡ Some node → sends_once node.kind ≡ false →
+    IfOk made (IsNodeKept s.plan.now s.rows.now s.block v) → IfOk result (λ gives. (made ≡ Ok gives.lists) × (gives.former ≡ Whole lists) × (gives.again ≡ 0) × (gives.all ≡ 0)) → IfOk result (IsNodeRun s old lists v)
+apart-changed s old lists v node made result there apart kept h =
+    let came = came_before s.rows.now old lists in
+    let new = coming_to s.plan.now s.rows.now v in
     let uncounted = apart-uncounted node.kind apart in
-    record {
-      known = ended-so s.plan.now s.rows.now v ending (OnTime gives.visits gives.streams) e w;
-      checkpoints = λ other at. apart-kept other.kind (coming_of s.rows.now gives.visits) s.block gives.visits.fate gives.checkpoints (ap (λ (n : Node). sends_once n.kind) (some_inj other node (sym at ∙ there)) ∙ apart);
-      again = again ∙ sym (ap (λ o. again_of s.block o (came_before before v) (coming_to s.plan.now s.rows.now v)) there ∙ ap (λ b. cond b (again_at s.block node.kind (came_before before v) (coming_to s.plan.now s.rows.now v)) 0) uncounted);
-      all = all ∙ sym (ap (λ o. blocks_of s.block o (coming_to s.plan.now s.rows.now v)) there ∙ ap (λ b. cond b (blocks_in s.block (length (coming_to s.plan.now s.rows.now v).job)) 0) uncounted);
-      again_few = subst (λ (n : ℕ). n < 2 ^ 32) (sym again) (omega arith);
-      all_few = subst (λ (n : ℕ). n < 2 ^ 32) (sym all) (omega arith);
-    }
-apart-ended s before v node ending (Err fault) there apart w e again all = tt
+    changed-run s old lists v 0 0 made result
+    (sym (ap (λ o. again_of s.block o came new) there ∙ ap (λ b. cond b (again_at s.block node.kind came new) 0) uncounted))
+    (sym (ap (λ o. blocks_of s.block o new) there ∙ ap (λ b. cond b (blocks_in s.block (length new.job)) 0) uncounted))
+    (omega arith) (omega arith) kept h

@@ -1,5 +1,5 @@
 -- What is kept of a node beside its visits: the carries behind its blocks, by its kind.
-use Rattle.std.specs.Prelude.{◌≡◌, ◌-◌, ℕ, if◌then◌else◌, List, [], length, Option, Some, None, slice_get}
+use Rattle.std.specs.Prelude.{◌≡◌, ◌-◌, ℕ, if◌then◌else◌, List, length, Some, slice_get}
 use Rattle.mq_alike.specs.Again.{Coming, blocks_in, is_worked}
 use Rattle.mq_core.specs.declared.model.Fate.{Fate}
 use Rattle.mq_core.specs.declared.model.Kind.{Kind}
@@ -26,13 +26,9 @@ IsKeptNode (Fork outputs) came block fates checkpoints = Unit {0}
 IsKeptNode Join came block fates checkpoints = Unit {0}
 IsKeptNode (Trunk servers demand) came block fates checkpoints = Unit {0}
 
--- what comes to a node with these visits, in a run over rows; nothing where there are none
+-- what comes to a node with these visits, in a run over rows
 abbrev pub coming_of : Rows → Visits → Coming
 coming_of rows seen = record { rows = rows; job = seen.job; arrive = seen.arrive }
-
-abbrev pub coming_by : Rows → Option Visits → Coming
-coming_by rows None = record { rows = rows; job = []; arrive = [] }
-coming_by rows (Some seen) = coming_of rows seen
 
 -- this is kept of the nodes of a run over rows that has these visits
 pub record AreCheckpoints (nodes : List Node) (rows : Rows) (block : ℕ) (visits : List Visits) (checkpoints : List Checkpoints) : Type 0 where

@@ -1,4 +1,5 @@
 pub mod Carries
+pub mod Formers
 pub mod Keeping
 pub mod KeptNodes
 pub mod NodeRuns

@@ -1,11 +1,10 @@
 // What is kept of a node beside its visits and streams: from where its jobs can be gone through again.
-ghost use Rattle.std.specs.Prelude.{◌≡◌, IfOk};
+ghost use Rattle.std.specs.Prelude.{◌≡◌};
 ghost use Rattle.mq_kept.specs.Carries.{delay_carries, forkjoin_carries, server_carries, split_carries, split_outs, tandem_carries};
 
-use mq_base::{List, OutOfMemory};
+use mq_base::List;
 use mq_maxplus::Mp;
 use mq_tandem::Latest;
-use std::alloc::Global;
 
 /// The checkpoints of a node, from which its jobs can be gone through again: the carry behind each block of them.
 #[derive(Drop)]
@@ -86,32 +85,4 @@ impl Checkpoints {
             Checkpoints::Tandem(_) | Checkpoints::ForkJoin(_) => &[],
         }
     }
-}
-
-/// The same once more.
-pub fn copied_checkpoints(
-    alloc: Global,
-    checkpoints: &Checkpoints,
-) -> Result<Checkpoints, OutOfMemory>
-    ensures { IfOk result (λ copies. copies ≡ checkpoints.now) }
-{
-    match checkpoints {
-        Checkpoints::Nothing => Ok(Checkpoints::Nothing),
-        Checkpoints::Server(carries) => Ok(Checkpoints::Server(copied(alloc, carries)?)),
-        Checkpoints::Tandem(carries) => Ok(Checkpoints::Tandem(copied(alloc, carries)?)),
-        Checkpoints::ForkJoin(carries) => Ok(Checkpoints::ForkJoin(copied(alloc, carries)?)),
-        Checkpoints::Delay(carries) => Ok(Checkpoints::Delay(copied(alloc, carries)?)),
-        Checkpoints::Split { carries, outs } => {
-            let carries = copied(alloc, carries)?;
-            let outs = copied(alloc, outs)?;
-            Ok(Checkpoints::Split { carries, outs })
-        }
-    }
-}
-
-/// The items of a list once more.
-pub fn copied<T: Copy + Drop>(alloc: Global, items: &List<T>) -> Result<List<T>, OutOfMemory>
-    ensures { IfOk result (λ copies. copies ≡ items.now) }
-{
-    Ok(List::from_vec(Vec::from_slice(alloc, items.as_slice())?))
 }

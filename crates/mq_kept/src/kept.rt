@@ -9,12 +9,12 @@ ghost use Rattle.mq_kept.specs.NodeRuns.{AreKept};
 
 use crate::again::{Redone, Whole, run_again};
 use crate::checkpoints::Checkpoints;
-use crate::nodes::Before;
+use crate::former::{Nodes, all_same, no_nodes};
 use mq_alike::again_is_bounded;
 use mq_base::{List, Steps};
-use mq_core::{Plan, Rows, Run, Stream, Visits, runs_are_of_networks, runs_have_sequences};
-use mq_edits::{Edit, edited};
-use mq_engine::RunFault;
+use mq_core::{Plan, Rows, Run, runs_have_sequences};
+use mq_edits::{Edit, edit_rows};
+use mq_engine::{RunFault, core_laws};
 use std::alloc::Global;
 use std::marker::{Brand, Model};
 use std::mem::replace;
@@ -79,7 +79,8 @@ impl<'p> Kept<'p> {
     /// counted the blocks from its first difference on. It tells how many these are, and how many blocks there are in
     /// all. Each block that is worked counts one step: no more than are told, since the jobs of a source depart as they
     /// come. It refuses as `run` over the edited rows does. Then the kept rows and run are as before, and the steps
-    /// stay counted. The kept run and the new one stand side by side until it is done.
+    /// stay counted. A node without a difference isn't touched; what the others had stands beside the new run until it is
+    /// done.
     pub fn edit<R: Threads + Sync, L: Ledger>(
         &mut self,
         rt: &R,
@@ -99,59 +100,38 @@ impl<'p> Kept<'p> {
         ensures counted { OnOk result (steps.new ≡ steps.old + worked self.old.plan.net self.old.rows (edited_rows self.old.rows edits.now) self.old.block) }
         ensures most { steps.new ≤ steps.old + again self.old.plan.net self.old.rows (edited_rows self.old.rows edits.now) self.old.block }
     {
-        let rows = edited(alloc, &self.rows, edits)?;
-        self.replace_rows(rt, alloc, rows, steps)
-    }
-
-    /// Makes these the kept rows, and does again what they change of the run. It refuses as `run` over them does, and
-    /// then the kept rows and run are as before.
-    pub fn replace_rows<R: Threads + Sync, L: Ledger>(
-        &mut self,
-        rt: &R,
-        alloc: Global,
-        rows: Rows,
-        steps: &mut Steps<L>,
-    ) -> Result<Redone, RunFault>
-        requires read { IsReadFor self.old.plan.net rows }
-        ensures stays { (self.new.plan ≡ self.old.plan) × (self.new.workers ≡ self.old.workers) × (self.new.block ≡ self.old.block) }
-        ensures rows { OnOk result (self.new.rows ≡ rows) }
-        ensures kept { IsKeptRun self.new }
-        ensures redone { IfOk result (λ redone. redone ≡ record { again = again self.old.plan.net self.old.rows rows self.old.block; all = all_blocks self.old.plan.net rows self.old.block }) }
-        ensures err { OnErr result (self.new ≡ self.old) }
-        ensures cause { IfErr result (λ fault. IsCause self.old.plan rows fault) }
-        ensures steps { steps.old ≤ steps.new }
-        ensures spent { steps.new ≤ steps.old + worked self.old.plan.net self.old.rows rows self.old.block }
-        ensures counted { OnOk result (steps.new ≡ steps.old + worked self.old.plan.net self.old.rows rows self.old.block) }
-        ensures most { steps.new ≤ steps.old + again self.old.plan.net self.old.rows rows self.old.block }
-    {
+        core_laws();
         runs_have_sequences();
-        runs_are_of_networks();
         again_is_bounded();
-        let before = Before {
-            rows: &self.rows,
-            visits: self.run.visits.as_slice(),
-            outputs: self.run.outputs.as_slice(),
-            checkpoints: self.checkpoints.as_slice(),
-        };
-        let whole = run_again(
+        let formers = all_same(alloc, self.plan.net.nodes.len())?;
+        let former = edit_rows(alloc, &mut self.rows, edits)?;
+        let nodes = taken(alloc, &mut self.run, &mut self.checkpoints);
+        let result = run_again(
             rt,
             alloc,
             self.plan,
-            &rows,
-            &before,
+            &self.rows,
+            Some(&former),
+            nodes,
+            formers,
             self.workers,
             self.block,
             steps,
-        )?;
-        let Whole {
-            run,
-            checkpoints,
-            redone,
-        } = whole;
-        drop(replace(&mut self.rows, rows));
-        drop(replace(&mut self.run, run));
-        drop(replace(&mut self.checkpoints, checkpoints));
-        Ok(redone)
+        );
+        match result {
+            Ok(whole) => {
+                drop(former);
+                drop(replace(&mut self.run, whole.run));
+                drop(replace(&mut self.checkpoints, whole.checkpoints));
+                Ok(whole.redone)
+            }
+            Err(refusal) => {
+                former.put_back(alloc, &mut self.rows);
+                drop(former);
+                put(&mut self.run, &mut self.checkpoints, refusal.nodes);
+                Err(refusal.fault)
+            }
+        }
     }
 
     /// The rows.
@@ -168,6 +148,30 @@ impl<'p> Kept<'p> {
     {
         &self.run
     }
+}
+
+// Takes what is kept of the nodes, and leaves none.
+fn taken(alloc: Global, run: &mut Run, checkpoints: &mut List<Checkpoints>) -> Nodes
+    ensures visits { result.visits.items ≡ run.old.visits }
+    ensures outputs { result.outputs.items ≡ run.old.outputs }
+    ensures checkpoints { result.checkpoints.items ≡ checkpoints.old }
+{
+    Nodes {
+        visits: replace(&mut run.visits, List::new(alloc)).into_vec(),
+        outputs: replace(&mut run.outputs, List::new(alloc)).into_vec(),
+        checkpoints: replace(checkpoints, List::new(alloc)).into_vec(),
+    }
+}
+
+// Puts this in the place of what is kept of the nodes.
+fn put(run: &mut Run, checkpoints: &mut List<Checkpoints>, nodes: Nodes)
+    ensures visits { run.new.visits ≡ nodes.visits.items }
+    ensures outputs { run.new.outputs ≡ nodes.outputs.items }
+    ensures checkpoints { checkpoints.new ≡ nodes.checkpoints.items }
+{
+    drop(replace(&mut run.visits, List::from_vec(nodes.visits)));
+    drop(replace(&mut run.outputs, List::from_vec(nodes.outputs)));
+    drop(replace(checkpoints, List::from_vec(nodes.checkpoints)));
 }
 
 // A run of which nothing was kept yet, with a counter of its own.
@@ -191,17 +195,14 @@ fn begun<R: Threads + Sync, L: Ledger>(
     ensures kept { IfOk result (λ whole. AreKept plan.now rows.now block whole.run whole.checkpoints) }
     ensures cause { IfErr result (λ fault. IsCause plan.now rows.now fault) }
 {
+    let count = plan.net.nodes.len();
+    let formers = all_same(alloc, count)?;
+    let nodes = no_nodes(alloc, count)?;
     let mut steps = Steps::<L>::new(blank);
-    let (visits, outputs, checkpoints): (&[Visits], &[List<Stream>], &[Checkpoints]) = (
-        &[],
-        &[],
-        &[],
-    );
-    let before = Before {
-        rows,
-        visits,
-        outputs,
-        checkpoints,
-    };
-    run_again(rt, alloc, plan, rows, &before, workers, block, &mut steps)
+    match run_again(
+        rt, alloc, plan, rows, None, nodes, formers, workers, block, &mut steps,
+    ) {
+        Ok(whole) => Ok(whole),
+        Err(refusal) => Err(refusal.fault),
+    }
 }

@@ -3,11 +3,10 @@
 
 mod again;
 mod checkpoints;
-mod copies;
+mod former;
 mod kept;
 mod nodes;
 mod stations;
-mod streams;
 
 pub use again::Redone;
 pub use kept::Kept;

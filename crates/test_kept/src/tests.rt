@@ -3,4 +3,5 @@ mod calls;
 mod cases;
 mod draws;
 mod networks;
+mod rows;
 mod same;

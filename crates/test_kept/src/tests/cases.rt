@@ -82,12 +82,14 @@ pub fn edited<R: Threads + Sync, L: Ledger>(
     kept.edit(rt, alloc, edits, &mut steps)
 }
 
-const MODEL: &[u8] = b"model 1\nsource src\nserver desk d from src\n";
+/// A source and a server, which asks for the one column.
+pub const MODEL: &[u8] = b"model 1\nsource src\nserver desk d from src\n";
 
 // No departure may come after 8.
 const EARLY: &[u8] = b"model 1\nbound 8\nsource src\nserver desk d from src\n";
 
-const TRACE: &[u8] = b"source,time,d\nsrc,0,4\nsrc,1,1\nsrc,2,3\n";
+/// Three records of it.
+pub const TRACE: &[u8] = b"source,time,d\nsrc,0,4\nsrc,1,1\nsrc,2,3\n";
 
 #[test]
 fn one_row_more(rt: HostRuntime) -> Result<(), Fail> {

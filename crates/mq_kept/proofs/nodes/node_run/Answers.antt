@@ -1,6 +1,6 @@
 use Rattle.std.proofs.Common.{◌≡◌, ◌+◌, get_or, arith}
 use Rattle.std.proofs.lemmas.Result.{IfOk-weaker}
-use Rattle.mq_kept.specs.NodeRuns.{IsNodeRun, worked_behind}
+use Rattle.mq_kept.specs.NodeRuns.{IsNodeRun, came_before, earlier_rows, worked_behind}
 use Rattle.mq_kept.proofs.Ended.{crowded-at, ready-all}
 use Rattle.mq_kept.proofs.Numbers.{apart-worked}
 use Rattle.mq_kept.proofs.nodes.node_run.Goals as goal
@@ -16,7 +16,9 @@ pub returns-in-Apart-clause-counted : goal.returns-in-Apart-clause-counted
 returns-in-Apart-clause-counted g c =
     let s = c.args.arriving.now in
     let v = get_or s.ready.now 0 0 in
+    let old = earlier_rows s.rows.now c.args.past.now.earlier in
+    let came = came_before s.rows.now old c.args.lists in
     let inside = (ready-all s c.requires.wave c.requires.one).inside in
-    let none = apart-worked s c.args.before.now v inside c.in-Apart.ensures in
-    let same : c.args.steps.now ≡ c.args.steps.now + worked_behind s c.args.before.now v = omega arith in
-    IfOk-weaker c.apart_run.result (IsNodeRun s c.args.before.now v) (λ gives. c.args.steps.now ≡ c.args.steps.now + worked_behind s c.args.before.now v) (λ gives h. same) c.apart_run.ensures.gives
+    let none = apart-worked s came v inside c.in-Apart.ensures in
+    let same : c.args.steps.now ≡ c.args.steps.now + worked_behind s came v = omega arith in
+    IfOk-weaker c.apart_run.result (IsNodeRun s old c.args.lists v) (λ gives. c.args.steps.now ≡ c.args.steps.now + worked_behind s came v) (λ gives h. same) c.apart_run.ensures.gives

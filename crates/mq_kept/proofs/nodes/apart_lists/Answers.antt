@@ -1,0 +1,18 @@
+use Rattle.std.proofs.Common.{subst}
+use Rattle.std.specs.List.{AllByRecursion}
+use Rattle.mq_exits.specs.Results.{IsResultOf}
+use Rattle.mq_kept.proofs.Ended.{ended-fault, ended-known}
+use Rattle.mq_kept.proofs.Unchanged.{apart-ended}
+use Rattle.mq_kept.proofs.nodes.apart_lists.Goals as goal
+
+pub returns-clause-kept : goal.returns-clause-kept
+returns-clause-kept g c =
+    let s = c.args.arriving.now in
+    let w = ended-known s.plan.now s.rows.now c.args.number c.in_ok-results.results c.the_only.result c.the_only.ensures (subst (λ ready. AllByRecursion (IsResultOf s.plan.now s.rows.now ready) c.in_ok-results.results) c.requires.one c.in_ok-results.ensures.known) in
+    apart-ended s c.args.number c.the_only.result.ending c.lists_by.result c.requires.can.apart w c.lists_by.ensures.ends
+
+pub returns-clause-cause : goal.returns-clause-cause
+returns-clause-cause g c =
+    let s = c.args.arriving.now in
+    let w = ended-known s.plan.now s.rows.now c.args.number c.in_ok-results.results c.the_only.result c.the_only.ensures (subst (λ ready. AllByRecursion (IsResultOf s.plan.now s.rows.now ready) c.in_ok-results.results) c.requires.one c.in_ok-results.ensures.known) in
+    ended-fault s.plan.now s.rows.now c.args.number c.the_only.result.ending c.lists_by.result w c.lists_by.ensures.cause

@@ -1,0 +1,45 @@
+-- What nodes had before an edit, and how they come back to it.
+use Rattle.std.specs.Prelude.{◌≡◌, ℕ, List, [], Some, length, slice_get, slice_set}
+use Rattle.mq_kept.specs.declared.checkpoints.Checkpoints.TheVariants.{Nothing}
+use Rattle.mq_kept.specs.declared.former.Former.{Former}
+use Rattle.mq_kept.specs.declared.former.Former.TheVariants.{Same, Whole}
+use Rattle.mq_kept.specs.declared.former.NodeLists.{NodeLists}
+use Rattle.mq_kept.specs.declared.former.Nodes.{Nodes}
+
+-- nothing is kept of a node
+abbrev pub no_lists : NodeLists
+no_lists = record { visits = record { job = []; arrive = []; found = []; fate = [] }; streams = []; checkpoints = Nothing }
+
+-- so many nodes
+abbrev pub AreNodes : ℕ → Nodes → Type 0
+AreNodes count nodes = (length nodes.visits.items ≡ count) × (length nodes.outputs.items ≡ count) × (length nodes.checkpoints.items ≡ count)
+
+-- a node has these lists
+abbrev pub HasLists : Nodes → ℕ → NodeLists → Type 0
+HasLists nodes v lists =
+    (slice_get nodes.visits.items v ≡ Some lists.visits) × (slice_get nodes.outputs.items v ≡ Some lists.streams) × (slice_get nodes.checkpoints.items v ≡ Some lists.checkpoints)
+
+-- nothing is kept of any of them
+abbrev pub AreNothing : Nodes → Type 0
+AreNothing nodes = (v : ℕ) (lists : NodeLists) → HasLists nodes v lists → lists ≡ no_lists
+
+-- these lists are put at a node
+abbrev pub IsPut : Nodes → ℕ → NodeLists → Nodes → Type 0
+IsPut nodes v lists nodes' =
+    (nodes'.visits.items ≡ slice_set nodes.visits.items v lists.visits) × (nodes'.outputs.items ≡ slice_set nodes.outputs.items v lists.streams)
+    × (nodes'.checkpoints.items ≡ slice_set nodes.checkpoints.items v lists.checkpoints)
+
+-- the nodes have the same
+abbrev pub AreSameNodes : Nodes → Nodes → Type 0
+AreSameNodes nodes nodes' =
+    (nodes'.visits.items ≡ nodes.visits.items) × (nodes'.outputs.items ≡ nodes.outputs.items) × (nodes'.checkpoints.items ≡ nodes.checkpoints.items)
+
+-- what a node had before, by how it comes back to it, and what it has now
+abbrev pub lists_before : Former → NodeLists → NodeLists
+lists_before Same now = now
+lists_before (Whole lists) now = lists
+
+-- the nodes come back so to what they had before
+pub record CanComeBack (before nodes : Nodes) (formers : List Former) : Type 0 where
+  pub count : AreNodes (length formers) before
+  pub each : (v : ℕ) (was now : NodeLists) (former : Former) → HasLists before v was → HasLists nodes v now → slice_get formers v ≡ Some former → lists_before former now ≡ was

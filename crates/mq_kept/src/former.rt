@@ -1,0 +1,128 @@
+// What is kept of the nodes, and how they come back to what they had before an edit.
+ghost use Rattle.std.specs.Prelude.{◌≡◌, ◌<◌, ◌≤◌, All, length, IfOk};
+ghost use Rattle.mq_kept.specs.Formers.{AreNodes, AreNothing, AreSameNodes, CanComeBack, HasLists, IsPut, lists_before, no_lists};
+ghost use Rattle.mq_kept.specs.declared.former.Former.TheVariants.{Same};
+ghost use Rattle.mq_kept.specs.declared.former.Nodes.{Nodes as TheNodes};
+
+use crate::checkpoints::Checkpoints;
+use mq_base::{List, OutOfMemory};
+use mq_core::{Fates, Stream, Visits};
+use std::alloc::Global;
+use std::mem::replace;
+
+/// What is kept of a node.
+#[derive(Drop)]
+pub struct NodeLists {
+    pub visits: Visits,
+    /// What left it, by output.
+    pub streams: List<Stream>,
+    pub checkpoints: Checkpoints,
+}
+
+/// What is kept of all nodes, by order of declaration.
+#[derive(Drop)]
+pub struct Nodes {
+    pub visits: Vec<Visits>,
+    pub outputs: Vec<List<Stream>>,
+    pub checkpoints: Vec<Checkpoints>,
+}
+
+/// How a node comes back to what it had before an edit.
+#[derive(Drop)]
+pub enum Former {
+    /// It has what it had.
+    Same,
+    /// Its lists were made anew: these are the former ones.
+    Whole(NodeLists),
+}
+
+impl Former {
+    /// What the node had before that has these lists now.
+    pub fn put_back(self, now: NodeLists) -> NodeLists
+        ensures { result ≡ lists_before self now }
+    {
+        match self {
+            Former::Same => now,
+            Former::Whole(lists) => {
+                drop(now);
+                lists
+            }
+        }
+    }
+}
+
+/// Nothing is kept of a node.
+pub fn no_lists(alloc: Global) -> NodeLists
+    ensures { result ≡ no_lists }
+{
+    NodeLists {
+        visits: Visits {
+            job: List::new(alloc),
+            arrive: List::new(alloc),
+            found: List::new(alloc),
+            fate: Fates::departures(List::new(alloc)),
+        },
+        streams: List::new(alloc),
+        checkpoints: Checkpoints::Nothing,
+    }
+}
+
+/// Nothing is kept of so many nodes.
+pub fn no_nodes(alloc: Global, count: usize) -> Result<Nodes, OutOfMemory>
+    ensures count { IfOk result (AreNodes count) }
+    ensures nothing { IfOk result AreNothing }
+{
+    let mut visits = Vec::with_capacity(alloc, count)?;
+    let mut outputs = Vec::with_capacity(alloc, count)?;
+    let mut checkpoints = Vec::with_capacity(alloc, count)?;
+    for _ in 0..count {
+        let lists = no_lists(alloc);
+        visits.push_reserved(lists.visits);
+        outputs.push_reserved(lists.streams);
+        checkpoints.push_reserved(lists.checkpoints);
+    }
+    Ok(Nodes {
+        visits,
+        outputs,
+        checkpoints,
+    })
+}
+
+/// So many nodes have what they had.
+pub fn all_same(alloc: Global, count: usize) -> Result<Vec<Former>, OutOfMemory>
+    ensures count { IfOk result (λ formers. length formers.items ≡ count) }
+    ensures same { IfOk result (λ formers. All (λ former. former ≡ Same) formers.items) }
+{
+    let mut formers = Vec::with_capacity(alloc, count)?;
+    for _ in 0..count {
+        formers.push_reserved(Former::Same);
+    }
+    Ok(formers)
+}
+
+/// Puts these lists at a node, and gives those that it had.
+pub fn put_at(nodes: &mut Nodes, at: usize, lists: NodeLists) -> NodeLists
+    requires visits { at < length nodes.old.visits.items }
+    requires outputs { at < length nodes.old.outputs.items }
+    requires checkpoints { at < length nodes.old.checkpoints.items }
+    ensures put { IsPut nodes.old at lists nodes.new }
+    ensures had { HasLists nodes.old at result }
+{
+    NodeLists {
+        visits: replace(&mut nodes.visits[at], lists.visits),
+        streams: replace(&mut nodes.outputs[at], lists.streams),
+        checkpoints: replace(&mut nodes.checkpoints[at], lists.checkpoints),
+    }
+}
+
+/// Puts back what each node had before. It takes no memory.
+pub fn come_back(alloc: Global, nodes: &mut Nodes, formers: &mut [Former])
+    requires { AreNodes (length formers.old) nodes.old }
+    ensures { (before : TheNodes) → CanComeBack before nodes.old formers.old → AreSameNodes before nodes.new }
+{
+    for at in 0..formers.len() {
+        let former = replace(&mut formers[at], Former::Same);
+        let now = put_at(nodes, at, no_lists(alloc));
+        drop(put_at(nodes, at, former.put_back(now)));
+    }
+}
