@@ -61,8 +61,8 @@ impl<'a> Pieces for NodeWaits<'a> {
     }
 }
 
-// Up to how many ticks the waits of so many visits are counted by a second look, where one look found this: 0 where it counted
-// them, and where the longest has more ticks than a piece has visits, and than there are visits.
+// Up to how many ticks the waits of so many visits are counted by a second look, where this is counted of them: 0 where they are by
+// now, and where the longest has more ticks than a piece has visits, and than there are visits.
 fn counted_up_to(sum: &BlockCount, visits: u32) -> u32
     requires { visits ≤ 1048576 }
     ensures { result ≤ 1048576 }
@@ -201,9 +201,9 @@ fn counted_of(
     Ok(counted)
 }
 
-/// The percentiles of the waits at each of these nodes, where they were counted with the totals, or where none is longer than as many
-/// ticks as there are visits: then the visits are cut into pieces, of as many visits as the longest wait has ticks, and 1 to 64
-/// workers make them, who enter the gate. It refuses for want of memory alone.
+/// The percentiles of the waits at each of these nodes, where they were counted with the totals, or none is longer than as many ticks
+/// as there are visits. Then the visits are cut into pieces, of as many visits as the
+/// longest wait has ticks, and 1 to 64 workers make them, who enter the gate. It refuses for want of memory alone.
 pub fn counted_tails<R: Threads + Sync, G: Gate>(
     rt: &R,
     alloc: Global,
