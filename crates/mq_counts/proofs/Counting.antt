@@ -6,6 +6,7 @@ use Rattle.std.proofs.lemmas.Option.{slice_get_within}
 use Rattle.mq_base.proofs.lemmas.Each.{Each-append}
 use Rattle.mq_base.proofs.lemmas.Lists.{get-some, some_inj}
 use Rattle.mq_core.specs.Sequences.{greatest_time, sequence_exit, sequence_totals, visits_by_node}
+use Rattle.mq_core.specs.Results.{Totals}
 use Rattle.mq_core.specs.StandardTable.{run_of}
 use Rattle.mq_core.specs.Theorems.{IsReadFor}
 use Rattle.mq_core.specs.declared.model.Node.{Node}
@@ -16,15 +17,14 @@ use Rattle.mq_counts.proofs.Lists.{pushed-at}
 use Rattle.mq_counts.proofs.Spans.{ended, grown}
 use Rattle.mq_counts.specs.Counts.{AreExits, AreNodeCounts, AreVisitsIn, IsCountIn, IsCountOf, IsVisitsIn, is_read}
 use Rattle.mq_counts.specs.Tails.{IsTailOf}
-use Rattle.mq_counts.specs.Totals.{IsSumOf, IsVisited}
+use Rattle.mq_counts.specs.Totals.{AreLongestOf, AreTotalsOf, IsTotalsOf, IsVisited}
 use Rattle.mq_counts.specs.declared.counts.NodeSequences.{NodeSequences}
 use Rattle.mq_counts.specs.declared.counts.NodeCount.{NodeCount}
 use Rattle.mq_counts.specs.declared.totals.NodeVisits.{NodeVisits}
 use Rattle.mq_stats.specs.Lasts.{LastsAreGreatest}
-use Rattle.mq_stats.specs.Numbers.{AreSmall, totals_from}
 use Rattle.mq_stats.specs.Percentiles.{ArePercentiles, waits_at}
-use Rattle.mq_stats.specs.declared.blocks.BlockCount.{BlockCount}
 use Rattle.mq_stats.specs.declared.exits.Exit.{Exit}
+use Rattle.mq_stats.specs.declared.tallies.NodeTotals.{NodeTotals}
 
 -- Visits. Those of none, and of one more.
 pub visits-in-none : (rows : Rows) (all : List NodeSequences) (visits : List NodeVisits) → visits ≡ [] → AreVisitsIn rows all 0 visits
@@ -44,6 +44,13 @@ visits-in-more rows all i visits visits' sequences its so_far here visited are g
 
 pub visits-in-all : (rows : Rows) (all : List NodeSequences) (i : ℕ) (visits : List NodeVisits) → AreVisitsIn rows all i visits → i ≡ length all → AreVisitsIn rows all (length all) visits
 visits-in-all rows all i visits so_far e = subst (λ n. AreVisitsIn rows all n visits) e so_far
+
+-- totals have the longest of the waits
+pub are-longest : (nodes : List NodeVisits) (totals : List NodeTotals) → AreTotalsOf nodes totals → AreLongestOf nodes totals
+are-longest nodes totals are = record {
+  len = are.len;
+  each = λ v d l node here. ap (λ (t : Totals). t.longest) (are.each v d l node here).0;
+}
 
 -- Exits. What leaves by the first outputs, as many as this.
 pub record AreExitsTo (nodes : List Node) (rows : Rows) (v : ℕ) (streams : List Stream) (count : ℕ) (exits : List Exit) : Type 0 where
@@ -69,12 +76,12 @@ pub exits-all : (nodes : List Node) (rows : Rows) (v : ℕ) (streams : List Stre
 exits-all nodes rows v streams out exits so_far e = record { len = so_far.len ∙ e; each = λ o stream exit there here free. so_far.each o exit here stream there free }
 
 -- What is told of a node.
-pub is-count : (nodes : List Node) (rows : Rows) (form : ℕ) (sequences : NodeSequences) (its : NodeVisits) (sum : BlockCount) (count : NodeCount) → IsVisitsIn rows sequences its → IsSumOf its sum → count.totals ≡ sum.totals → count.last ≡ its.span → AreExits nodes rows sequences.number sequences.streams.now count.exits →
+pub is-count : (nodes : List Node) (rows : Rows) (form : ℕ) (sequences : NodeSequences) (its : NodeVisits) (count : NodeCount) → IsVisitsIn rows sequences its → IsTotalsOf its count.totals → count.last ≡ its.span → AreExits nodes rows sequences.number sequences.streams.now count.exits →
     (form ≡ 2 → IsTailOf its count.tail) → IsCountOf nodes rows form sequences.number sequences.kind.now sequences.visits.now sequences.streams.now count
-is-count nodes rows form sequences its sum count are counted same last exits tail = record {
+is-count nodes rows form sequences its count are totals last exits tail = record {
   last = last ∙ are.span;
-  totals = ap totals_from same ∙ counted.totals ∙ (λ k. sequence_totals (are.table k) (are.kind k) (are.visits k) (sym last k));
-  small = subst AreSmall (sym same) counted.small;
+  totals = totals.0 ∙ (λ k. sequence_totals (are.table k) (are.kind k) (are.visits k) (sym last k));
+  small = totals.1;
   tail = λ e. subst (λ (waits : List ℕ). ArePercentiles waits count.tail) (λ k. waits_at (are.table k) (are.kind k) (are.visits k)) (tail e);
   exits = exits;
 }

@@ -3,6 +3,7 @@ pub mod Sequences
 pub mod Pieces
 pub mod NodeTotals
 pub mod Spans
+pub mod NoWaits
 pub mod CountedTails
 pub mod Endings
 pub mod Staying

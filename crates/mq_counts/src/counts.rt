@@ -8,14 +8,14 @@ ghost use Rattle.mq_stats.specs.Numbers.{AreLeaving};
 ghost use Rattle.mq_counts.specs.Counts.{AreCountable, AreCounts, AreCountsOf, AreExits, AreNodeCounts, AreVisitsIn, IsCountOf, IsVisitsIn, is_read as reads_output};
 ghost use Rattle.mq_counts.specs.Tails.{AreTailsOf, IsTailIn, IsTailOf};
 ghost use Rattle.mq_counts.specs.declared.totals.NodeVisits.{NodeVisits as TheVisits};
-ghost use Rattle.mq_counts.specs.Totals.{AreSumsOf, IsSumOf, IsVisited};
+ghost use Rattle.mq_counts.specs.Totals.{AreLongestOf, AreTotalsOf, IsTotalsOf, IsVisited};
 
 use crate::tails::{NO_WAIT, tails_of};
-use crate::totals::{NodeVisits, sums_by_node};
+use crate::totals::{NodeVisits, totals_of};
 use mq_base::{List, OutOfMemory};
 use mq_core::{Input, Kind, Node, Plan, Rows, Stream, Visits, span_is_sequences};
 use mq_crew::Gate;
-use mq_stats::{BlockCount, Exit, NodeTotals, Percentiles, last_at, lasts_are_greatest, leaving};
+use mq_stats::{Exit, NodeTotals, Percentiles, last_at, lasts_are_greatest, leaving};
 use std::alloc::Global;
 use std::thread::Threads;
 
@@ -70,7 +70,7 @@ pub fn is_read(nodes: &[Node], node: u32, output: usize) -> bool
 }
 
 // The visits to a node, up to the last event there.
-fn visits_in<'a>(rows: &'a Rows, sequences: &NodeSequences<'a>, tails: bool) -> NodeVisits<'a>
+fn visits_in<'a>(rows: &'a Rows, sequences: &NodeSequences<'a>) -> NodeVisits<'a>
     requires { AreCountable rows.now sequences.now }
     ensures visited { IsVisited result }
     ensures its { IsVisitsIn rows.now sequences.now result }
@@ -80,7 +80,6 @@ fn visits_in<'a>(rows: &'a Rows, sequences: &NodeSequences<'a>, tails: bool) -> 
         kind: sequences.kind,
         visits: sequences.visits,
         span: last_at(sequences.visits, sequences.streams),
-        tails,
     }
 }
 
@@ -89,14 +88,13 @@ fn all_visits<'a>(
     alloc: Global,
     rows: &'a Rows,
     all: &List<NodeSequences<'a>>,
-    tails: bool,
 ) -> Result<List<NodeVisits<'a>>, OutOfMemory>
     requires { AllByRecursion (AreCountable rows.now) all.now }
     ensures { IfOk result (λ visits. AreVisitsIn rows.now all.now (length all.now) visits) }
 {
     let mut visits = List::new(alloc);
     for at in 0..all.len() {
-        visits.push(visits_in(rows, all.get(at), tails))?;
+        visits.push(visits_in(rows, all.get(at)))?;
     }
     Ok(visits)
 }
@@ -107,7 +105,7 @@ fn tails_told<R: Threads + Sync, G: Gate>(
     alloc: Global,
     workers: u32,
     nodes: &List<NodeVisits>,
-    sums: &List<BlockCount>,
+    totals: &List<NodeTotals>,
     form: u8,
     gate: &G,
 ) -> Result<List<Percentiles>, OutOfMemory>
@@ -115,13 +113,13 @@ fn tails_told<R: Threads + Sync, G: Gate>(
     requires most { workers ≤ 64 }
     requires few { length nodes.now < 2 ^ 16 }
     requires visited { AllByRecursion IsVisited nodes.now }
-    requires sums { AreSumsOf nodes.now sums.now }
+    requires totals { AreLongestOf nodes.now totals.now }
     ensures { IfOk result (λ tails. form ≡ 2 → AreTailsOf nodes.now tails) }
 {
     if form != 2 {
         return Ok(List::new(alloc));
     }
-    tails_of(rt, alloc, workers, nodes, sums, gate)
+    tails_of(rt, alloc, workers, nodes, totals, gate)
 }
 
 // Those at a node; none where a report of this form tells none.
@@ -167,24 +165,24 @@ fn exits_at(
     Ok(exits)
 }
 
-// What is told of a node, of what is counted of its visits and the percentiles of their waits.
+// What is told of a node, of the totals of its visits and the percentiles of their waits.
 fn count_at(
     alloc: Global,
     nodes: &[Node],
     rows: &Rows,
     sequences: &NodeSequences,
     its: &NodeVisits,
-    sum: &BlockCount,
+    totals: &NodeTotals,
     tail: Percentiles,
 ) -> Result<NodeCount, OutOfMemory>
     requires countable { AreCountable rows.now sequences.now }
     requires its { IsVisitsIn rows.now sequences.now its.now }
-    requires sum { IsSumOf its.now sum.now }
+    requires totals { IsTotalsOf its.now totals.now }
     ensures { IfOk result (λ count. (form : ℕ) → (form ≡ 2 → IsTailOf its.now tail) → IsCountOf nodes.now rows.now form sequences.now.number sequences.now.kind.now sequences.now.visits.now sequences.now.streams.now count) }
 {
     let exits = exits_at(alloc, nodes, rows, sequences.number, sequences.streams)?;
     Ok(NodeCount {
-        totals: sum.totals,
+        totals: *totals,
         last: its.span,
         tail,
         exits,
@@ -198,13 +196,13 @@ fn counts_at(
     rows: &Rows,
     all: &List<NodeSequences>,
     visits: &List<NodeVisits>,
-    sums: &List<BlockCount>,
+    totals: &List<NodeTotals>,
     tails: &List<Percentiles>,
     form: u8,
 ) -> Result<List<NodeCount>, OutOfMemory>
     requires countable { AllByRecursion (AreCountable rows.now) all.now }
     requires visits { AreVisitsIn rows.now all.now (length all.now) visits.now }
-    requires sums { AreSumsOf visits.now sums.now }
+    requires totals { AreTotalsOf visits.now totals.now }
     requires tails { form ≡ 2 → AreTailsOf visits.now tails.now }
     ensures { IfOk result (λ counts. AreCountsOf nodes.now rows.now form all.now counts) }
 {
@@ -212,7 +210,7 @@ fn counts_at(
     for at in 0..all.len() {
         let tail = tail_told(tails, form, at);
         let (sequences, its) = (all.get(at), visits.get(at));
-        match count_at(alloc, nodes, rows, sequences, its, sums.get(at), tail) {
+        match count_at(alloc, nodes, rows, sequences, its, totals.get(at), tail) {
             Ok(count) => counts.push(count)?,
             Err(fault) => {
                 drop(counts);
@@ -223,7 +221,7 @@ fn counts_at(
     Ok(counts)
 }
 
-// The same, where what is counted of them is there.
+// The same, where the totals are there.
 fn counts_with<R: Threads + Sync, G: Gate>(
     rt: &R,
     alloc: Global,
@@ -232,7 +230,7 @@ fn counts_with<R: Threads + Sync, G: Gate>(
     rows: &Rows,
     all: &List<NodeSequences>,
     visits: &List<NodeVisits>,
-    sums: &List<BlockCount>,
+    totals: &List<NodeTotals>,
     form: u8,
     gate: &G,
 ) -> Result<List<NodeCount>, OutOfMemory>
@@ -241,16 +239,16 @@ fn counts_with<R: Threads + Sync, G: Gate>(
     requires few { length all.now < 2 ^ 16 }
     requires countable { AllByRecursion (AreCountable rows.now) all.now }
     requires visits { AreVisitsIn rows.now all.now (length all.now) visits.now }
-    requires sums { AreSumsOf visits.now sums.now }
+    requires totals { AreTotalsOf visits.now totals.now }
     ensures { IfOk result (λ counts. AreCountsOf nodes.now rows.now form all.now counts) }
 {
-    let tails = tails_told(rt, alloc, workers, visits, sums, form, gate)?;
-    let counts = counts_at(alloc, nodes, rows, all, visits, sums, &tails, form);
+    let tails = tails_told(rt, alloc, workers, visits, totals, form, gate)?;
+    let counts = counts_at(alloc, nodes, rows, all, visits, totals, &tails, form);
     drop(tails);
     counts
 }
 
-/// What is told of each of these nodes of a network, at most 65,535: totals, in form 2 percentiles (`tails_of`), and
+/// What is told of each of these nodes of a network, at most 65,535: totals (`totals_of`), in form 2 percentiles (`tails_of`), and
 /// what leaves by each output that no input of the network reads. 1 to 64 workers work it out, who enter the gate. It refuses
 /// for want of memory alone.
 pub fn counts_of<R: Threads + Sync, G: Gate>(
@@ -269,13 +267,13 @@ pub fn counts_of<R: Threads + Sync, G: Gate>(
     requires countable { AllByRecursion (AreCountable rows.now) all.now }
     ensures { IfOk result (λ counts. AreCountsOf nodes.now rows.now form all.now counts) }
 {
-    let visits = all_visits(alloc, rows, all, form == 2)?;
-    match sums_by_node(rt, alloc, workers, &visits, gate) {
-        Ok(sums) => {
+    let visits = all_visits(alloc, rows, all)?;
+    match totals_of(rt, alloc, workers, &visits, gate) {
+        Ok(totals) => {
             let counts = counts_with(
-                rt, alloc, workers, nodes, rows, all, &visits, &sums, form, gate,
+                rt, alloc, workers, nodes, rows, all, &visits, &totals, form, gate,
             );
-            drop(sums);
+            drop(totals);
             drop(visits);
             counts
         }

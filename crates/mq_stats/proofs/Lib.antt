@@ -1,4 +1,3 @@
-pub mod Asked
 pub mod Backs
 pub mod Steps
 pub mod RunSteps
@@ -17,4 +16,3 @@ pub mod Gathering
 pub mod Leaves
 pub mod Lasts
 pub mod WaitsJoin
-pub mod Waited

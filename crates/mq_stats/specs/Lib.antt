@@ -1,11 +1,9 @@
 pub mod Ahead
-pub mod Bare
-pub mod Blocks
 pub mod Departures
 pub mod Lasts
 pub mod Numbers
 pub mod Percentiles
-pub mod RunNumbers
 pub mod Tables
+pub mod RunNumbers
 pub mod WaitCounts
 pub mod Waits

@@ -2,8 +2,12 @@
 use Rattle.std.specs.Prelude.{◌≡◌, ◌+◌, ◌*◌, ◌^◌, ◌<◌, ◌≤◌, ℕ, List, All, length, max}
 use Rattle.mq_base.specs.Lists.{between}
 use Rattle.mq_core.specs.Asked.{HasDemands}
-use Rattle.mq_core.specs.Results.{Totals}
+use Rattle.mq_core.specs.Fates.{service_time}
+use Rattle.mq_core.specs.Handling.{demand_of_job}
+use Rattle.mq_core.specs.Results.{Totals, bare_time}
 use Rattle.mq_core.specs.Sequences.{sequence_totals}
+use Rattle.mq_core.specs.Told.{HasDemand}
+use Rattle.mq_core.specs.declared.model.Demand.{Demand}
 use Rattle.mq_core.specs.declared.model.Fate.{Fate}
 use Rattle.mq_core.specs.declared.model.Kind.{Kind}
 use Rattle.mq_core.specs.declared.model.Rows.{Rows}
@@ -29,6 +33,12 @@ visits_of_columns job arrive found fate = record { job = job; arrive = arrive; f
 abbrev pub visits_between : ℕ → ℕ → Visits → Visits
 visits_between from to visits =
     visits_of_columns (between from to visits.job) (between from to visits.arrive) (between from to visits.found) (between from to visits.fate)
+
+-- what a job asks for at a node of this kind is this demand alone: it is both its bare time and its service
+pub record AsksOnce (kind : Kind) (demand : Demand) : Type 0 where
+  pub told : (rows : Rows) (job : ℕ) → HasDemands rows kind job → HasDemand rows demand job
+  pub bare : (rows : Rows) (job : ℕ) → bare_time rows kind job ≡ demand_of_job rows demand job
+  pub service : (rows : Rows) (job : ℕ) → service_time rows kind job ≡ demand_of_job rows demand job
 
 -- a stream of jobs of these rows, no longer than that
 pub record AreLeaving (rows : Rows) (stream : Stream) : Type 0 where

@@ -2,8 +2,6 @@
 //! what leaves by an output, and the time span.
 #![tactic(auto)]
 
-mod bare;
-mod blocks;
 mod exits;
 mod in_order;
 mod laws;
@@ -16,7 +14,6 @@ mod tallies;
 mod wait_counts;
 mod waits;
 
-pub use blocks::{BlockCount, blocks_added, count_block};
 pub use exits::{Exit, leaving};
 pub use laws::{lasts_are_greatest, runs_give_streams, runs_give_visits, runs_have_few_visits};
 pub use occupancy::found;
@@ -25,8 +22,6 @@ pub use pieces::{
 };
 pub use spans::{last_at, span};
 pub use tails::{Percentiles, tail, tail_below};
-pub use tallies::NodeTotals;
-pub use wait_counts::{
-    WaitCounts, count_between, counted_percentiles, counts_added, no_counts, waits_join,
-};
+pub use tallies::{NodeTotals, totals, totals_added, totals_between, totals_join};
+pub use wait_counts::{WaitCounts, count_between, counted_percentiles, counts_added, waits_join};
 pub use waits::wait_of;

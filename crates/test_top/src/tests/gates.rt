@@ -110,18 +110,17 @@ const MERGE: Case = Case {
 };
 
 // Two tandems of one wave, at which jobs wait: the rows of both sources, how each tandem is worked out, their summaries, applied
-// blocks and last pieces, and their totals, with which the waits are counted.
+// blocks and last pieces, their totals, and behind these the waits of both, counted.
 const WAITS: Case = Case {
     model: b"model 1\nsource src\nsource web\ntandem left =1 / 1 =2 from src\ntandem right =1 / 1 =3 from web\n",
     trace: b"source,time\nsrc,0\nweb,0\nsrc,0\nweb,0\nsrc,0\nweb,0\n",
-    lists: &[2, 2, 6, 6, 10, 2],
+    lists: &[2, 2, 6, 6, 10, 2, 2],
     ..TANDEM
 };
 
-// The same with waits too long to be counted: behind the totals the percentiles are a piece for each node.
+// The same with waits too long to be counted: the percentiles are a piece for each node.
 const LONG_WAITS: Case = Case {
     model: b"model 1\nsource src\nsource web\ntandem left =1 / 1 =20000 from src\ntandem right =1 / 1 =30000 from web\n",
-    lists: &[2, 2, 6, 6, 10, 2, 2],
     ..WAITS
 };
 
@@ -132,11 +131,11 @@ const UNTOLD_WAITS: Case = Case {
     ..LONG_WAITS
 };
 
-// Two tandems of two waves, with the lines of the jobs: behind the totals of all nodes the percentiles of all nodes.
-const LONG_WAITS_OF_A_KEPT_RUN: Case = Case {
-    model: b"model 1\nsource src\ntandem first =1 / 1 =20000 from src\ntandem then =1 / 1 =30000 from first\n",
+// Two tandems of two waves, with the lines of the jobs: behind the totals of all nodes the waits of both are counted.
+const WAITS_OF_A_KEPT_RUN: Case = Case {
+    model: b"model 1\nsource src\ntandem first =1 / 1 =2 from src\ntandem then =1 / 1 =3 from first\n",
     jobs: true,
-    lists: &[4, 3, 3, 5, 3, 3, 5, 3, 3],
+    lists: &[4, 3, 3, 5, 3, 3, 5, 3, 2],
     ..TANDEM
 };
 
@@ -341,7 +340,7 @@ fn two_threads_enter_the_gate_at_a_merge(rt: HostRuntime) -> Result<(), Fail> {
 }
 
 #[test]
-fn two_threads_enter_the_gate_at_totals_with_waits(rt: HostRuntime) -> Result<(), Fail> {
+fn two_threads_enter_the_gate_at_percentiles(rt: HostRuntime) -> Result<(), Fail> {
     assert!(rt; has_lists(&rt, rt.alloc(), WAITS, &with_carries())?);
     Ok(())
 }
@@ -360,6 +359,6 @@ fn nobody_enters_the_gate_at_percentiles_that_are_not_told(rt: HostRuntime) -> R
 
 #[test]
 fn two_threads_enter_the_gate_at_percentiles_of_a_kept_run(rt: HostRuntime) -> Result<(), Fail> {
-    assert!(rt; has_lists(&rt, rt.alloc(), LONG_WAITS_OF_A_KEPT_RUN, &with_carries())?);
+    assert!(rt; has_lists(&rt, rt.alloc(), WAITS_OF_A_KEPT_RUN, &with_carries())?);
     Ok(())
 }

@@ -3,7 +3,7 @@ use Rattle.mq_crew.specs.Crew.{AreAll}
 use Rattle.mq_counts.proofs.Counting.{count-in}
 use Rattle.mq_counts.proofs.Lists.{all-more, all-none, among-all}
 use Rattle.mq_counts.specs.Counts.{IsCountIn}
-use Rattle.mq_counts.specs.Totals.{IsSumIn}
+use Rattle.mq_counts.specs.Totals.{IsTotalsIn}
 use Rattle.mq_counts.proofs.counts.counts_at.Goals as goal
 
 pub loop-at-init : goal.loop-at-init
@@ -12,8 +12,8 @@ loop-at-init c = all-none (IsCountIn c.args.nodes.now c.args.rows.now c.args.for
 pub count_at-requires-clause-its : goal.count_at-requires-clause-its
 count_at-requires-clause-its c = c.requires.visits.each c.loop-at.at c.get-its.result.now c.get-its.ensures c.get-sequences.result.now c.get-sequences.ensures
 
-pub count_at-requires-clause-sum : goal.count_at-requires-clause-sum
-count_at-requires-clause-sum c = among-all (IsSumIn c.args.visits.now) _ c.args.sums.now c.loop-at.at c.get.result.now c.requires.sums c.get.ensures c.get-its.result.now c.get-its.ensures
+pub count_at-requires-clause-totals : goal.count_at-requires-clause-totals
+count_at-requires-clause-totals c = among-all (IsTotalsIn c.args.visits.now) _ c.args.totals.now c.loop-at.at c.get.result.now c.requires.totals c.get.ensures c.get-its.result.now c.get-its.ensures
 
 pub loop-at-preserved : goal.loop-at-preserved
 loop-at-preserved c =
