@@ -32,7 +32,7 @@ pub struct NodeSequences<'a> {
 /// What is told of a node.
 #[derive(Drop)]
 pub struct NodeCount {
-    /// The totals up to the time of the last event at the node: held visits stay on (`totals_until`).
+    /// The totals up to the time of the last event at the node: held visits stay on (`totals_at`).
     pub totals: NodeTotals,
     /// That time, in ticks.
     pub last: u64,

@@ -110,7 +110,7 @@ fn judge_trace<R: Threads + Sync, G: Gate>(
     }
 }
 
-// The same of bytes that are handed over: they are let go before the rows are put together.
+// The same of bytes that are handed over: where they are read in pieces they are let go before the rows of these are joined.
 fn judge_own_trace<R: Threads + Sync, G: Gate>(
     alloc: Global,
     crew: &Crew<R, G>,
