@@ -62,6 +62,26 @@ INPUTS = {
         {"g": 4, "kind": 2, "e": 9, "a": 5, "b": 5},
         12,
     ),
+    # twelve stations in a row, through each of which every job goes
+    "twelve": Input(
+        ["a", "b"],
+        [
+            "server s1 d from a b",
+            "delay s2 e from s1",
+            "server s3 e from s2",
+            "tandem s4 d / 2 e from s3",
+            "server s5 d from s4",
+            "forkjoin s6 d | e from s5",
+            "server s7 e from s6",
+            "delay s8 d from s7",
+            "loss s9 4 d from s8",
+            "server s10 e from s9 s9.1",
+            "split s11 2 turn from s10",
+            "server s12 d from s11 s11.1",
+        ],
+        {"d": 9, "e": 9},
+        12,
+    ),
 }
 
 # Times are in seconds: what passed, and what processors worked.
