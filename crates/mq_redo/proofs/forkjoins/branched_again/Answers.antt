@@ -1,104 +1,121 @@
-use Rattle.std.proofs.Common.{◌≡◌, ◌∙◌, ◌*◌, ◌≤◌, ℕ, List, ap, fold, get_or, length, map, max, min, refl, subst, sym, arith}
-use Rattle.std.specs.Prelude.{replicate}
+use Rattle.std.proofs.Common.{◌≡◌, ◌∙◌, ◌+◌, ◌-◌, ◌*◌, ◌≤◌, All, Bool, ◌∷◌, ℕ, List, slice_get, ap, drop, length, map, refl, sym, subst, arith}
 use Rattle.std.specs.List.{flat_map}
-use Rattle.std.proofs.lemmas.List.{length-map}
+use Rattle.std.proofs.lemmas.List.{length-drop, length-map}
+use Rattle.std.proofs.lemmas.List.Elements.{All-drop}
 use Rattle.mq_core.specs.Handling.{demand_of_job}
-use Rattle.mq_core.specs.Kinds.ForkJoin.{branch_demands}
-use Rattle.mq_core.specs.Recurrences.{forkjoin_departs}
+use Rattle.mq_core.specs.Sequences.{IsSoundLoad}
+use Rattle.mq_core.specs.Told.{AreTold}
 use Rattle.mq_core.specs.declared.model.Demand.{Demand}
-use Rattle.mq_core.specs.declared.model.Kind.TheVariants.{ForkJoin}
-use Rattle.mq_forkjoin.specs.Bounds.{one-acts}
-use Rattle.mq_forkjoin.specs.Fronts.{jobs_act, one_job}
-use Rattle.mq_forkjoin.specs.Runs.{asked_at, job_run}
-use Rattle.mq_forkjoin.specs.Servers.{begins_of, servers_of}
+use Rattle.mq_core.specs.declared.model.Fate.TheVariants.{Departs}
+use Rattle.mq_core.specs.declared.model.Stream.{Stream}
+use Rattle.mq_forkjoin.specs.Runs.{IsForkJoinLoad}
+use Rattle.mq_forkjoin.specs.Servers.{begins_of}
+use Rattle.mq_stations.proofs.lemmas.StageFacts.{demands-asked, demands-told}
+use Rattle.mq_stations.specs.Leaving.{AreAsked}
 use Rattle.mq_redo.specs.Branches.{asks_at_servers}
-use Rattle.mq_redo.specs.Kept.{coming_as, forkjoin_does}
-use Rattle.mq_redo.specs.Staying.{IsKeptScan}
-use Rattle.mq_redo.proofs.Begins.{begins-long, begins-map, flat-map, some-server}
-use Rattle.mq_redo.proofs.Same.{forkjoin-same}
-use Rattle.mq_scan.specs.Folds.{carries_after}
-use Rattle.mq_stations.proofs.lemmas.Blocks.{blocks-all}
-use Rattle.mq_stations.proofs.lemmas.Lists.{Each-get_or}
-use Rattle.mq_stations.proofs.lemmas.StageFacts.{demands-asked, demands-told, forkjoin-departs, loads-sound, sound-branches}
+use Rattle.mq_redo.proofs.ForkJoinTail.{acts, few-kept, forkjoin-load, served, served-behind, station}
+use Rattle.mq_redo.proofs.Last.{asked-last, loads-last, told-last}
+use Rattle.mq_redo.proofs.Tails.{blocks-behind}
 use Rattle.mq_redo.proofs.forkjoins.branched_again.Goals as goal
-
-pub all_demands_of-requires : goal.all_demands_of-requires
-all_demands_of-requires g c = demands-asked c.args.rows.now _ _ c.args.arrivals.now.job c.in_ok-asked.ensures (demands-told c.args.rows.now _ c.args.arrivals.now.job c.requires.load.told)
 
 pub new-step-requires : goal.new-step-requires
 new-step-requires g c =
-    let sound = sound-branches c.requires.load.columns c.args.branches.now c.requires.load.sound in
-    let few = sound.few in
-    let asked : length c.in_ok-asked.asked ≡ length (flat_map (λ demands. demands) c.args.branches.now) = ap length c.in_ok-asked.ensures in
-    let begins : length c.in_ok-begins.begins ≡ length (flat_map (λ demands. demands) c.args.branches.now) = ap length c.in_ok-begins.ensures ∙ begins-long c.args.branches.now in
-    let demands : length c.in_ok-demands.demands ≡ length c.in_ok-asked.asked = ap length c.in_ok-demands.ensures ∙ length-map c.in_ok-asked.asked _ in
-    record {
-      few = c.requires.load.few;
-      early = Each-get_or (λ time. time ≤ 1152921504606846976) c.args.arrivals.now.time c.requires.load.ordered.early;
-      columns = loads-sound c.args.rows.now (ForkJoin c.args.branches.now) _ _ c.args.arrivals.now _ c.requires.load c.in_ok-asked.ensures (demands-told c.args.rows.now _ c.args.arrivals.now.job c.requires.load.told) c.in_ok-demands.ensures;
-      servers = omega arith;
-      each = omega arith;
-    }
-
-pub departures_behind-requires-clause-stays : goal.departures_behind-requires-clause-stays
-departures_behind-requires-clause-stays g c =
-    let step = c.new-step.result in
-    let its = c.new-step.ensures in
-    let rows = c.args.rows.now in
-    let jobs = c.args.arrivals.now.job in
+    let from = c.args.first * c.args.blocks.now.block in
+    let is = c.stream-behind.ensures ∙ c.in_ok-last.ensures in
     let branches = c.args.branches.now in
-    let new = coming_as rows c.args.arrivals.now in
-    let old = c.requires.kept.0 in
-    let even = c.requires.kept.2.even in
-    let same = c.requires.kept.2.same in
-    let few = (c.alike_is_first.ensures (ForkJoin branches) old new).old_few in
-    let b : step.begins.now ≡ begins_of branches = its.begins ∙ c.in_ok-begins.ensures in
-    let d : step.demands.now ≡ asks_at_servers rows branches jobs = its.demands ∙ (c.in_ok-demands.ensures ∙ ap (map (λ demand. map (demand_of_job rows demand) jobs)) c.in_ok-asked.ensures) in
-    record {
-      does = forkjoin_does branches old;
-      jobs = length old.arrive;
-      kept = c.requires.kept.1;
-      within = omega arith;
-      same = λ k l last.
-          forkjoin-same c.alike_is_first.ensures old new k branches last (omega arith)
-          ∙ sym (one-acts step k last ∙ (λ i. job_run (get_or (its.arrive i) k 0) 0 (b i) (asked_at (d i) k) last));
-    }
+    let asked = flat_map (λ demands. demands) branches in
+    let all = c.args.arrivals.now in
+    let d : c.in_ok-demands.demands ≡ map (drop from) (asks_at_servers c.args.rows.now branches all.job) = c.in_ok-demands.ensures ∙ ((λ i. map (λ (demand : Demand). map (demand_of_job c.args.rows.now demand) (is i).job) (c.in_ok-asked.ensures i)) ∙ asked-last c.args.rows.now asked all.job from) in
+    let load = forkjoin-load c.args.rows.now branches all c.requires.load in
+    let few = load.few in
+    let each = load.each in
+    let servers = load.servers in
+    let long = length-drop from all.time in
+    let many = length-map (asks_at_servers c.args.rows.now branches all.job) (drop from) in
+    subst (λ (z : List ℕ × List Bool × List (List ℕ)). IsForkJoinLoad z.0 z.1 z.2) (λ i. (sym (ap (λ (s : Stream). s.time) is) i, sym c.in_ok-begins.ensures i, sym d i))
+    (record {
+      few = omega arith;
+      early = All-drop (λ time. time ≤ 1152921504606846976) from all.time load.early;
+      columns = loads-last all.time (asks_at_servers c.args.rows.now branches all.job) from load.columns;
+      servers = load.servers;
+      each = omega arith;
+    })
+
+pub carry_before-carry-requires : goal.carry_before-carry-requires
+carry_before-carry-requires g c =
+    let from = c.args.first * c.args.blocks.now.block in
+    let branches = c.args.branches.now in
+    let inside : from ≤ length c.args.arrivals.now.time = (let within = c.requires.inside in let all = c.requires.all in omega arith) in
+    few-kept c.alike_is_first.ensures c.args.rows.now branches c.args.arrivals.now c.requires.load c.args.blocks.now.block c.args.first c.args.carries.now inside c.requires.kept.0 c.requires.kept.1
+
+pub redone_last-requires-clause-acts : goal.redone_last-requires-clause-acts
+redone_last-requires-clause-acts g c =
+    let from = c.args.first * c.args.blocks.now.block in
+    let is = c.stream-behind.ensures ∙ c.in_ok-last.ensures in
+    let branches = c.args.branches.now in
+    let asked = flat_map (λ demands. demands) branches in
+    let inside : from ≤ length c.args.arrivals.now.time = (let within = c.requires.inside in let all = c.requires.all in omega arith) in
+    let d : c.new-step.result.demands.now ≡ map (drop from) (asks_at_servers c.args.rows.now branches c.args.arrivals.now.job) =
+    c.new-step.ensures.demands ∙ (c.in_ok-demands.ensures ∙ ((λ i. map (λ (demand : Demand). map (demand_of_job c.args.rows.now demand) (is i).job) (c.in_ok-asked.ensures i)) ∙ asked-last c.args.rows.now asked c.args.arrivals.now.job from)) in
+    let a = c.new-step.ensures.arrive ∙ ap (λ (s : Stream). s.time) is in
+    let b : c.new-step.result.begins.now ≡ begins_of branches = c.new-step.ensures.begins ∙ c.in_ok-begins.ensures in
+    let at = ap (λ start. slice_get (start ∷ c.args.carries.now) c.args.first) (sym c.first.ensures) ∙ c.carry_before-carry.ensures in
+    acts c.alike_is_first.ensures c.args.rows.now branches c.args.arrivals.now c.requires.load c.args.blocks.now.block c.args.first c.args.carries.now inside c.requires.kept.0 c.requires.kept.1 c.new-step.result c.carry_before-carry.result a b d at
 
 pub returns-clause-served : goal.returns-clause-served
-returns-clause-served g c =
-    let step = c.new-step.result in
-    let its = c.new-step.ensures in
-    let rows = c.args.rows.now in
-    let jobs = c.args.arrivals.now.job in
+returns-clause-served g c = λ times stays.
+    let from = c.args.first * c.args.blocks.now.block in
+    let is = c.stream-behind.ensures ∙ c.in_ok-last.ensures in
     let branches = c.args.branches.now in
-    let blocks = c.args.blocks.now in
-    let sound = sound-branches c.requires.load.columns branches c.requires.load.sound in
-    let two = sound.some in
-    let demands = branch_demands rows branches jobs in
-    let f : Demand → List ℕ = (λ demand. map (demand_of_job rows demand) jobs) in
-    let b : step.begins.now ≡ begins_of demands = its.begins ∙ (c.in_ok-begins.ensures ∙ sym (begins-map f branches)) in
-    let d : step.demands.now ≡ servers_of demands = its.demands ∙ (c.in_ok-demands.ensures ∙ (ap (map f) c.in_ok-asked.ensures ∙ sym (flat-map f branches))) in
-    let count : length (servers_of demands) ≡ length (flat_map (λ ds. ds) branches) = ap length (flat-map f branches) ∙ length-map (flat_map (λ ds. ds) branches) f in
-    let one = some-server branches (omega arith) sound.served in
-    let all : min (blocks.blocks * blocks.block) blocks.n ≡ length step.arrive.now = blocks-all blocks ∙ (c.requires.all ∙ ap length (sym its.arrive)) in
-    forkjoin-departs rows branches c.args.arrivals.now demands c.in_ok-done.done.times.items refl
-    (c.in_ok-done.ensures.done.times_are ∙ (ap (λ (n : ℕ). map (fold max 0) (carries_after jobs_act (replicate 8 0) (one_job step) 0 n)) all ∙ (c.carries_hold_departures.ensures demands d b (omega arith) ∙ (λ i. forkjoin_departs (its.arrive i) demands))))
+    let asked = flat_map (λ demands. demands) branches in
+    let inside : from ≤ length c.args.arrivals.now.time = (let within = c.requires.inside in let all = c.requires.all in omega arith) in
+    let d : c.new-step.result.demands.now ≡ map (drop from) (asks_at_servers c.args.rows.now branches c.args.arrivals.now.job) =
+    c.new-step.ensures.demands ∙ (c.in_ok-demands.ensures ∙ ((λ i. map (λ (demand : Demand). map (demand_of_job c.args.rows.now demand) (is i).job) (c.in_ok-asked.ensures i)) ∙ asked-last c.args.rows.now asked c.args.arrivals.now.job from)) in
+    let a = c.new-step.ensures.arrive ∙ ap (λ (s : Stream). s.time) is in
+    let b : c.new-step.result.begins.now ≡ begins_of branches = c.new-step.ensures.begins ∙ c.in_ok-begins.ensures in
+    let at = ap (λ start. slice_get (start ∷ c.args.carries.now) c.args.first) (sym c.first.ensures) ∙ c.carry_before-carry.ensures in
+    let done = c.in_ok-done.done in
+    served-behind c.alike_is_first.ensures c.args.rows.now branches c.args.arrivals.now c.requires.load c.args.blocks.now.block c.args.first c.args.carries.now inside times stays done.times.items
+    (served c.alike_is_first.ensures c.args.rows.now branches c.args.arrivals.now c.requires.load c.args.blocks.now.block c.args.first c.args.carries.now inside (map (λ time. Departs time) times) stays c.args.blocks.now c.cut.result c.requires.all refl c.cut.ensures.1 c.new-step.result (c.cut.ensures.0 ∙ c.count.ensures) a b d c.carry_before-carry.result at done.times.items done.carries.items c.in_ok-done.ensures.done)
 
 pub returns-clause-kept : goal.returns-clause-kept
-returns-clause-kept g c =
-    let step = c.new-step.result in
-    let its = c.new-step.ensures in
-    let rows = c.args.rows.now in
-    let jobs = c.args.arrivals.now.job in
+returns-clause-kept g c = λ fates stays.
+    let from = c.args.first * c.args.blocks.now.block in
+    let is = c.stream-behind.ensures ∙ c.in_ok-last.ensures in
     let branches = c.args.branches.now in
-    let blocks = c.args.blocks.now in
+    let asked = flat_map (λ demands. demands) branches in
+    let inside : from ≤ length c.args.arrivals.now.time = (let within = c.requires.inside in let all = c.requires.all in omega arith) in
+    let d : c.new-step.result.demands.now ≡ map (drop from) (asks_at_servers c.args.rows.now branches c.args.arrivals.now.job) =
+    c.new-step.ensures.demands ∙ (c.in_ok-demands.ensures ∙ ((λ i. map (λ (demand : Demand). map (demand_of_job c.args.rows.now demand) (is i).job) (c.in_ok-asked.ensures i)) ∙ asked-last c.args.rows.now asked c.args.arrivals.now.job from)) in
+    let a = c.new-step.ensures.arrive ∙ ap (λ (s : Stream). s.time) is in
+    let b : c.new-step.result.begins.now ≡ begins_of branches = c.new-step.ensures.begins ∙ c.in_ok-begins.ensures in
+    let at = ap (λ start. slice_get (start ∷ c.args.carries.now) c.args.first) (sym c.first.ensures) ∙ c.carry_before-carry.ensures in
     let done = c.in_ok-done.done in
-    let b : step.begins.now ≡ begins_of branches = its.begins ∙ c.in_ok-begins.ensures in
-    let d : step.demands.now ≡ asks_at_servers rows branches jobs = its.demands ∙ (c.in_ok-demands.ensures ∙ ap (map (λ demand. map (demand_of_job rows demand) jobs)) c.in_ok-asked.ensures) in
-    record {
-      times = done.times.items;
-      fates_are = refl;
-      scan = subst (λ (z : (ℕ → List ℕ → List ℕ) × ℕ). IsKeptScan (fold max 0) z.0 (replicate 8 0) z.1 blocks.block done.times.items done.carries.items)
-          (λ i. (λ k last. (one-acts step k last ∙ (λ j. job_run (get_or (its.arrive j) k 0) 0 (b j) (asked_at (d j) k) last)) i, c.requires.all i))
-          (c.done_are_kept.ensures blocks done.times.items done.carries.items c.in_ok-done.ensures.done);
-    }
+    station c.alike_is_first.ensures c.args.rows.now branches c.args.arrivals.now c.requires.load c.args.blocks.now.block c.args.first c.args.carries.now inside fates stays c.args.blocks.now c.cut.result c.requires.all refl c.cut.ensures.1 c.new-step.result (c.cut.ensures.0 ∙ c.count.ensures) a b d c.carry_before-carry.result at done.times.items done.carries.items c.in_ok-done.ensures.done
+
+pub returns-in_err-done-clause-spent : goal.returns-in_err-done-clause-spent
+returns-in_err-done-clause-spent g c =
+    let spent = c.redone_last.ensures.spent in
+    let from = c.args.first * c.args.blocks.now.block in
+    let is = c.stream-behind.ensures ∙ c.in_ok-last.ensures in
+    let count : c.cut.result.n + from ≡ c.args.blocks.now.n = (let n = c.cut.ensures.0 ∙ (c.count.ensures ∙ (ap length c.new-step.ensures.arrive ∙ (ap (λ (s : Stream). length s.time) is ∙ length-drop from c.args.arrivals.now.time))) in let within = c.requires.inside in let all = c.requires.all in omega arith) in
+    let many = blocks-behind c.args.blocks.now c.cut.result c.args.first c.cut.ensures.1 count in
+    omega arith
+
+pub returns-clause-spent : goal.returns-clause-spent
+returns-clause-spent g c =
+    let spent = c.redone_last.ensures.spent in
+    let from = c.args.first * c.args.blocks.now.block in
+    let is = c.stream-behind.ensures ∙ c.in_ok-last.ensures in
+    let count : c.cut.result.n + from ≡ c.args.blocks.now.n = (let n = c.cut.ensures.0 ∙ (c.count.ensures ∙ (ap length c.new-step.ensures.arrive ∙ (ap (λ (s : Stream). length s.time) is ∙ length-drop from c.args.arrivals.now.time))) in let within = c.requires.inside in let all = c.requires.all in omega arith) in
+    let many = blocks-behind c.args.blocks.now c.cut.result c.args.first c.cut.ensures.1 count in
+    omega arith
+
+pub returns-clause-counted : goal.returns-clause-counted
+returns-clause-counted g c =
+    let counted = c.in_ok-done.ensures.counted in
+    let from = c.args.first * c.args.blocks.now.block in
+    let is = c.stream-behind.ensures ∙ c.in_ok-last.ensures in
+    let count : c.cut.result.n + from ≡ c.args.blocks.now.n = (let n = c.cut.ensures.0 ∙ (c.count.ensures ∙ (ap length c.new-step.ensures.arrive ∙ (ap (λ (s : Stream). length s.time) is ∙ length-drop from c.args.arrivals.now.time))) in let within = c.requires.inside in let all = c.requires.all in omega arith) in
+    let many = blocks-behind c.args.blocks.now c.cut.result c.args.first c.cut.ensures.1 count in
+    omega arith

@@ -1,78 +1,132 @@
-use Rattle.std.proofs.Common.{◌≡◌, ◌∙◌, ◌*◌, [], ℕ, List, ap, length, map, min, refl, subst, sym, arith}
+use Rattle.std.proofs.Common.{◌≡◌, ◌∙◌, ◌+◌, ◌-◌, ◌*◌, ◌≤◌, All, [], ◌∷◌, ℕ, List, slice_get, ap, drop, length, map, refl, sym, subst, arith}
+use Rattle.std.proofs.lemmas.List.{length-drop}
 use Rattle.mq_core.specs.Handling.{demand_of_job}
-use Rattle.mq_core.specs.Recurrences.{tandem_departs}
-use Rattle.mq_core.specs.declared.model.Kind.TheVariants.{Tandem}
-use Rattle.mq_maxplus.specs.Matrices.{matrix_act}
-use Rattle.mq_redo.specs.Stages.{asks_at_stages, last_departure, places_of}
-use Rattle.mq_redo.specs.Kept.{coming_as, tandem_does}
-use Rattle.mq_redo.specs.Staying.{HaveStayed, IsKeptScan}
-use Rattle.mq_redo.proofs.Same.{tandem-same}
-use Rattle.mq_scan.specs.Folds.{carries_after}
-use Rattle.mq_stations.proofs.lemmas.Blocks.{blocks-all}
-use Rattle.mq_stations.proofs.lemmas.StageFacts.{demands-told, loads-sound, stages-are, tandem-served}
-use Rattle.mq_tandem.specs.Rows.{job_matrix, none_kept}
+use Rattle.mq_core.specs.Sequences.{IsSoundLoad}
+use Rattle.mq_core.specs.Told.{AreTold}
+use Rattle.mq_core.specs.declared.model.Demand.{Demand}
+use Rattle.mq_core.specs.declared.model.Fate.TheVariants.{Departs}
+use Rattle.mq_core.specs.declared.model.Stage.{Stage}
+use Rattle.mq_core.specs.declared.model.Stream.{Stream}
+use Rattle.mq_stations.proofs.lemmas.StageFacts.{demands-asked, demands-told, stages-are}
+use Rattle.mq_stations.specs.Leaving.{AreAsked}
+use Rattle.mq_tandem.specs.Rows.{none_kept}
+use Rattle.mq_redo.specs.Stages.{asks_at_stages, places_of}
+use Rattle.mq_redo.proofs.Last.{asked-last, loads-last, told-last}
+use Rattle.mq_redo.proofs.TandemTail.{acts, few-kept, reads, served, served-behind, station, tandem-load}
+use Rattle.mq_redo.proofs.Tails.{blocks-behind}
 use Rattle.mq_redo.proofs.tandems.staged_again.Goals as goal
+
+pub all_demands_of-requires : goal.all_demands_of-requires
+all_demands_of-requires g c =
+    let from = c.args.first * c.args.blocks.now.block in
+    let is = c.stream-behind.ensures ∙ c.in_ok-last.ensures in
+    let stages = c.args.stages.now in
+    let asked = map (λ (stage : Stage). stage.demand) stages in
+    subst (λ (s : Stream). All (λ demand. AreAsked c.args.rows.now demand s.job) c.in_ok-asked.asked) (sym is)
+    (demands-asked c.args.rows.now c.in_ok-asked.asked asked (drop from c.args.arrivals.now.job) c.in_ok-asked.ensures (demands-told c.args.rows.now asked (drop from c.args.arrivals.now.job) (told-last (λ job. AreTold c.args.rows.now asked job) c.args.arrivals.now.job from c.requires.load.told)))
 
 pub new-step-requires-clause-load : goal.new-step-requires-clause-load
 new-step-requires-clause-load g c =
-    let scan = c.in_ok-scan.ensures in
-    loads-sound c.args.rows.now (Tandem c.args.stages.now) scan.asked _ c.args.arrivals.now _ c.requires.load scan.asks (demands-told c.args.rows.now _ c.args.arrivals.now.job c.requires.load.told) scan.demands
+    let from = c.args.first * c.args.blocks.now.block in
+    let is = c.stream-behind.ensures ∙ c.in_ok-last.ensures in
+    let stages = c.args.stages.now in
+    let asked = map (λ (stage : Stage). stage.demand) stages in
+    let d = c.in_ok-demands.ensures ∙ ((λ i. map (λ (demand : Demand). map (demand_of_job c.args.rows.now demand) (is i).job) (c.in_ok-asked.ensures i)) ∙ asked-last c.args.rows.now asked c.args.arrivals.now.job from) in
+    subst (λ (z : List ℕ × List (List ℕ)). All (λ column. IsSoundLoad z.0 column) z.1) (λ i. (sym (ap (λ (s : Stream). s.time) is) i, sym d i))
+    (loads-last c.args.arrivals.now.time (asks_at_stages c.args.rows.now stages c.args.arrivals.now.job) from (tandem-load c.args.rows.now stages c.args.arrivals.now c.requires.load).load)
 
 pub new-step-requires-clause-stages : goal.new-step-requires-clause-stages
-new-step-requires-clause-stages g c =
-    let scan = c.in_ok-scan.ensures in
-    stages-are c.requires.load.columns c.args.stages.now scan.asked _ (λ demand. map (demand_of_job c.args.rows.now demand) c.args.arrivals.now.job) _ c.requires.load.sound scan.asks scan.places scan.demands
+new-step-requires-clause-stages g c = stages-are c.requires.load.columns c.args.stages.now c.in_ok-asked.asked _ (λ demand. map (demand_of_job c.args.rows.now demand) c.stream-behind.result.now.job) _ c.requires.load.sound c.in_ok-asked.ensures c.in_ok-places.ensures c.in_ok-demands.ensures
 
-pub departures_behind-requires-clause-stays : goal.departures_behind-requires-clause-stays
-departures_behind-requires-clause-stays g c =
+pub carry_before-carry-requires : goal.carry_before-carry-requires
+carry_before-carry-requires g c =
+    let from = c.args.first * c.args.blocks.now.block in
     let stages = c.args.stages.now in
-    let old = c.requires.kept.0 in
-    let new = coming_as c.args.rows.now c.args.arrivals.now in
-    let even = c.requires.kept.2.even in
-    let alike = c.requires.kept.2.same in
-    let few = (c.alike_is_first.ensures (Tandem stages) old new).old_few in
-    let scan = c.in_ok-scan.ensures in
-    let step = c.new-step.ensures in
-    let rows = c.args.rows.now in
-    let jobs = c.args.arrivals.now.job in
-    let p : c.new-step.result.places.now ≡ places_of c.args.stages.now = step.places ∙ scan.places in
-    let d : c.new-step.result.demands.now ≡ asks_at_stages rows c.args.stages.now jobs = step.demands ∙ (scan.demands ∙ ap (map (λ demand. map (demand_of_job rows demand) jobs)) scan.asks) in
-    subst (λ (z : List ℕ × List ℕ × List (List ℕ)). HaveStayed (last_departure z.0) matrix_act (none_kept z.0) (job_matrix z.0 z.1 z.2) c.args.blocks.now.block c.args.first c.args.fates.now c.args.carries.now)
-    (λ i. (sym p i, sym step.arrive i, sym d i))
-    (record {
-      does = tandem_does stages old;
-      jobs = length old.arrive;
-      kept = c.requires.kept.1;
-      within = omega arith;
-      same = λ k l last. tandem-same c.alike_is_first.ensures old new k stages last (omega arith);
-    })
+    let inside : from ≤ length c.args.arrivals.now.time = (let within = c.requires.inside in let all = c.requires.all in omega arith) in
+    few-kept c.alike_is_first.ensures c.args.rows.now stages c.args.arrivals.now c.requires.load c.args.blocks.now.block c.args.first c.args.carries.now inside c.requires.kept.0 c.requires.kept.1
+
+pub redone_last-requires-clause-acts : goal.redone_last-requires-clause-acts
+redone_last-requires-clause-acts g c =
+    let from = c.args.first * c.args.blocks.now.block in
+    let is = c.stream-behind.ensures ∙ c.in_ok-last.ensures in
+    let stages = c.args.stages.now in
+    let asked = map (λ (stage : Stage). stage.demand) stages in
+    let inside : from ≤ length c.args.arrivals.now.time = (let within = c.requires.inside in let all = c.requires.all in omega arith) in
+    let d : c.new-step.result.demands.now ≡ map (drop from) (asks_at_stages c.args.rows.now stages c.args.arrivals.now.job) =
+    c.new-step.ensures.demands ∙ (c.in_ok-demands.ensures ∙ ((λ i. map (λ (demand : Demand). map (demand_of_job c.args.rows.now demand) (is i).job) (c.in_ok-asked.ensures i)) ∙ asked-last c.args.rows.now asked c.args.arrivals.now.job from)) in
+    let a = c.new-step.ensures.arrive ∙ ap (λ (s : Stream). s.time) is in
+    let p : c.new-step.result.places.now ≡ places_of stages = c.new-step.ensures.places ∙ c.in_ok-places.ensures in
+    let at = ap (λ start. slice_get (start ∷ c.args.carries.now) c.args.first) (sym (c.first.ensures ∙ ap none_kept p)) ∙ c.carry_before-carry.ensures in
+    acts c.alike_is_first.ensures c.args.rows.now stages c.args.arrivals.now c.requires.load c.args.blocks.now.block c.args.first c.args.carries.now inside c.requires.kept.0 c.requires.kept.1 c.new-step.result.places.now c.new-step.result.arrive.now c.new-step.result.demands.now c.carry_before-carry.result p a d at
+
+pub redone_last-requires-clause-reads : goal.redone_last-requires-clause-reads
+redone_last-requires-clause-reads g c =
+    let from = c.args.first * c.args.blocks.now.block in
+    let is = c.stream-behind.ensures ∙ c.in_ok-last.ensures in
+    let stages = c.args.stages.now in
+    let asked = map (λ (stage : Stage). stage.demand) stages in
+    let inside : from ≤ length c.args.arrivals.now.time = (let within = c.requires.inside in let all = c.requires.all in omega arith) in
+    let d : c.new-step.result.demands.now ≡ map (drop from) (asks_at_stages c.args.rows.now stages c.args.arrivals.now.job) =
+    c.new-step.ensures.demands ∙ (c.in_ok-demands.ensures ∙ ((λ i. map (λ (demand : Demand). map (demand_of_job c.args.rows.now demand) (is i).job) (c.in_ok-asked.ensures i)) ∙ asked-last c.args.rows.now asked c.args.arrivals.now.job from)) in
+    let a = c.new-step.ensures.arrive ∙ ap (λ (s : Stream). s.time) is in
+    let p : c.new-step.result.places.now ≡ places_of stages = c.new-step.ensures.places ∙ c.in_ok-places.ensures in
+    let at = ap (λ start. slice_get (start ∷ c.args.carries.now) c.args.first) (sym (c.first.ensures ∙ ap none_kept p)) ∙ c.carry_before-carry.ensures in
+    reads c.alike_is_first.ensures c.args.rows.now stages c.args.arrivals.now c.requires.load c.args.blocks.now.block c.args.first c.args.carries.now inside c.requires.kept.0 c.requires.kept.1 c.new-step.result.places.now c.new-step.result.arrive.now c.new-step.result.demands.now c.carry_before-carry.result c.new-step.result.rows p a d at c.new-step.result.all_rows
 
 pub returns-clause-served : goal.returns-clause-served
-returns-clause-served g c =
-    let scan = c.in_ok-scan.ensures in
-    let step = c.new-step.ensures in
-    let its = c.in_ok-scan.scan in
-    let now = c.new-step.result in
-    let blocks = c.args.blocks.now in
-    let all : min (blocks.blocks * blocks.block) blocks.n ≡ length now.arrive.now = blocks-all blocks ∙ (c.requires.all ∙ ap length (sym step.arrive)) in
-    let read : map (last_departure now.places.now) (carries_after matrix_act (none_kept now.places.now) (job_matrix now.places.now now.arrive.now now.demands.now) 0 (length now.arrive.now)) ≡ tandem_departs now.places.now (map (λ _. []) now.places.now) now.arrive.now now.demands.now = c.carries_hold_departures.ensures in
-    tandem-served c.requires.load.columns c.args.rows.now c.args.stages.now c.args.arrivals.now scan.asked its.demands its.places c.in_ok-done.done.times.items c.requires.load.sound scan.asks scan.demands scan.places
-    (c.in_ok-done.ensures.done.times_are ∙ (ap (λ (n : ℕ). map (last_departure now.places.now) (carries_after matrix_act (none_kept now.places.now) (job_matrix now.places.now now.arrive.now now.demands.now) 0 n)) all ∙ (read ∙ (λ i. tandem_departs (step.places i) (map (λ _. []) (step.places i)) (step.arrive i) (step.demands i)))))
+returns-clause-served g c = λ times stays.
+    let from = c.args.first * c.args.blocks.now.block in
+    let is = c.stream-behind.ensures ∙ c.in_ok-last.ensures in
+    let stages = c.args.stages.now in
+    let asked = map (λ (stage : Stage). stage.demand) stages in
+    let inside : from ≤ length c.args.arrivals.now.time = (let within = c.requires.inside in let all = c.requires.all in omega arith) in
+    let d : c.new-step.result.demands.now ≡ map (drop from) (asks_at_stages c.args.rows.now stages c.args.arrivals.now.job) =
+    c.new-step.ensures.demands ∙ (c.in_ok-demands.ensures ∙ ((λ i. map (λ (demand : Demand). map (demand_of_job c.args.rows.now demand) (is i).job) (c.in_ok-asked.ensures i)) ∙ asked-last c.args.rows.now asked c.args.arrivals.now.job from)) in
+    let a = c.new-step.ensures.arrive ∙ ap (λ (s : Stream). s.time) is in
+    let p : c.new-step.result.places.now ≡ places_of stages = c.new-step.ensures.places ∙ c.in_ok-places.ensures in
+    let at = ap (λ start. slice_get (start ∷ c.args.carries.now) c.args.first) (sym (c.first.ensures ∙ ap none_kept p)) ∙ c.carry_before-carry.ensures in
+    let done = c.in_ok-done.done in
+    served-behind c.alike_is_first.ensures c.args.rows.now stages c.args.arrivals.now c.requires.load c.args.blocks.now.block c.args.first c.args.carries.now inside times stays done.times.items
+    (served c.alike_is_first.ensures c.args.rows.now stages c.args.arrivals.now c.requires.load c.args.blocks.now.block c.args.first c.args.carries.now inside (map (λ time. Departs time) times) stays c.args.blocks.now c.cut.result c.requires.all refl c.cut.ensures.1 c.new-step.result.places.now c.new-step.result.arrive.now c.new-step.result.demands.now (c.cut.ensures.0 ∙ c.count.ensures) p a d c.carry_before-carry.result at done.times.items done.carries.items c.in_ok-done.ensures.done)
 
 pub returns-clause-kept : goal.returns-clause-kept
-returns-clause-kept g c =
-    let scan = c.in_ok-scan.ensures in
-    let step = c.new-step.ensures in
-    let rows = c.args.rows.now in
-    let jobs = c.args.arrivals.now.job in
-    let blocks = c.args.blocks.now in
+returns-clause-kept g c = λ fates stays.
+    let from = c.args.first * c.args.blocks.now.block in
+    let is = c.stream-behind.ensures ∙ c.in_ok-last.ensures in
+    let stages = c.args.stages.now in
+    let asked = map (λ (stage : Stage). stage.demand) stages in
+    let inside : from ≤ length c.args.arrivals.now.time = (let within = c.requires.inside in let all = c.requires.all in omega arith) in
+    let d : c.new-step.result.demands.now ≡ map (drop from) (asks_at_stages c.args.rows.now stages c.args.arrivals.now.job) =
+    c.new-step.ensures.demands ∙ (c.in_ok-demands.ensures ∙ ((λ i. map (λ (demand : Demand). map (demand_of_job c.args.rows.now demand) (is i).job) (c.in_ok-asked.ensures i)) ∙ asked-last c.args.rows.now asked c.args.arrivals.now.job from)) in
+    let a = c.new-step.ensures.arrive ∙ ap (λ (s : Stream). s.time) is in
+    let p : c.new-step.result.places.now ≡ places_of stages = c.new-step.ensures.places ∙ c.in_ok-places.ensures in
+    let at = ap (λ start. slice_get (start ∷ c.args.carries.now) c.args.first) (sym (c.first.ensures ∙ ap none_kept p)) ∙ c.carry_before-carry.ensures in
     let done = c.in_ok-done.done in
-    let p : c.new-step.result.places.now ≡ places_of c.args.stages.now = step.places ∙ scan.places in
-    let d : c.new-step.result.demands.now ≡ asks_at_stages rows c.args.stages.now jobs = step.demands ∙ (scan.demands ∙ ap (map (λ demand. map (demand_of_job rows demand) jobs)) scan.asks) in
-    record {
-      times = done.times.items;
-      fates_are = refl;
-      scan = subst (λ (z : List ℕ × List ℕ × List (List ℕ) × ℕ). IsKeptScan (last_departure z.0) (λ k rows. matrix_act (job_matrix z.0 z.1 z.2 k) rows) (none_kept z.0) z.3 blocks.block done.times.items done.carries.items)
-          (λ i. (p i, step.arrive i, d i, c.requires.all i))
-          (c.done_are_kept.ensures blocks done.times.items done.carries.items c.in_ok-done.ensures.done);
-    }
+    station c.alike_is_first.ensures c.args.rows.now stages c.args.arrivals.now c.requires.load c.args.blocks.now.block c.args.first c.args.carries.now inside fates stays c.args.blocks.now c.cut.result c.requires.all refl c.cut.ensures.1 c.new-step.result.places.now c.new-step.result.arrive.now c.new-step.result.demands.now (c.cut.ensures.0 ∙ c.count.ensures) p a d c.carry_before-carry.result at done.times.items done.carries.items c.in_ok-done.ensures.done
+
+pub returns-in_err-done-clause-spent : goal.returns-in_err-done-clause-spent
+returns-in_err-done-clause-spent g c =
+    let spent = c.redone_last.ensures.spent in
+    let from = c.args.first * c.args.blocks.now.block in
+    let is = c.stream-behind.ensures ∙ c.in_ok-last.ensures in
+    let count : c.cut.result.n + from ≡ c.args.blocks.now.n = (let n = c.cut.ensures.0 ∙ (c.count.ensures ∙ (ap length c.new-step.ensures.arrive ∙ (ap (λ (s : Stream). length s.time) is ∙ length-drop from c.args.arrivals.now.time))) in let within = c.requires.inside in let all = c.requires.all in omega arith) in
+    let many = blocks-behind c.args.blocks.now c.cut.result c.args.first c.cut.ensures.1 count in
+    omega arith
+
+pub returns-clause-spent : goal.returns-clause-spent
+returns-clause-spent g c =
+    let spent = c.redone_last.ensures.spent in
+    let from = c.args.first * c.args.blocks.now.block in
+    let is = c.stream-behind.ensures ∙ c.in_ok-last.ensures in
+    let count : c.cut.result.n + from ≡ c.args.blocks.now.n = (let n = c.cut.ensures.0 ∙ (c.count.ensures ∙ (ap length c.new-step.ensures.arrive ∙ (ap (λ (s : Stream). length s.time) is ∙ length-drop from c.args.arrivals.now.time))) in let within = c.requires.inside in let all = c.requires.all in omega arith) in
+    let many = blocks-behind c.args.blocks.now c.cut.result c.args.first c.cut.ensures.1 count in
+    omega arith
+
+pub returns-clause-counted : goal.returns-clause-counted
+returns-clause-counted g c =
+    let counted = c.in_ok-done.ensures.counted in
+    let from = c.args.first * c.args.blocks.now.block in
+    let is = c.stream-behind.ensures ∙ c.in_ok-last.ensures in
+    let count : c.cut.result.n + from ≡ c.args.blocks.now.n = (let n = c.cut.ensures.0 ∙ (c.count.ensures ∙ (ap length c.new-step.ensures.arrive ∙ (ap (λ (s : Stream). length s.time) is ∙ length-drop from c.args.arrivals.now.time))) in let within = c.requires.inside in let all = c.requires.all in omega arith) in
+    let many = blocks-behind c.args.blocks.now c.cut.result c.args.first c.cut.ensures.1 count in
+    omega arith
