@@ -3,8 +3,10 @@ pub mod Behind
 pub mod CameBefore
 pub mod Ended
 pub mod Formers
+pub mod InTurn
 pub mod KeptNodes
 pub mod KeptRuns
+pub mod LastVisits
 pub mod None
 pub mod Numbers
 pub mod Ranks

@@ -3,4 +3,5 @@ pub mod Formers
 pub mod Keeping
 pub mod KeptNodes
 pub mod NodeRuns
+pub mod Tails
 pub mod Totals

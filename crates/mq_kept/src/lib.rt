@@ -7,6 +7,7 @@ mod former;
 mod kept;
 mod nodes;
 mod stations;
+mod tails;
 
 pub use again::Redone;
 pub use kept::Kept;
