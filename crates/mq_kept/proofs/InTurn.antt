@@ -1,5 +1,5 @@
 -- Nodes whose jobs leave in the order in which they came, by one output, as runs have them.
-use Rattle.std.proofs.Common.{◌≡◌, ℕ, ◌+◌, ◌++◌, ◌∷◌, ◌^◌, ◌≤◌, true, List, [], length, map, take, Some, None, refl, sym, ap, ◌∙◌, subst, arith}
+use Rattle.std.proofs.Common.{◌≡◌, ℕ, ◌+◌, ◌++◌, ◌∷◌, ◌^◌, true, List, [], length, map, take, Some, None, refl, sym, ap, ◌∙◌, subst, arith}
 use Rattle.std.specs.Prelude.{IsTrue, nat_le, nat_lt, slice_get}
 use Rattle.std.specs.List.{list_all}
 use Rattle.std.proofs.lemmas.Bool.{and_parts}
@@ -14,13 +14,12 @@ use Rattle.mq_core.specs.Kinds.Tandem.{tandem_times}
 use Rattle.mq_core.specs.OnceOut.{founds_of}
 use Rattle.mq_core.specs.Ranges.{is_within, rises}
 use Rattle.mq_core.specs.Recurrences.{delayed, forkjoin_departs, lindley}
-use Rattle.mq_core.specs.Results.{first_of, stream_from, visits_of}
+use Rattle.mq_core.specs.Results.{first_of, stream_from}
 use Rattle.mq_core.specs.SequenceLaws.{FatesAreInTime, OrdersKeepItems, SequencesGoByFates, arrives_of, jobs_of, sends_once}
 use Rattle.mq_core.specs.Sequences.{sequence_fates, sequence_late_from, sequence_outs, sequence_visits, stream_in_order, streams_below, time_of_fate}
 use Rattle.mq_core.specs.Sound.{is_sound_kind, outputs_in}
 use Rattle.mq_core.specs.StandardTable.{run_of}
 use Rattle.mq_core.specs.Theorems.{IsReadFor}
-use Rattle.mq_core.specs.declared.model.Fate.{Fate}
 use Rattle.mq_core.specs.declared.model.Fate.TheVariants.{Departs}
 use Rattle.mq_core.specs.declared.model.Kind.{Kind}
 use Rattle.mq_core.specs.declared.model.Kind.TheVariants.{Delay, Fork, ForkJoin, Join, Loss, Server, Source, Split, Tandem, Trunk}
@@ -37,7 +36,6 @@ use Rattle.mq_engine.specs.declared.fault.RunFault.TheVariants.{Memory, Over, Pa
 use Rattle.mq_exits.proofs.Known.{known}
 use Rattle.mq_exits.proofs.Leavings.{kept-streams, late-by, seen-result}
 use Rattle.mq_exits.specs.Afters.{IsServed}
-use Rattle.mq_exits.specs.Loads.{IsLoaded}
 use Rattle.mq_exits.specs.NodeLaws.{NodeLaws}
 use Rattle.mq_exits.specs.Results.{IsKnown, IsWorkedOut}
 use Rattle.mq_exits.specs.declared.working.Ending.TheVariants.{OnTime, TooLate}
@@ -45,7 +43,8 @@ use Rattle.mq_stations.proofs.lemmas.Leaves.{departs-left, departs-one, once-lea
 use Rattle.mq_stations.specs.Late.{late_told}
 use Rattle.mq_stations.specs.Leaving.{AreDepartures, AreServed, KeepsOrder}
 use Rattle.mq_kept.specs.NodeRuns.{IsFaultAt}
-use Rattle.mq_kept.specs.Tails.{AreInTurn, IsNextTail, IsRefused, IsTailFor, IsTailPut, coming_behind, departures_in}
+use Rattle.mq_kept.specs.TailSteps.{AreInTurn, IsNextTail, IsRefused}
+use Rattle.mq_kept.specs.Tails.{IsTailFor, IsTailPut, coming_behind, departures_in}
 use Rattle.mq_kept.specs.declared.former.NodeLists.{NodeLists}
 use Rattle.mq_kept.proofs.LastVisits.{times-back}
 

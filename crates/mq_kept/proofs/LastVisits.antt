@@ -1,7 +1,7 @@
 -- The last visits to a node, put in the place of others, and put back.
 use Rattle.std.proofs.Common.{◌≡◌, ℕ, zero, suc, ◌+◌, ◌++◌, ◌∷◌, ◌≤◌, List, [], length, drop, map, take, refl, sym, ap, ◌∙◌, subst, arith}
 use Rattle.std.specs.Prelude.{count_by}
-use Rattle.std.proofs.lemmas.List.{drop-map, length-append, length-drop, length-map, length-take-le, take-append-drop, take-map, take_all, take_at}
+use Rattle.std.proofs.lemmas.List.{drop-map, length-append, length-drop, length-map, length-take-le, take-append-drop, take_all, take_at}
 use Rattle.mq_base.specs.Lists.{between}
 use Rattle.mq_core.specs.OnceOut.{departs_after, founds_from, founds_of}
 use Rattle.mq_core.specs.Sequences.{time_of_fate}
@@ -9,7 +9,8 @@ use Rattle.mq_core.specs.declared.model.Fate.{Fate}
 use Rattle.mq_core.specs.declared.model.Fate.TheVariants.{Departs}
 use Rattle.mq_core.specs.declared.model.Stream.{Stream}
 use Rattle.mq_exits.proofs.Closings.{founds-length}
-use Rattle.mq_kept.specs.Tails.{AreInTurn, IsTailOf, KeepsFirst, ListsKeepFirst, departures_in, stream_before, tail_before}
+use Rattle.mq_kept.specs.TailSteps.{AreInTurn, KeepsFirst, ListsKeepFirst}
+use Rattle.mq_kept.specs.Tails.{IsTailOf, departures_in, stream_before, tail_before}
 use Rattle.mq_kept.specs.declared.former.NodeLists.{NodeLists}
 use Rattle.mq_kept.specs.declared.tails.FormerTail.{FormerTail}
 

@@ -12,7 +12,8 @@ ghost use Rattle.mq_core.specs.declared.model.Stream.{Stream as TheStream};
 ghost use Rattle.mq_exits.specs.Results.{IsWorkedOut};
 ghost use Rattle.mq_exits.specs.declared.working.Ending.TheVariants.{OnTime};
 ghost use Rattle.mq_kept.specs.NodeRuns.{IsFaultAt};
-ghost use Rattle.mq_kept.specs.Tails.{AreInTurn, HasRoom, IsNextTail, IsRefused, IsShorter, IsTailFor, IsTailOf, IsTailPut, ListsKeepFirst, OnlyKeepsFirst, StreamKeepsFirst, departures_in, stream_before, tail_before};
+ghost use Rattle.mq_kept.specs.TailSteps.{AreInTurn, IsNextTail, IsRefused, IsShorter, ListsKeepFirst, OnlyKeepsFirst, StreamKeepsFirst};
+ghost use Rattle.mq_kept.specs.Tails.{HasRoom, IsTailFor, IsTailOf, IsTailPut, departures_in, stream_before, tail_before};
 
 use crate::former::NodeLists;
 use mq_base::{List, OutOfMemory};

@@ -1,4 +1,4 @@
-use Rattle.std.proofs.Common.{◌≡◌, ◌++◌, ◌∷◌, ◌≤◌, ℕ, List, [], Some, ap, drop, length, map, sym, take, ◌∙◌, arith}
+use Rattle.std.proofs.Common.{◌≡◌, ◌++◌, ◌≤◌, ℕ, List, Some, ap, drop, length, map, sym, take, ◌∙◌, arith}
 use Rattle.std.specs.Prelude.{slice_get}
 use Rattle.std.proofs.lemmas.List.{length-append, length-map, length-take-le, map-append, take-map}
 use Rattle.mq_base.proofs.lemmas.Lists.{some_inj}
@@ -6,7 +6,8 @@ use Rattle.mq_core.specs.OnceOut.{founds_of}
 use Rattle.mq_core.specs.declared.model.Fate.TheVariants.{Departs}
 use Rattle.mq_core.specs.declared.model.Stream.{Stream}
 use Rattle.mq_kept.proofs.LastVisits.{found-many, founds-keep, founds-put}
-use Rattle.mq_kept.specs.Tails.{AreInTurn, IsNextTail, IsTailPut, departures_in}
+use Rattle.mq_kept.specs.TailSteps.{AreInTurn, IsNextTail}
+use Rattle.mq_kept.specs.Tails.{IsTailPut, departures_in}
 use Rattle.mq_kept.specs.declared.former.NodeLists.{NodeLists}
 use Rattle.mq_kept.proofs.tails.put_tail.Goals as goal
 
