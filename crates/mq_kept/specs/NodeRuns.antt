@@ -24,7 +24,7 @@ use Rattle.mq_exits.specs.declared.working.Ending.{Ending}
 use Rattle.mq_exits.specs.declared.working.Ending.TheVariants.{OnTime, TooLate, TooMany}
 use Rattle.mq_merge.specs.Borrowed.{stream_in}
 use Rattle.mq_redo.specs.Kept.{coming_as}
-use Rattle.mq_kept.specs.Formers.{AreNodes, HasLists, lists_before, no_lists}
+use Rattle.mq_kept.specs.Formers.{AreNodes, FitsIn, HasLists, lists_before, no_lists}
 use Rattle.mq_kept.specs.KeptNodes.{AreCheckpoints, IsKeptNode, IsStayingNode, coming_of}
 use Rattle.mq_kept.specs.declared.checkpoints.Checkpoints.{Checkpoints}
 use Rattle.mq_kept.specs.declared.stations.Stays.{Stays}
@@ -104,6 +104,7 @@ blocks_at s v = blocks_of s.block (slice_get s.plan.now.net.nodes v) (coming_to 
 pub record IsNodeRun (s : Arriving) (old : Option Rows) (lists : NodeLists) (v : ℕ) (gives : NodeRun) : Type 0 where
   pub kept : IsNodeKept s.plan.now s.rows.now s.block v gives.lists
   pub back : lists_before gives.former gives.lists ≡ lists
+  pub fits : FitsIn gives.former gives.lists
   pub stayed : gives.former ≡ Same → HasStayed s.plan.now old s.rows.now v
   pub again : gives.again ≡ again_behind s (came_before s.rows.now old lists) v
   pub all : gives.all ≡ blocks_at s v

@@ -145,7 +145,7 @@ fn reads_the_same(past: &Past, node: &Node) -> bool
     for port in 0..node.inputs.len() {
         match &past.formers[node.inputs.get(port).node as usize] {
             Former::Same => {}
-            Former::Whole(_) => return false,
+            Former::Whole(_) | Former::Tail(_, _) => return false,
         }
     }
     true
