@@ -15,7 +15,7 @@ use Rattle.mq_core.specs.OnceOut.{founds_of}
 use Rattle.mq_core.specs.Ranges.{is_within, rises}
 use Rattle.mq_core.specs.Recurrences.{delayed, forkjoin_departs, lindley}
 use Rattle.mq_core.specs.Results.{first_of, stream_from}
-use Rattle.mq_core.specs.SequenceLaws.{FatesAreInTime, OrdersKeepItems, SequencesGoByFates, arrives_of, jobs_of, sends_once}
+use Rattle.mq_core.specs.SequenceLaws.{FatesAreInTime, NodesAreSequences, OrdersKeepItems, SequencesGoByFates, arrives_of, jobs_of, sends_once}
 use Rattle.mq_core.specs.Sequences.{sequence_fates, sequence_late_from, sequence_outs, sequence_visits, stream_in_order, streams_below, time_of_fate}
 use Rattle.mq_core.specs.Sound.{is_sound_kind, outputs_in}
 use Rattle.mq_core.specs.StandardTable.{run_of}
@@ -129,12 +129,12 @@ module _ (laws : NodeLaws) (inTime : FatesAreInTime) (plan : Plan) (rows : Rows)
       }
 
 -- What is kept of a source, whose jobs depart as they come. So do others behind its first ones.
-pub source-behind : NodeLaws → (plan : Plan) (rows old : Rows) (v : ℕ) (node : Node) (lists : NodeLists) (from : ℕ) (jobs times : List ℕ) → slice_get plan.net.nodes v ≡ Some node → node.kind ≡ Source → IsReadFor plan.net old → IsWorkedOut plan old (record { number = v; ending = OnTime lists.visits lists.streams }) →
+pub source-behind : NodesAreSequences → (plan : Plan) (rows old : Rows) (v : ℕ) (node : Node) (lists : NodeLists) (from : ℕ) (jobs times : List ℕ) → slice_get plan.net.nodes v ≡ Some node → node.kind ≡ Source → IsReadFor plan.net old → IsWorkedOut plan old (record { number = v; ending = OnTime lists.visits lists.streams }) →
     IsServed plan rows v (coming_behind from lists.visits jobs times) (take from (departures_in lists) ++ times)
-source-behind laws plan rows old v node lists from jobs times there source read was other found =
+source-behind sequences plan rows old v node lists from jobs times there source read was other found =
     let seen = ((run_of plan old).stations v).visits in
     let has : IsKnown plan old v node (OnTime lists.visits lists.streams) = subst (λ (n : Node). IsKnown plan old v n (OnTime lists.visits lists.streams)) (some_inj _ _ (sym was.1 ∙ there)) was.2 in
-    let visits : lists.visits ≡ sequence_visits old node.kind (came_of (length node.inputs) seen) = has.0 ∙ (laws.sequences plan old read v node there).visits in
+    let visits : lists.visits ≡ sequence_visits old node.kind (came_of (length node.inputs) seen) = has.0 ∙ (sequences plan old read v node there).visits in
     let fates : lists.visits.fate ≡ map (λ time. Departs time) (arrives_of seen) = (λ k. (visits k).fate) ∙ ap (λ kind. sequence_fates old kind (came_of (length node.inputs) seen)) source in
     let departs : departures_in lists ≡ lists.visits.arrive = ap (map time_of_fate) fates ∙ (times-back (arrives_of seen) ∙ (λ k. (sym visits k).arrive)) in
     subst (λ (kind : Kind). AreServed rows kind (coming_behind from lists.visits jobs times) (take from (departures_in lists) ++ times)) (sym source ∙ (λ k. (some_inj _ _ (sym there ∙ found) k).kind))

@@ -11,6 +11,9 @@ pub mod None
 pub mod Numbers
 pub mod Ranks
 pub mod SameNodes
+pub mod SourceEnds
+pub mod SourceLoads
+pub mod SourceRows
 pub mod Unchanged
 pub mod Within
 pub mod WorkedTo

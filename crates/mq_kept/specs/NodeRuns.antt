@@ -13,7 +13,7 @@ use Rattle.mq_core.specs.declared.model.Node.{Node}
 use Rattle.mq_core.specs.declared.model.Plan.{Plan}
 use Rattle.mq_core.specs.declared.model.Rows.{Rows}
 use Rattle.mq_core.specs.declared.model.Run.{Run}
-use Rattle.mq_edits.specs.Former.{rows_before}
+use Rattle.mq_edits.specs.Former.{IsFormerOf, rows_before}
 use Rattle.mq_edits.specs.declared.former.FormerRows.{FormerRows}
 use Rattle.mq_engine.specs.Progress.{AreEarly}
 use Rattle.mq_engine.specs.declared.fault.RunFault.{RunFault}
@@ -51,6 +51,11 @@ pub record IsNodeKept (plan : Plan) (rows : Rows) (block v : ℕ) (lists : NodeL
 abbrev pub earlier_rows : Rows → Option (Bor FormerRows) → Option Rows
 earlier_rows rows None = None
 earlier_rows rows (Some former) = Some (rows_before former.now rows)
+
+-- the former rows fit in, where a run is kept
+abbrev pub RowsFit : Rows → Option (Bor FormerRows) → Type 0
+RowsFit rows None = Unit {0}
+RowsFit rows (Some former) = IsFormerOf former.now rows
 
 -- what is kept of a node before it is worked out: nothing before the first run
 abbrev pub IsNodeBefore : Plan → Option Rows → ℕ → ℕ → NodeLists → Type 0

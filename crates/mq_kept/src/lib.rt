@@ -6,6 +6,8 @@ mod checkpoints;
 mod former;
 mod kept;
 mod nodes;
+mod source_runs;
+mod sources;
 mod stations;
 mod tails;
 
