@@ -3,12 +3,17 @@ pub mod Behind
 pub mod CameBefore
 pub mod Ended
 pub mod Formers
+pub mod InTurn
 pub mod KeptNodes
 pub mod KeptRuns
+pub mod LastVisits
 pub mod None
 pub mod Numbers
 pub mod Ranks
 pub mod SameNodes
+pub mod SourceEnds
+pub mod SourceLoads
+pub mod SourceRows
 pub mod Unchanged
 pub mod Within
 pub mod WorkedTo

@@ -6,7 +6,10 @@ mod checkpoints;
 mod former;
 mod kept;
 mod nodes;
+mod source_runs;
+mod sources;
 mod stations;
+mod tails;
 
 pub use again::Redone;
 pub use kept::Kept;

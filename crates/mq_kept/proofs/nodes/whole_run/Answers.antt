@@ -15,7 +15,7 @@ use Rattle.mq_kept.proofs.Ended.{changed-cause, changed-ok, changed-run, kept-li
 use Rattle.mq_kept.proofs.Numbers.{none-worked, station-again, station-all, station-worked}
 use Rattle.mq_kept.proofs.Unchanged.{station-run}
 use Rattle.mq_redo.specs.Kept.{coming_as}
-use Rattle.mq_kept.proofs.nodes.station_run.Goals as goal
+use Rattle.mq_kept.proofs.nodes.whole_run.Goals as goal
 
 pub alike_at-same-requires-clause-none : goal.alike_at-same-requires-clause-none
 alike_at-same-requires-clause-none g c none =
