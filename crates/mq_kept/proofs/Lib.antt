@@ -11,6 +11,7 @@ pub mod None
 pub mod Numbers
 pub mod Ranks
 pub mod SameNodes
+pub mod TailRuns
 pub mod Unchanged
 pub mod Within
 pub mod WorkedTo

@@ -3,6 +3,7 @@ pub mod Formers
 pub mod Keeping
 pub mod KeptNodes
 pub mod NodeRuns
+pub mod TailRuns
 pub mod TailSteps
 pub mod Tails
 pub mod Totals

@@ -7,6 +7,7 @@ mod former;
 mod kept;
 mod nodes;
 mod stations;
+mod tail_runs;
 mod tails;
 
 pub use again::Redone;
