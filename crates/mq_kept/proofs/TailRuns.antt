@@ -1,9 +1,9 @@
 -- A node of which the first blocks stay, and the visits behind them.
-use Rattle.std.proofs.Common.{◌≡◌, ℕ, zero, suc, ◌+◌, ◌-◌, ◌*◌, ◌++◌, ◌∷◌, ◌<◌, ◌≤◌, List, [], length, drop, map, take, Some, refl, sym, ap, ◌∙◌, subst, arith}
+use Rattle.std.proofs.Common.{◌≡◌, ℕ, zero, suc, ◌-◌, ◌*◌, ◌++◌, ◌∷◌, ◌<◌, ◌≤◌, List, [], length, drop, map, take, Some, refl, sym, ap, ◌∙◌, subst, arith}
 use Rattle.std.specs.Prelude.{slice_get}
 use Rattle.std.proofs.lemmas.List.{length-append, length-drop, length-map, length-take-le, take-append-drop, take_rest}
 use Rattle.mq_base.proofs.lemmas.Lists.{some_inj}
-use Rattle.mq_alike.specs.Again.{AlikeIsFirst, Coming, alike}
+use Rattle.mq_alike.specs.Again.{AlikeIsFirst, Coming}
 use Rattle.mq_core.specs.SequenceLaws.{FatesAreInTime}
 use Rattle.mq_core.specs.Sequences.{time_of_fate}
 use Rattle.mq_core.specs.StandardTable.{run_of}
@@ -15,8 +15,6 @@ use Rattle.mq_core.specs.declared.model.Kind.TheVariants.{ForkJoin, Server, Tand
 use Rattle.mq_core.specs.declared.model.Node.{Node}
 use Rattle.mq_core.specs.declared.model.Stage.{Stage}
 use Rattle.mq_core.specs.declared.model.Stream.{Stream}
-use Rattle.mq_core.specs.declared.model.Visits.{Visits}
-use Rattle.mq_core.specs.declared.model.Rows.{Rows}
 use Rattle.mq_exits.specs.Loads.{IsLoaded}
 use Rattle.mq_exits.specs.NodeLaws.{NodeLaws}
 use Rattle.mq_exits.specs.Results.{IsKnown, IsWorkedOut}
@@ -34,9 +32,8 @@ use Rattle.mq_kept.specs.Formers.{with_checkpoints}
 use Rattle.mq_kept.specs.KeptNodes.{IsKeptNode, coming_of}
 use Rattle.mq_kept.specs.NodeRuns.{IsNodeKept}
 use Rattle.mq_kept.specs.TailRuns.{IsTailStaying}
-use Rattle.mq_kept.specs.Tails.{IsTailFor, IsTailOf, IsTailPut, coming_behind, departures_in, tail_before}
+use Rattle.mq_kept.specs.Tails.{IsTailFor, IsTailPut, coming_behind, departures_in}
 use Rattle.mq_kept.specs.declared.checkpoints.Checkpoints.{Checkpoints}
-use Rattle.mq_kept.specs.declared.tails.FormerTail.{FormerTail}
 use Rattle.mq_kept.specs.declared.former.NodeLists.{NodeLists}
 
 -- lists with the same first items
