@@ -118,7 +118,7 @@ module _ (laws : NodeLaws) (inTime : FatesAreInTime) (plan : Plan) (rows : Rows)
       ∙ ((laws.go rows node.kind (came_in came) once).stream 0
       ∙ (ap (stream_in_order node.kind) (sym (departs-one inTime rows node.kind came times even are)) ∙ keeps (record { job = came.job; time = times }))))
 
-  kept-turn : AreInTurn lists (departures_in lists)
+  pub kept-turn : AreInTurn lists (departures_in lists)
   kept-turn =
       record {
         arrives = (λ k. length (visits-are k).arrive) ∙ (sym even ∙ (λ k. length (sym visits-are k).job));

@@ -5,6 +5,7 @@ pub mod KeptNodes
 pub mod NodeRuns
 pub mod SourceRuns
 pub mod SourceTails
+pub mod TailRuns
 pub mod TailSteps
 pub mod Tails
 pub mod Totals

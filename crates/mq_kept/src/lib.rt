@@ -9,6 +9,7 @@ mod nodes;
 mod source_runs;
 mod sources;
 mod stations;
+mod tail_runs;
 mod tails;
 
 pub use again::Redone;
