@@ -16,7 +16,7 @@ use mq_base::{List, OutOfMemory, Steps};
 use mq_core::{Demand, Kind, Stage, fates_are_in_time, orders_keep_items, sequences_go_by_fates};
 use mq_engine::{RunFault, core_laws};
 use mq_exits::Load;
-use mq_redo::{blocks_hold, branched_again, served_again, staged_again};
+use mq_redo::{blocks_hold, branched_behind, served_behind, staged_behind};
 use mq_scan::cut;
 use std::alloc::Global;
 use std::mem::replace;
@@ -88,7 +88,7 @@ fn server_tail<L: Ledger>(
     let blocks = cut(load.arrivals.time.len() as u32, load.block);
     blocks_hold(&blocks);
     let kept = lists.checkpoints.server();
-    let done = served_again(
+    let done = served_behind(
         alloc,
         load.rows,
         demand,
@@ -135,7 +135,7 @@ fn tandem_tail<L: Ledger>(
     let blocks = cut(load.arrivals.time.len() as u32, load.block);
     blocks_hold(&blocks);
     let kept = lists.checkpoints.tandem();
-    let done = staged_again(
+    let done = staged_behind(
         alloc,
         load.rows,
         stages,
@@ -182,7 +182,7 @@ fn forkjoin_tail<L: Ledger>(
     let blocks = cut(load.arrivals.time.len() as u32, load.block);
     blocks_hold(&blocks);
     let kept = lists.checkpoints.forkjoin();
-    let done = branched_again(
+    let done = branched_behind(
         alloc,
         load.rows,
         branches,

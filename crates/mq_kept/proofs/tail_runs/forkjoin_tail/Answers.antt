@@ -7,15 +7,15 @@ use Rattle.mq_kept.proofs.TailRuns.{forkjoin-fates, forkjoin-stays, within}
 use Rattle.mq_kept.specs.Tails.{departures_in}
 use Rattle.mq_kept.proofs.tail_runs.forkjoin_tail.Goals as goal
 
-pub branched_again-requires-clause-inside : goal.branched_again-requires-clause-inside
-branched_again-requires-clause-inside g c =
+pub branched_behind-requires-clause-inside : goal.branched_behind-requires-clause-inside
+branched_behind-requires-clause-inside g c =
     let inside = within c.alike_is_first.ensures c.args.load.now (ForkJoin c.args.branches.now) c.args.first c.args.lists.now c.requires.stays in
     let even = c.requires.stays.loaded.load.ordered.ordered.even in
     let all = c.cut-blocks.ensures.0 in
     rw c.cut-blocks.ensures.1 (omega arith)
 
-pub branched_again-requires-clause-kept : goal.branched_again-requires-clause-kept
-branched_again-requires-clause-kept g c =
+pub branched_behind-requires-clause-kept : goal.branched_behind-requires-clause-kept
+branched_behind-requires-clause-kept g c =
     let lists = c.args.lists.now in
     (lists.visits.fate, forkjoin-stays c.alike_is_first.ensures c.args.load.now c.args.branches.now c.args.first lists c.requires.stays c.cut-blocks.result.block c.forkjoin-kept.result.now lists.visits.fate c.cut-blocks.ensures.1 c.forkjoin-kept.ensures (λ _. lists.visits.fate))
 

@@ -8,15 +8,15 @@ use Rattle.mq_kept.proofs.TailRuns.{server-fates, server-stays, within}
 use Rattle.mq_kept.specs.Tails.{departures_in}
 use Rattle.mq_kept.proofs.tail_runs.server_tail.Goals as goal
 
-pub served_again-requires-clause-inside : goal.served_again-requires-clause-inside
-served_again-requires-clause-inside g c =
+pub served_behind-requires-clause-inside : goal.served_behind-requires-clause-inside
+served_behind-requires-clause-inside g c =
     let inside = within c.alike_is_first.ensures c.args.load.now (Server c.args.demand.now) c.args.first c.args.lists.now c.requires.stays in
     let even = c.requires.stays.loaded.load.ordered.ordered.even in
     let all = c.cut-blocks.ensures.0 in
     rw c.cut-blocks.ensures.1 (omega arith)
 
-pub served_again-requires-clause-kept : goal.served_again-requires-clause-kept
-served_again-requires-clause-kept g c =
+pub served_behind-requires-clause-kept : goal.served_behind-requires-clause-kept
+served_behind-requires-clause-kept g c =
     let lists = c.args.lists.now in
     (lists.visits.fate, server-stays c.alike_is_first.ensures c.args.load.now c.args.demand.now c.args.first lists c.requires.stays c.cut-blocks.result.block c.server-kept.result.now lists.visits.fate c.cut-blocks.ensures.1 c.server-kept.ensures (λ _. lists.visits.fate))
 

@@ -8,15 +8,15 @@ use Rattle.mq_kept.proofs.TailRuns.{tandem-fates, tandem-stays, within}
 use Rattle.mq_kept.specs.Tails.{departures_in}
 use Rattle.mq_kept.proofs.tail_runs.tandem_tail.Goals as goal
 
-pub staged_again-requires-clause-inside : goal.staged_again-requires-clause-inside
-staged_again-requires-clause-inside g c =
+pub staged_behind-requires-clause-inside : goal.staged_behind-requires-clause-inside
+staged_behind-requires-clause-inside g c =
     let inside = within c.alike_is_first.ensures c.args.load.now (Tandem c.args.stages.now) c.args.first c.args.lists.now c.requires.stays in
     let even = c.requires.stays.loaded.load.ordered.ordered.even in
     let all = c.cut-blocks.ensures.0 in
     rw c.cut-blocks.ensures.1 (omega arith)
 
-pub staged_again-requires-clause-kept : goal.staged_again-requires-clause-kept
-staged_again-requires-clause-kept g c =
+pub staged_behind-requires-clause-kept : goal.staged_behind-requires-clause-kept
+staged_behind-requires-clause-kept g c =
     let lists = c.args.lists.now in
     (lists.visits.fate, tandem-stays c.alike_is_first.ensures c.args.load.now c.args.stages.now c.args.first lists c.requires.stays c.cut-blocks.result.block c.tandem-kept.result.now lists.visits.fate c.cut-blocks.ensures.1 c.tandem-kept.ensures (λ _. lists.visits.fate))
 
