@@ -23,6 +23,7 @@ use crate::checkpoints::Checkpoints;
 use crate::former::{Former, NodeLists};
 use crate::source_runs::{Edited, source_run};
 use crate::stations::{Reworked, Stays, work_again};
+use crate::tail_runs::{has_tail, tail_run};
 use mq_alike::{alike, alike_is_first, sequences_stay};
 use mq_arrivals::{Arrived, Arriving, arrivals_of};
 use mq_base::{List, OutOfMemory, Steps};
@@ -285,7 +286,7 @@ fn edited_source<R: Threads + Sync, L: Ledger>(
     }
 }
 
-// What a station gives whose lists are made anew where it has a difference.
+// What a station gives: where it has a difference its lists are edited in place, or made anew where that can't be.
 fn whole_run<R: Threads + Sync, L: Ledger>(
     rt: &R,
     alloc: Global,
@@ -329,13 +330,20 @@ fn whole_run<R: Threads + Sync, L: Ledger>(
         return Ok(unchanged_run(kind, lists, arriving.block));
     }
     let (again, all) = counted(kind, &cut(count, arriving.block), same, visits);
+    let (again, all) = (again as u64, all as u64);
+    if past.earlier.is_some() && has_tail(kind) && visits <= count {
+        let load = held.load();
+        let gives = tail_run(alloc, &load, lists, same / arriving.block, again, all, steps);
+        drop(held);
+        return gives;
+    }
     let stays = Stays {
         fates: &lists.visits.fate,
         checkpoints: &lists.checkpoints,
         blocks: same / arriving.block,
     };
     let now = worked_lists(rt, alloc, arriving.workers, held, &stays, steps);
-    changed_run(now, lists, again as u64, all as u64)
+    changed_run(now, lists, again, all)
 }
 
 // What came to the one station that is ready.
