@@ -97,15 +97,21 @@ fn edited_run(
 {
     let mut lists = lists;
     let visits = lists.visits.job.len() as u32;
-    let blocks = cut(
-        (tail.from + tail.arrivals.job.len()) as u32,
-        arriving.block,
-    );
+    let blocks = cut((tail.from + tail.arrivals.job.len()) as u32, arriving.block);
     let kind = &arriving.plan.net.nodes.get(number as usize).kind;
     let (again, all) = counted(kind, &blocks, tail.from as u32, visits);
     let jobs = tail.arrivals.job.as_slice();
     let times = tail.arrivals.time.as_slice();
-    let edited = edit_tail(alloc, arriving.plan, number, &mut lists, tail.from, jobs, times, times);
+    let edited = edit_tail(
+        alloc,
+        arriving.plan,
+        number,
+        &mut lists,
+        tail.from,
+        jobs,
+        times,
+        times,
+    );
     drop(tail);
     match edited {
         Ok(former) => {
