@@ -1,9 +1,9 @@
 -- A node of which the first blocks stay, and the visits behind them.
-use Rattle.std.proofs.Common.{◌≡◌, ℕ, zero, suc, ◌-◌, ◌*◌, ◌++◌, ◌∷◌, ◌<◌, ◌≤◌, List, [], length, drop, map, take, Some, refl, sym, ap, ◌∙◌, subst, arith}
+use Rattle.std.proofs.Common.{◌≡◌, ℕ, zero, suc, ◌+◌, ◌-◌, ◌*◌, ◌++◌, ◌∷◌, ◌<◌, ◌≤◌, List, [], length, drop, map, take, Some, refl, sym, ap, ◌∙◌, subst, arith}
 use Rattle.std.specs.Prelude.{slice_get}
 use Rattle.std.proofs.lemmas.List.{length-append, length-drop, length-map, length-take-le, take-append-drop, take_rest}
 use Rattle.mq_base.proofs.lemmas.Lists.{some_inj}
-use Rattle.mq_alike.specs.Again.{AlikeIsFirst, Coming}
+use Rattle.mq_alike.specs.Again.{AlikeIsFirst, Coming, alike}
 use Rattle.mq_core.specs.SequenceLaws.{FatesAreInTime}
 use Rattle.mq_core.specs.Sequences.{time_of_fate}
 use Rattle.mq_core.specs.StandardTable.{run_of}
@@ -12,9 +12,13 @@ use Rattle.mq_core.specs.declared.model.Fate.TheVariants.{Departs}
 use Rattle.mq_core.specs.declared.model.Demand.{Demand}
 use Rattle.mq_core.specs.declared.model.Kind.{Kind}
 use Rattle.mq_core.specs.declared.model.Kind.TheVariants.{ForkJoin, Server, Tandem}
+use Rattle.mq_core.specs.Theorems.{IsReadFor}
 use Rattle.mq_core.specs.declared.model.Node.{Node}
+use Rattle.mq_core.specs.declared.model.Plan.{Plan}
 use Rattle.mq_core.specs.declared.model.Stage.{Stage}
 use Rattle.mq_core.specs.declared.model.Stream.{Stream}
+use Rattle.mq_core.specs.declared.model.Visits.{Visits}
+use Rattle.mq_core.specs.declared.model.Rows.{Rows}
 use Rattle.mq_exits.specs.Loads.{IsLoaded}
 use Rattle.mq_exits.specs.NodeLaws.{NodeLaws}
 use Rattle.mq_exits.specs.Results.{IsKnown, IsWorkedOut}
@@ -32,8 +36,9 @@ use Rattle.mq_kept.specs.Formers.{with_checkpoints}
 use Rattle.mq_kept.specs.KeptNodes.{IsKeptNode, coming_of}
 use Rattle.mq_kept.specs.NodeRuns.{IsNodeKept}
 use Rattle.mq_kept.specs.TailRuns.{IsTailStaying}
-use Rattle.mq_kept.specs.Tails.{IsTailFor, IsTailPut, coming_behind, departures_in}
+use Rattle.mq_kept.specs.Tails.{IsTailFor, IsTailOf, IsTailPut, coming_behind, departures_in, tail_before}
 use Rattle.mq_kept.specs.declared.checkpoints.Checkpoints.{Checkpoints}
+use Rattle.mq_kept.specs.declared.tails.FormerTail.{FormerTail}
 use Rattle.mq_kept.specs.declared.former.NodeLists.{NodeLists}
 
 -- lists with the same first items
@@ -184,3 +189,21 @@ forkjoin-stays law load branches first lists stays block carries fates b c f =
 
 pub forkjoin-fates : AlikeIsFirst → (load : Load) (branches : List (List Demand)) (first : ℕ) (lists : NodeLists) → IsTailStaying load (ForkJoin branches) first lists → map (λ time. Departs time) (departures_in lists) ≡ lists.visits.fate
 forkjoin-fates law load branches first lists stays = sym (fates-back _ _ _ _ _ _ _ (kept-of law load (ForkJoin branches) first lists stays))
+
+-- What stays of a node, told of what comes to it as it is loaded.
+pub staying-load : (load : Load) (plan : Plan) (rows : Rows) (v block : ℕ) (arrivals : Stream) → load.plan.now ≡ plan → load.rows.now ≡ rows → load.number ≡ v → load.arrivals.now ≡ arrivals → load.block ≡ block → (node : Node) → slice_get plan.net.nodes v ≡ Some node → IsReadFor plan.net rows →
+    IsLoaded plan rows v arrivals → (earlier : Rows) → IsReadFor plan.net earlier → (lists : NodeLists) → IsNodeKept plan earlier block v lists → (first : ℕ) → first * block ≤ alike node.kind (coming_of earlier lists.visits) (coming_as rows arrivals) → length lists.visits.job ≤ length arrivals.job →
+    IsTailStaying load node.kind first lists
+staying-load load plan rows v block arrivals p r n a b node there read loaded earlier was lists kept first same longer =
+    record {
+      node = node;
+      there = subst (λ (t : Plan × ℕ). slice_get t.0.net.nodes t.1 ≡ Some node) (λ k. (sym p k, sym n k)) there;
+      is = refl;
+      read = subst (λ (t : Plan × Rows). IsReadFor t.0.net t.1) (λ k. (sym p k, sym r k)) read;
+      loaded = subst (λ (t : Plan × Rows × ℕ × Stream). IsLoaded t.0 t.1 t.2 t.3) (λ k. (sym p k, sym r k, sym n k, sym a k)) loaded;
+      earlier = earlier;
+      was_read = subst (λ (t : Plan). IsReadFor t.net earlier) (sym p) was;
+      kept = subst (λ (t : Plan × ℕ × ℕ). IsNodeKept t.0 earlier t.1 t.2 lists) (λ k. (sym p k, sym b k, sym n k)) kept;
+      same = subst (λ (t : ℕ × Rows × Stream). first * t.0 ≤ alike node.kind (coming_of earlier lists.visits) (coming_as t.1 t.2)) (λ k. (sym b k, sym r k, sym a k)) same;
+      longer = subst (λ (t : Stream). length lists.visits.job ≤ length t.job) (sym a) longer;
+    }

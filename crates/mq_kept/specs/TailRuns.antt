@@ -13,9 +13,13 @@ use Rattle.mq_redo.specs.Kept.{coming_as}
 use Rattle.mq_stations.specs.Leaving.{AreServed}
 use Rattle.mq_kept.specs.KeptNodes.{IsKeptNode, coming_of}
 use Rattle.mq_kept.specs.NodeRuns.{IsNodeKept}
-use Rattle.mq_kept.specs.Tails.{departures_in}
+use Rattle.mq_kept.specs.Formers.{with_checkpoints}
+use Rattle.mq_kept.specs.Tails.{IsTailOf, departures_in, tail_before}
 use Rattle.mq_kept.specs.declared.checkpoints.Checkpoints.{Checkpoints}
+use Rattle.mq_kept.specs.declared.former.Former.TheVariants.{Tail}
 use Rattle.mq_kept.specs.declared.former.NodeLists.{NodeLists}
+use Rattle.mq_kept.specs.declared.nodes.NodeRun.{NodeRun}
+use Rattle.mq_kept.specs.declared.tails.FormerTail.{FormerTail}
 
 -- jobs leave a node of this kind in the order in which they came, and its blocks are worked one after another
 abbrev pub HasTail : Kind → Type 0
@@ -48,3 +52,14 @@ pub record IsTailServed (load : Load) (kind : Kind) (first : ℕ) (lists : NodeL
   pub stays : IsTailStaying load kind first lists
   pub served : AreServed load.rows.now kind load.arrivals.now (take (first * load.block) (departures_in lists) ++ departs)
   pub kept : IsKeptNode kind (coming_as load.rows.now load.arrivals.now) load.block (take (first * load.block) lists.visits.fate ++ map (λ time. Departs time) departs) points
+
+-- it gives what the run has, with what is kept of it, and these numbers; its last visits come back
+pub record IsTailRun (load : Load) (lists : NodeLists) (again all : ℕ) (gives : NodeRun) : Type 0 where
+  pub tail : FormerTail
+  pub points : Checkpoints
+  pub former : gives.former ≡ Tail tail points
+  pub kept : IsNodeKept load.plan.now load.rows.now load.block load.number gives.lists
+  pub back : with_checkpoints points (tail_before tail gives.lists) ≡ lists
+  pub fits : IsTailOf tail gives.lists
+  pub again_is : gives.again ≡ again
+  pub all_is : gives.all ≡ all

@@ -14,6 +14,7 @@ ghost use Rattle.mq_exits.specs.Results.{IsWorkedOut};
 ghost use Rattle.mq_exits.specs.declared.working.Ending.TheVariants.{OnTime};
 ghost use Rattle.mq_kept.specs.KeptNodes.{IsKeptNode, IsNodeOf, blocks_behind, coming_of};
 ghost use Rattle.mq_kept.specs.NodeRuns.{HaveStayed, IsFaultAt, IsFaultOf, IsNodeBefore, IsNodeKept, IsNodeRun, IsStayingAt, RowsFit, came_before, earlier_rows, kept_rows, worked_behind};
+ghost use Rattle.mq_kept.specs.TailRuns.{HasTail};
 ghost use Rattle.mq_kept.specs.declared.former.Former.TheVariants.{Same, Whole};
 ghost use Rattle.mq_merge.specs.Borrowed.{stream_in};
 ghost use Rattle.mq_redo.specs.Kept.{coming_as};
@@ -23,6 +24,7 @@ use crate::checkpoints::Checkpoints;
 use crate::former::{Former, NodeLists};
 use crate::source_runs::{Edited, source_run};
 use crate::stations::{Reworked, Stays, work_again};
+use crate::tail_runs::{has_tail, tail_run};
 use mq_alike::{alike, alike_is_first, sequences_stay};
 use mq_arrivals::{Arrived, Arriving, arrivals_of};
 use mq_base::{List, OutOfMemory, Steps};
@@ -285,7 +287,7 @@ fn edited_source<R: Threads + Sync, L: Ledger>(
     }
 }
 
-// What a station gives whose lists are made anew where it has a difference.
+// What a station gives: where it has a difference its lists are edited in place, or made anew where that can't be.
 fn whole_run<R: Threads + Sync, L: Ledger>(
     rt: &R,
     alloc: Global,
@@ -329,13 +331,28 @@ fn whole_run<R: Threads + Sync, L: Ledger>(
         return Ok(unchanged_run(kind, lists, arriving.block));
     }
     let (again, all) = counted(kind, &cut(count, arriving.block), same, visits);
+    let (again, all) = (again as u64, all as u64);
+    if can_redo_tail(past, kind, visits, count) {
+        let load = held.load();
+        let gives = tail_run(
+            alloc,
+            &load,
+            lists,
+            same / arriving.block,
+            again,
+            all,
+            steps,
+        );
+        drop(held);
+        return gives;
+    }
     let stays = Stays {
         fates: &lists.visits.fate,
         checkpoints: &lists.checkpoints,
         blocks: same / arriving.block,
     };
     let now = worked_lists(rt, alloc, arriving.workers, held, &stays, steps);
-    changed_run(now, lists, again as u64, all as u64)
+    changed_run(now, lists, again, all)
 }
 
 // What came to the one station that is ready.
@@ -394,6 +411,13 @@ fn is_unchanged(past: &Past, same: u32, visits: u32, count: u32) -> bool
     ensures no { result ≡ false → (past.now.earlier ≡ None) ⊎ (((same == visits) && (same == count)) ≡ false) }
 {
     past.earlier.is_some() && same == visits && same == count
+}
+
+// Whether a run is kept, in which a node of this kind can be edited in place: it doesn't become shorter.
+fn can_redo_tail(past: &Past, kind: &Kind, visits: u32, count: u32) -> bool
+    ensures { result ≡ true → ((former : Bor TheFormer) × (past.now.earlier ≡ Some former)) × HasTail kind.now × (visits ≤ count) }
+{
+    past.earlier.is_some() && has_tail(kind) && visits <= count
 }
 
 // The lists of a station that is gone through again.

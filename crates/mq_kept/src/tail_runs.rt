@@ -5,11 +5,12 @@ ghost use Rattle.mq_core.specs.declared.model.Kind.TheVariants.{ForkJoin, Server
 ghost use Rattle.mq_core.specs.declared.model.Kind.{Kind as TheKind};
 ghost use Rattle.mq_kept.specs.Formers.{with_checkpoints};
 ghost use Rattle.mq_kept.specs.NodeRuns.{IsFaultAt, IsNodeKept};
-ghost use Rattle.mq_kept.specs.TailRuns.{HasTail, IsTailServed, IsTailStaying};
+ghost use Rattle.mq_kept.specs.TailRuns.{HasTail, IsTailRun, IsTailServed, IsTailStaying};
 ghost use Rattle.mq_kept.specs.Tails.{IsTailOf, tail_before};
 
 use crate::checkpoints::Checkpoints;
-use crate::former::NodeLists;
+use crate::former::{Former, NodeLists};
+use crate::nodes::{NodeRefusal, NodeRun};
 use crate::tails::{FormerTail, edit_tail};
 use mq_alike::alike_is_first;
 use mq_base::{List, OutOfMemory, Steps};
@@ -33,9 +34,41 @@ pub fn has_tail(kind: &Kind) -> bool
     }
 }
 
-/// Edits such a node in place, of which so many first blocks stay, and gives what it had before behind them. It refuses where a
-/// visit departs after the bound, and for want of memory; then its lists are as before.
-pub fn tail_again<L: Ledger>(
+/// What such a node gives that is edited in place, of which so many first blocks stay, of whose blocks so many are done again.
+pub fn tail_run<L: Ledger>(
+    alloc: Global,
+    load: &Load,
+    lists: NodeLists,
+    first: u32,
+    again: u64,
+    all: u64,
+    steps: &mut Steps<L>,
+) -> Result<NodeRun, NodeRefusal>
+    requires some { 1 ≤ load.now.block }
+    requires large { load.now.block ≤ 65536 }
+    requires stays { (kind : TheKind) × HasTail kind × IsTailStaying load.now kind first lists }
+    ensures gives { IfOk result (IsTailRun load.now lists again all) }
+    ensures cause { IfErr result (λ refusal. IsFaultAt load.now.plan.now load.now.rows.now load.now.number refusal.fault) }
+    ensures back { IfErr result (λ refusal. refusal.lists ≡ lists) }
+    ensures steps { steps.old ≤ steps.new }
+    ensures spent { steps.new + first ≤ steps.old + blocks_in load.now.block (length load.now.arrivals.now.job) }
+    ensures counted { OnOk result (steps.new + first ≡ steps.old + blocks_in load.now.block (length load.now.arrivals.now.job)) }
+{
+    let mut lists = lists;
+    match tail_again(alloc, load, &mut lists, first, steps) {
+        Ok((former, checkpoints)) => Ok(NodeRun {
+            lists,
+            former: Former::Tail(former, checkpoints),
+            again,
+            all,
+        }),
+        Err(fault) => Err(NodeRefusal { fault, lists }),
+    }
+}
+
+// Edits such a node in place, of which so many first blocks stay, and gives what it had before behind them. It refuses where a
+// visit departs after the bound, and for want of memory; then its lists are as before.
+fn tail_again<L: Ledger>(
     alloc: Global,
     load: &Load,
     lists: &mut NodeLists,
