@@ -1,5 +1,5 @@
 -- A node of which the first blocks stay, and the visits behind them.
-use Rattle.std.proofs.Common.{◌≡◌, ℕ, zero, suc, ◌+◌, ◌-◌, ◌*◌, ◌++◌, ◌∷◌, ◌<◌, ◌≤◌, List, [], length, drop, map, take, Some, refl, sym, ap, ◌∙◌, subst, arith}
+use Rattle.std.proofs.Common.{◌≡◌, ℕ, zero, suc, ◌-◌, ◌*◌, ◌++◌, ◌∷◌, ◌<◌, ◌≤◌, List, [], length, drop, map, take, Some, refl, sym, ap, ◌∙◌, subst, arith}
 use Rattle.std.specs.Prelude.{slice_get}
 use Rattle.std.proofs.lemmas.List.{length-append, length-drop, length-map, length-take-le, take-append-drop, take_rest}
 use Rattle.mq_base.proofs.lemmas.Lists.{some_inj}
@@ -17,7 +17,6 @@ use Rattle.mq_core.specs.declared.model.Node.{Node}
 use Rattle.mq_core.specs.declared.model.Plan.{Plan}
 use Rattle.mq_core.specs.declared.model.Stage.{Stage}
 use Rattle.mq_core.specs.declared.model.Stream.{Stream}
-use Rattle.mq_core.specs.declared.model.Visits.{Visits}
 use Rattle.mq_core.specs.declared.model.Rows.{Rows}
 use Rattle.mq_exits.specs.Loads.{IsLoaded}
 use Rattle.mq_exits.specs.NodeLaws.{NodeLaws}
@@ -36,9 +35,8 @@ use Rattle.mq_kept.specs.Formers.{with_checkpoints}
 use Rattle.mq_kept.specs.KeptNodes.{IsKeptNode, coming_of}
 use Rattle.mq_kept.specs.NodeRuns.{IsNodeKept}
 use Rattle.mq_kept.specs.TailRuns.{IsTailStaying}
-use Rattle.mq_kept.specs.Tails.{IsTailFor, IsTailOf, IsTailPut, coming_behind, departures_in, tail_before}
+use Rattle.mq_kept.specs.Tails.{IsTailFor, IsTailPut, coming_behind, departures_in}
 use Rattle.mq_kept.specs.declared.checkpoints.Checkpoints.{Checkpoints}
-use Rattle.mq_kept.specs.declared.tails.FormerTail.{FormerTail}
 use Rattle.mq_kept.specs.declared.former.NodeLists.{NodeLists}
 
 -- lists with the same first items

@@ -332,7 +332,7 @@ fn whole_run<R: Threads + Sync, L: Ledger>(
     }
     let (again, all) = counted(kind, &cut(count, arriving.block), same, visits);
     let (again, all) = (again as u64, all as u64);
-    if can_redo_tail(past, kind, visits, count) {
+    if can_redo_tail(past, kind, same, visits, count) {
         let load = held.load();
         let gives = tail_run(
             alloc,
@@ -413,11 +413,12 @@ fn is_unchanged(past: &Past, same: u32, visits: u32, count: u32) -> bool
     past.earlier.is_some() && same == visits && same == count
 }
 
-// Whether a run is kept, in which a node of this kind can be edited in place: it doesn't become shorter.
-fn can_redo_tail(past: &Past, kind: &Kind, visits: u32, count: u32) -> bool
+// Whether a run is kept, in which a node of this kind can be edited in place: it doesn't become shorter. Where less than half
+// stays it is made anew, on all workers.
+fn can_redo_tail(past: &Past, kind: &Kind, same: u32, visits: u32, count: u32) -> bool
     ensures { result ≡ true → ((former : Bor TheFormer) × (past.now.earlier ≡ Some former)) × HasTail kind.now × (visits ≤ count) }
 {
-    past.earlier.is_some() && has_tail(kind) && visits <= count
+    past.earlier.is_some() && has_tail(kind) && visits <= count && count / 2 <= same
 }
 
 // The lists of a station that is gone through again.

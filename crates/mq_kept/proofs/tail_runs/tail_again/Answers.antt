@@ -1,8 +1,7 @@
-use Rattle.std.proofs.Common.{◌≡◌, ap, subst, sym, ◌∙◌}
+use Rattle.std.proofs.Common.{subst, sym, ◌∙◌}
 use Rattle.mq_base.proofs.lemmas.Lists.{some_inj}
 use Rattle.mq_core.specs.declared.model.Kind.{Kind}
-use Rattle.mq_core.specs.declared.model.Kind.TheVariants.{ForkJoin, Server, Tandem}
-use Rattle.mq_kept.specs.TailRuns.{HasTail, IsTailStaying}
+use Rattle.mq_kept.specs.TailRuns.{IsTailStaying}
 use Rattle.mq_kept.proofs.tail_runs.tail_again.Goals as goal
 
 pub server_tail-requires-clause-stays : goal.server_tail-requires-clause-stays
