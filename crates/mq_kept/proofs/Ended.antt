@@ -32,7 +32,7 @@ use Rattle.mq_exits.specs.declared.working.Ending.{Ending}
 use Rattle.mq_exits.specs.declared.working.NodeResult.{NodeResult}
 use Rattle.mq_kept.proofs.SameNodes.{visits-by}
 use Rattle.mq_kept.specs.KeptNodes.{IsKeptNode, coming_of}
-use Rattle.mq_kept.specs.Formers.{lists_before}
+use Rattle.mq_kept.specs.Formers.{FitsIn, lists_before}
 use Rattle.mq_kept.specs.NodeRuns.{IsFaultAt, IsFaultOf, IsNodeKept, IsNodeRun, again_behind, blocks_at, came_before}
 use Rattle.mq_kept.specs.declared.checkpoints.Checkpoints.{Checkpoints}
 use Rattle.mq_kept.specs.declared.former.Former.TheVariants.{Whole}
@@ -145,6 +145,7 @@ pub changed-run : (s : Arriving) (old : Option Rows) (lists : NodeLists) (v agai
 changed-run s old lists v again all made (Ok gives) a b few few' kept h = record {
   kept = subst (λ r. IfOk r (IsNodeKept s.plan.now s.rows.now s.block v)) h.0 kept;
   back = ap (λ f. lists_before f gives.lists) h.1;
+  fits = subst (λ f. FitsIn f gives.lists) (sym h.1) tt;
   stayed = λ same. absurd (let differ = sym h.1 ∙ same in cc);
   again = h.2 ∙ a;
   all = h.3 ∙ b;

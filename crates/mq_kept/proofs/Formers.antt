@@ -4,7 +4,7 @@ use Rattle.std.specs.Prelude.{slice_get}
 use Rattle.std.proofs.lemmas.List.{length-set, same_lists, set-set}
 use Rattle.std.proofs.lemmas.Option.{get_or_from_slice_get, slice_get_within}
 use Rattle.mq_base.proofs.lemmas.Lists.{get-set_other, get-set_same, get-some, some_inj}
-use Rattle.mq_kept.specs.Formers.{AreNodes, AreNothing, AreSameNodes, CanComeBack, HasLists, IsPut, lists_before, no_lists}
+use Rattle.mq_kept.specs.Formers.{AllFit, AreNodes, AreNothing, AreSameNodes, CanComeBack, FitsIn, HasLists, IsPut, lists_before, no_lists}
 use Rattle.mq_kept.specs.declared.checkpoints.Checkpoints.TheVariants.{Nothing}
 use Rattle.mq_kept.specs.declared.former.Former.{Former}
 use Rattle.mq_kept.specs.declared.former.Former.TheVariants.{Same}
@@ -75,6 +75,17 @@ module _ (nodes nodes' : Nodes) (v : ℕ) (lists : NodeLists) (p : IsPut nodes v
           subst (λ x. lists_before former x ≡ was) is (back was former (subst (λ x. HasLists before x was) same a) (sym (ap (slice_get formers') same) ∙ e))
       each w was now former a b e (inr apart) = c.each w was now former a (put-other w now apart b) (sym (others w apart) ∙ e)
 
+  -- and so fit, where that one does
+  pub fits-put : (formers formers' : List Former) → AllFit nodes formers → AreNodes (length formers) nodes → v < length formers → ((w : ℕ) → w ≢ v → slice_get formers' w ≡ slice_get formers w) →
+      ((former : Former) → slice_get formers' v ≡ Some former → FitsIn former lists) → AllFit nodes' formers'
+  fits-put formers formers' fit n inside others here = λ w now former b e. each w now former b e (decide-eq w v)
+    where
+      each : (w : ℕ) (now : NodeLists) (former : Former) → HasLists nodes' w now → slice_get formers' w ≡ Some former → (w ≡ v) ⊎ (w ≢ v) → FitsIn former now
+      each w now former b e (inl same) =
+          let is : lists ≡ now = lists-one nodes' v lists now (put-here (length formers) n inside) (subst (λ x. HasLists nodes' x now) same b) in
+          subst (FitsIn former) is (here former (sym (ap (slice_get formers') same) ∙ e))
+      each w now former b e (inr apart) = fit w now former (put-other w now apart b) (sym (others w apart) ∙ e)
+
 -- where all have what they had, the nodes are the same
 pub all-back : (before nodes : Nodes) (formers : List Former) → CanComeBack before nodes formers → AreNodes (length formers) nodes → ((w : ℕ) → w < length formers → slice_get formers w ≡ Some Same) → AreSameNodes before nodes
 all-back before nodes formers c n same = (
@@ -98,6 +109,10 @@ comes-first nodes formers n same = record {
   count = n;
   each = λ v was now former a b e. subst (λ (f : Former). lists_before f now ≡ was) (sym (same v former e)) (lists-one nodes v now was b a);
 }
+
+-- and all fit
+pub fits-first : (nodes : Nodes) (formers : List Former) → ((w : ℕ) (former : Former) → slice_get formers w ≡ Some former → former ≡ Same) → AllFit nodes formers
+fits-first nodes formers same = λ v now former a e. subst (λ (f : Former). FitsIn f now) (sym (same v former e)) tt
 
 -- one more has what it had
 pub same-more : (formers : List Former) (at : ℕ) → at < length formers → ((w : ℕ) → w < at → slice_get formers w ≡ Some Same) → (w : ℕ) → w < at + 1 → slice_get (set formers at Same) w ≡ Some Same

@@ -25,7 +25,7 @@ use Rattle.mq_kept.proofs.CameBefore.{kept-came, kept-known}
 use Rattle.mq_kept.proofs.Ended.{changed-run, ended-so}
 use Rattle.mq_kept.proofs.Numbers.{again-none, apart-uncounted}
 use Rattle.mq_kept.proofs.SameNodes.{IsSameAt, apart-same, coming-is, known-stays, whole-same}
-use Rattle.mq_kept.specs.Formers.{lists_before}
+use Rattle.mq_kept.specs.Formers.{FitsIn, lists_before}
 use Rattle.mq_kept.specs.KeptNodes.{IsKeptNode, coming_of}
 use Rattle.mq_kept.specs.NodeRuns.{HasStayed, HaveStayed, IsNodeBefore, IsNodeKept, IsNodeRun, came_before, coming_to, earlier_rows}
 use Rattle.mq_kept.specs.declared.checkpoints.Checkpoints.{Checkpoints}
@@ -77,6 +77,7 @@ module _ (laws : CoreLaws) (s : Arriving) (old : Rows) (v : ℕ) (node : Node) (
           checkpoints = λ other at. subst (λ (n : Node). IsKeptNode n.kind (coming_of s.rows.now lists.visits) s.block lists.visits.fate lists.checkpoints) (some_inj node other (sym there ∙ at)) (stays (k.checkpoints node there));
         });
         back = λ i. lists_before (left.former i) (left.lists_are i);
+        fits = subst (λ f. FitsIn f gives.lists) (sym left.former) tt;
         stayed = λ is. same.stream;
         again = left.again ∙ (sym none ∙ ap (λ o. again_of s.block o (coming_of old lists.visits) (coming_to s.plan.now s.rows.now v)) (sym there));
         all = left.all ∙ ((λ i. cond (is_counted node.kind) (blocks_in s.block (length (jobs i))) 0) ∙ ap (λ o. blocks_of s.block o (coming_to s.plan.now s.rows.now v)) (sym there));

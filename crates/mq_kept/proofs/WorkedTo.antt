@@ -21,7 +21,7 @@ use Rattle.mq_engine.specs.CoreLaws.{CoreLaws}
 use Rattle.mq_engine.specs.Progress.{AreEarly}
 use Rattle.mq_engine.specs.declared.fault.RunFault.{RunFault}
 use Rattle.mq_engine.specs.declared.fault.RunFault.TheVariants.{Memory, Over, Past}
-use Rattle.mq_kept.specs.Formers.{AreNodes, CanComeBack, HasLists, IsPut, lists_before}
+use Rattle.mq_kept.specs.Formers.{AllFit, AreNodes, CanComeBack, FitsIn, HasLists, IsPut, lists_before}
 use Rattle.mq_kept.specs.KeptNodes.{IsKeptNode, coming_of}
 use Rattle.mq_kept.specs.NodeRuns.{AreKept, AreNodesBefore, HasStayed, HaveStayed, IsFaultAt, IsNodeBefore, came_before, coming_to}
 use Rattle.mq_kept.specs.Totals.{all_again, all_worked, came_in_kept}
@@ -33,7 +33,7 @@ use Rattle.mq_kept.specs.declared.former.NodeLists.{NodeLists}
 use Rattle.mq_kept.specs.declared.former.Nodes.{Nodes}
 use Rattle.mq_kept.specs.declared.nodes.NodeRun.{NodeRun}
 use Rattle.mq_kept.proofs.CameBefore.{kept-came}
-use Rattle.mq_kept.proofs.Formers.{comes-first, comes-put, lists-there, put-count}
+use Rattle.mq_kept.proofs.Formers.{comes-first, comes-put, fits-first, fits-put, lists-there, put-count}
 use Rattle.mq_kept.proofs.KeptNodes.{AreCheckpointsTo, coming-net, checkpoints-all, checkpoints-begin, checkpoints-more}
 use Rattle.mq_kept.proofs.Ranks.{IsDoneTo, decide-eq, done-begins, inside, is-fine, is-run, later-apart, more, rank-below, read-before, refuses, sum-more, sum-within}
 
@@ -55,6 +55,7 @@ pub record IsWorkedTo (plan : Plan) (rows : Rows) (block : ℕ) (old : Option Ro
   pub long : length worked.formers.items ≡ length plan.net.nodes
   pub count : AreNodes (length worked.formers.items) worked.nodes
   pub back : CanComeBack first worked.nodes worked.formers.items
+  pub fit : AllFit worked.nodes worked.formers.items
   pub waits : (q v : ℕ) → rank ≤ q → slice_get plan.order q ≡ Some v → slice_get worked.formers.items v ≡ Some Same
   pub stayed : (q v : ℕ) → q < rank → slice_get plan.order q ≡ Some v → slice_get worked.formers.items v ≡ Some Same → HasStayed plan old rows v
   pub again : worked.redone.again ≡ sum_by (again_at_node plan rows block old) (take rank plan.order)
@@ -76,6 +77,7 @@ worked-begins laws plan rows block old first worked before nodes long all_same r
       long = long;
       count = counts;
       back = subst (λ (n : Nodes). CanComeBack n worked.nodes worked.formers.items) nodes (comes-first worked.nodes worked.formers.items counts (λ w former e. some_inj former Same (sym e ∙ same w (slice_get_within worked.formers.items w former e))));
+      fit = fits-first worked.nodes worked.formers.items (λ w former e. some_inj former Same (sym e ∙ same w (slice_get_within worked.formers.items w former e)));
       waits = λ q v l e. same v (subst (λ n. v < n) (sym long) (laws.ranks plan q v e).inside);
       stayed = λ q v l e g. absurd (omega arith);
       again = no_again;
@@ -160,9 +162,12 @@ module _ (laws : CoreLaws) (plan : Plan) (rows : Rows) (block : ℕ) (old : Opti
       comes-put worked.nodes nodes' v lists p first worked.formers.items worked.formers.items w.back w.count in-formers refl (λ u apart. refl)
       (λ was former g e. w.back.each v was lists former g h e)
 
+  pub fits-refused : (lists : NodeLists) (nodes' : Nodes) → HasLists worked.nodes v lists → IsPut worked.nodes v lists nodes' → AllFit nodes' worked.formers.items
+  fits-refused lists nodes' h p = fits-put worked.nodes nodes' v lists p worked.formers.items worked.formers.items w.fit w.count in-formers (λ u apart. refl) (λ former e. w.fit v lists former h e)
+
   -- what it gives is put down
   module _ (lists : NodeLists) (h : HasLists worked.nodes v lists) (gives : NodeRun) (node : Node) (there : slice_get plan.net.nodes v ≡ Some node) (known : IsKnown plan rows v node (OnTime gives.lists.visits gives.lists.streams))
-      (points : IsKeptNode node.kind (coming_of rows gives.lists.visits) block gives.lists.visits.fate gives.lists.checkpoints) (back : lists_before gives.former gives.lists ≡ lists) (stays : gives.former ≡ Same → HasStayed plan old rows v)
+      (points : IsKeptNode node.kind (coming_of rows gives.lists.visits) block gives.lists.visits.fate gives.lists.checkpoints) (back : lists_before gives.former gives.lists ≡ lists) (fits : FitsIn gives.former gives.lists) (stays : gives.former ≡ Same → HasStayed plan old rows v)
       (again : gives.again ≡ again_at_node plan rows block old v) (all : gives.all ≡ blocks_at_node plan rows block v) (again_few : gives.again < 2 ^ 32) (all_few : gives.all < 2 ^ 32)
       (worked' : SoFar) (put : IsPut worked.nodes v gives.lists worked'.nodes) (formers : worked'.formers.items ≡ set worked.formers.items v gives.former)
       (redone : worked'.redone ≡ record { again = worked.redone.again + gives.again; all = worked.redone.all + gives.all }) where
@@ -196,6 +201,7 @@ module _ (laws : CoreLaws) (plan : Plan) (rows : Rows) (block : ℕ) (old : Opti
           count = subst (λ n. AreNodes n worked'.nodes) (sym longer) (put-count worked.nodes worked'.nodes v gives.lists put (length worked.formers.items) w.count);
           back = comes-put worked.nodes worked'.nodes v gives.lists put first worked.formers.items worked'.formers.items w.back w.count in-formers longer former-other
               (λ was former g e. subst (λ f. lists_before f gives.lists ≡ was) (some_inj gives.former former (sym former-here ∙ e)) (back ∙ has-first lists was h g));
+          fit = fits-put worked.nodes worked'.nodes v gives.lists put worked.formers.items worked'.formers.items w.fit w.count in-formers former-other (λ former e. subst (λ f. FitsIn f gives.lists) (some_inj gives.former former (sym former-here ∙ e)) fits);
           waits = λ q u l e. former-other u (later-apart laws plan rows worked.nodes.visits.items worked.nodes.outputs.items rank v w.done here q u l e) ∙ w.waits q u (omega arith) e;
           stayed = λ q u l e g. stayed-more q u l e g (decide-eq u v);
           again = again_is ∙ ((λ i. w.again i + again i) ∙ sym (sum-more (again_at_node plan rows block old) plan.order rank v here));

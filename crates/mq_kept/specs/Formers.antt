@@ -1,8 +1,10 @@
 -- What nodes had before an edit, and how they come back to it.
 use Rattle.std.specs.Prelude.{◌≡◌, ℕ, List, [], Some, length, slice_get, slice_set}
+use Rattle.mq_kept.specs.Tails.{IsTailOf, tail_before}
 use Rattle.mq_kept.specs.declared.checkpoints.Checkpoints.TheVariants.{Nothing}
+use Rattle.mq_kept.specs.declared.checkpoints.Checkpoints.{Checkpoints}
 use Rattle.mq_kept.specs.declared.former.Former.{Former}
-use Rattle.mq_kept.specs.declared.former.Former.TheVariants.{Same, Whole}
+use Rattle.mq_kept.specs.declared.former.Former.TheVariants.{Same, Tail, Whole}
 use Rattle.mq_kept.specs.declared.former.NodeLists.{NodeLists}
 use Rattle.mq_kept.specs.declared.former.Nodes.{Nodes}
 
@@ -34,10 +36,25 @@ abbrev pub AreSameNodes : Nodes → Nodes → Type 0
 AreSameNodes nodes nodes' =
     (nodes'.visits.items ≡ nodes.visits.items) × (nodes'.outputs.items ≡ nodes.outputs.items) × (nodes'.checkpoints.items ≡ nodes.checkpoints.items)
 
+-- lists with other checkpoints
+abbrev pub with_checkpoints : Checkpoints → NodeLists → NodeLists
+with_checkpoints points lists = record lists { checkpoints = points }
+
 -- what a node had before, by how it comes back to it, and what it has now
 abbrev pub lists_before : Former → NodeLists → NodeLists
 lists_before Same now = now
 lists_before (Whole lists) now = lists
+lists_before (Tail tail points) now = with_checkpoints points (tail_before tail now)
+
+-- these lists can come back so: former last visits fit in
+abbrev pub FitsIn : Former → NodeLists → Type 0
+FitsIn Same now = Unit {0}
+FitsIn (Whole lists) now = Unit {0}
+FitsIn (Tail tail points) now = IsTailOf tail now
+
+-- so can those of each node
+abbrev pub AllFit : Nodes → List Former → Type 0
+AllFit nodes formers = (v : ℕ) (now : NodeLists) (former : Former) → HasLists nodes v now → slice_get formers v ≡ Some former → FitsIn former now
 
 -- the nodes come back so to what they had before
 pub record CanComeBack (before nodes : Nodes) (formers : List Former) : Type 0 where

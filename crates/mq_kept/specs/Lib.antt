@@ -3,4 +3,9 @@ pub mod Formers
 pub mod Keeping
 pub mod KeptNodes
 pub mod NodeRuns
+pub mod SourceRuns
+pub mod SourceTails
+pub mod TailRuns
+pub mod TailSteps
+pub mod Tails
 pub mod Totals

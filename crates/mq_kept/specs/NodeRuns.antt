@@ -13,7 +13,7 @@ use Rattle.mq_core.specs.declared.model.Node.{Node}
 use Rattle.mq_core.specs.declared.model.Plan.{Plan}
 use Rattle.mq_core.specs.declared.model.Rows.{Rows}
 use Rattle.mq_core.specs.declared.model.Run.{Run}
-use Rattle.mq_edits.specs.Former.{rows_before}
+use Rattle.mq_edits.specs.Former.{IsFormerOf, rows_before}
 use Rattle.mq_edits.specs.declared.former.FormerRows.{FormerRows}
 use Rattle.mq_engine.specs.Progress.{AreEarly}
 use Rattle.mq_engine.specs.declared.fault.RunFault.{RunFault}
@@ -24,7 +24,7 @@ use Rattle.mq_exits.specs.declared.working.Ending.{Ending}
 use Rattle.mq_exits.specs.declared.working.Ending.TheVariants.{OnTime, TooLate, TooMany}
 use Rattle.mq_merge.specs.Borrowed.{stream_in}
 use Rattle.mq_redo.specs.Kept.{coming_as}
-use Rattle.mq_kept.specs.Formers.{AreNodes, HasLists, lists_before, no_lists}
+use Rattle.mq_kept.specs.Formers.{AreNodes, FitsIn, HasLists, lists_before, no_lists}
 use Rattle.mq_kept.specs.KeptNodes.{AreCheckpoints, IsKeptNode, IsStayingNode, coming_of}
 use Rattle.mq_kept.specs.declared.checkpoints.Checkpoints.{Checkpoints}
 use Rattle.mq_kept.specs.declared.stations.Stays.{Stays}
@@ -51,6 +51,11 @@ pub record IsNodeKept (plan : Plan) (rows : Rows) (block v : ℕ) (lists : NodeL
 abbrev pub earlier_rows : Rows → Option (Bor FormerRows) → Option Rows
 earlier_rows rows None = None
 earlier_rows rows (Some former) = Some (rows_before former.now rows)
+
+-- the former rows fit in, where a run is kept
+abbrev pub RowsFit : Rows → Option (Bor FormerRows) → Type 0
+RowsFit rows None = Unit {0}
+RowsFit rows (Some former) = IsFormerOf former.now rows
 
 -- what is kept of a node before it is worked out: nothing before the first run
 abbrev pub IsNodeBefore : Plan → Option Rows → ℕ → ℕ → NodeLists → Type 0
@@ -104,6 +109,7 @@ blocks_at s v = blocks_of s.block (slice_get s.plan.now.net.nodes v) (coming_to 
 pub record IsNodeRun (s : Arriving) (old : Option Rows) (lists : NodeLists) (v : ℕ) (gives : NodeRun) : Type 0 where
   pub kept : IsNodeKept s.plan.now s.rows.now s.block v gives.lists
   pub back : lists_before gives.former gives.lists ≡ lists
+  pub fits : FitsIn gives.former gives.lists
   pub stayed : gives.former ≡ Same → HasStayed s.plan.now old s.rows.now v
   pub again : gives.again ≡ again_behind s (came_before s.rows.now old lists) v
   pub all : gives.all ≡ blocks_at s v

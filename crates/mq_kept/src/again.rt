@@ -3,8 +3,8 @@ ghost use Rattle.std.specs.Prelude.{◌≡◌, ◌+◌, ◌<◌, ◌≤◌, ◌^
 ghost use Rattle.mq_alike.specs.Again.{all_blocks};
 ghost use Rattle.mq_core.specs.Theorems.{IsReadFor};
 ghost use Rattle.mq_engine.specs.Answer.{IsCause};
-ghost use Rattle.mq_kept.specs.Formers.{AreNodes, AreSameNodes, CanComeBack, IsPut};
-ghost use Rattle.mq_kept.specs.NodeRuns.{AreKept, AreNodesBefore, earlier_rows};
+ghost use Rattle.mq_kept.specs.Formers.{AllFit, AreNodes, AreSameNodes, CanComeBack, IsPut};
+ghost use Rattle.mq_kept.specs.NodeRuns.{AreKept, AreNodesBefore, RowsFit, earlier_rows};
 ghost use Rattle.mq_kept.specs.Totals.{all_again, all_worked};
 ghost use Rattle.mq_kept.specs.declared.former.Former.TheVariants.{Same};
 ghost use Rattle.mq_kept.specs.declared.former.Nodes.{Nodes as TheNodes};
@@ -66,6 +66,7 @@ pub fn run_again<R: Threads + Sync, L: Ledger>(
     requires most { workers ≤ 64 }
     requires block { 64 ≤ block }
     requires large { block ≤ 65536 }
+    requires fit { RowsFit rows.now earlier }
     requires before { AreNodesBefore plan.now (earlier_rows rows.now earlier) block nodes }
     requires formers { length formers.items ≡ length plan.now.net.nodes }
     requires same { All (λ former. former ≡ Same) formers.items }
@@ -141,6 +142,7 @@ fn put(worked: &mut SoFar, number: u32, gives: NodeRun)
 // There is no run, for this cause: the nodes come back to what they had.
 fn undone(alloc: Global, worked: SoFar, fault: RunFault) -> RunRefusal
     requires nodes { AreNodes (length worked.formers.items) worked.nodes }
+    requires fit { AllFit worked.nodes worked.formers.items }
     ensures fault { result.fault ≡ fault }
     ensures back { (before : TheNodes) → CanComeBack before worked.nodes worked.formers.items → AreSameNodes before result.nodes }
 {

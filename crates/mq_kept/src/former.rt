@@ -1,10 +1,12 @@
 // What is kept of the nodes, and how they come back to what they had before an edit.
 ghost use Rattle.std.specs.Prelude.{◌≡◌, ◌<◌, ◌≤◌, All, length, IfOk};
-ghost use Rattle.mq_kept.specs.Formers.{AreNodes, AreNothing, AreSameNodes, CanComeBack, HasLists, IsPut, lists_before, no_lists};
+ghost use Rattle.mq_kept.specs.Formers.{AllFit, AreNodes, AreNothing, AreSameNodes, CanComeBack, FitsIn, HasLists, IsPut, lists_before, no_lists, with_checkpoints};
+ghost use Rattle.mq_kept.specs.Tails.{IsTailOf, tail_before};
 ghost use Rattle.mq_kept.specs.declared.former.Former.TheVariants.{Same};
 ghost use Rattle.mq_kept.specs.declared.former.Nodes.{Nodes as TheNodes};
 
 use crate::checkpoints::Checkpoints;
+use crate::tails::FormerTail;
 use mq_base::{List, OutOfMemory};
 use mq_core::{Fates, Stream, Visits};
 use std::alloc::Global;
@@ -34,11 +36,14 @@ pub enum Former {
     Same,
     /// Its lists were made anew: these are the former ones.
     Whole(NodeLists),
+    /// Its last visits were edited in place, and its checkpoints made anew: these are the former ones.
+    Tail(FormerTail, Checkpoints),
 }
 
 impl Former {
-    /// What the node had before that has these lists now.
-    pub fn put_back(self, now: NodeLists) -> NodeLists
+    /// What the node had before that has these lists now. It takes no memory.
+    pub fn put_back(self, alloc: Global, now: NodeLists) -> NodeLists
+        requires { FitsIn self now }
         ensures { result ≡ lists_before self now }
     {
         match self {
@@ -47,8 +52,25 @@ impl Former {
                 drop(now);
                 lists
             }
+            Former::Tail(tail, checkpoints) => tail_back(alloc, &tail, checkpoints, now),
         }
     }
+}
+
+// What a node had before whose last visits were these, and whose checkpoints.
+fn tail_back(
+    alloc: Global,
+    tail: &FormerTail,
+    checkpoints: Checkpoints,
+    now: NodeLists,
+) -> NodeLists
+    requires { IsTailOf tail.now now }
+    ensures { result ≡ with_checkpoints checkpoints (tail_before tail.now now) }
+{
+    let mut lists = now;
+    tail.put_back(alloc, &mut lists);
+    drop(replace(&mut lists.checkpoints, checkpoints));
+    lists
 }
 
 /// Nothing is kept of a node.
@@ -117,12 +139,13 @@ pub fn put_at(nodes: &mut Nodes, at: usize, lists: NodeLists) -> NodeLists
 
 /// Puts back what each node had before. It takes no memory.
 pub fn come_back(alloc: Global, nodes: &mut Nodes, formers: &mut [Former])
-    requires { AreNodes (length formers.old) nodes.old }
+    requires count { AreNodes (length formers.old) nodes.old }
+    requires fit { AllFit nodes.old formers.old }
     ensures { (before : TheNodes) → CanComeBack before nodes.old formers.old → AreSameNodes before nodes.new }
 {
     for at in 0..formers.len() {
         let former = replace(&mut formers[at], Former::Same);
         let now = put_at(nodes, at, no_lists(alloc));
-        drop(put_at(nodes, at, former.put_back(now)));
+        drop(put_at(nodes, at, former.put_back(alloc, now)));
     }
 }

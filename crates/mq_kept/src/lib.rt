@@ -6,7 +6,11 @@ mod checkpoints;
 mod former;
 mod kept;
 mod nodes;
+mod source_runs;
+mod sources;
 mod stations;
+mod tail_runs;
+mod tails;
 
 pub use again::Redone;
 pub use kept::Kept;

@@ -3,6 +3,7 @@ ghost use Rattle.std.specs.Borrow.{Bor};
 ghost use Rattle.std.specs.Prelude.{◌≡◌, ◌<◌, ◌≤◌, ◌+◌, ◌∷◌, ◌⊎◌, ◌==◌, ◌&&◌, ◌^◌, [], ℕ, false, true, if◌then◌else◌, length, slice_get, slice_index, Err, IfErr, IfOk, None, Ok, OnOk, Some};
 ghost use Rattle.mq_alike.specs.Again.{alike, blocks_in, is_counted};
 ghost use Rattle.mq_core.specs.declared.model.Input.{Input as Port};
+ghost use Rattle.mq_core.specs.declared.model.Kind.TheVariants.{Source};
 ghost use Rattle.mq_core.specs.declared.model.Node.{Node as TheNode};
 ghost use Rattle.mq_edits.specs.declared.former.FormerRows.{FormerRows as TheFormer};
 ghost use Rattle.mq_engine.specs.Apart.{CanGather};
@@ -11,8 +12,9 @@ ghost use Rattle.mq_engine.specs.Waves.{IsWave};
 ghost use Rattle.mq_exits.specs.Loads.{IsReadyLoad};
 ghost use Rattle.mq_exits.specs.Results.{IsWorkedOut};
 ghost use Rattle.mq_exits.specs.declared.working.Ending.TheVariants.{OnTime};
-ghost use Rattle.mq_kept.specs.KeptNodes.{IsKeptNode, blocks_behind, coming_of};
-ghost use Rattle.mq_kept.specs.NodeRuns.{HaveStayed, IsFaultAt, IsFaultOf, IsNodeBefore, IsNodeKept, IsNodeRun, IsStayingAt, came_before, earlier_rows, kept_rows, worked_behind};
+ghost use Rattle.mq_kept.specs.KeptNodes.{IsKeptNode, IsNodeOf, blocks_behind, coming_of};
+ghost use Rattle.mq_kept.specs.NodeRuns.{HaveStayed, IsFaultAt, IsFaultOf, IsNodeBefore, IsNodeKept, IsNodeRun, IsStayingAt, RowsFit, came_before, earlier_rows, kept_rows, worked_behind};
+ghost use Rattle.mq_kept.specs.TailRuns.{HasTail};
 ghost use Rattle.mq_kept.specs.declared.former.Former.TheVariants.{Same, Whole};
 ghost use Rattle.mq_merge.specs.Borrowed.{stream_in};
 ghost use Rattle.mq_redo.specs.Kept.{coming_as};
@@ -20,7 +22,9 @@ ghost use Rattle.mq_stations.specs.Leaving.{HaveDemands};
 
 use crate::checkpoints::Checkpoints;
 use crate::former::{Former, NodeLists};
+use crate::source_runs::{Edited, source_run};
 use crate::stations::{Reworked, Stays, work_again};
+use crate::tail_runs::{has_tail, tail_run};
 use mq_alike::{alike, alike_is_first, sequences_stay};
 use mq_arrivals::{Arrived, Arriving, arrivals_of};
 use mq_base::{List, OutOfMemory, Steps};
@@ -77,6 +81,7 @@ pub fn node_run<R: Threads + Sync, L: Ledger>(
     requires most { arriving.now.workers ≤ 64 }
     requires block { 64 ≤ arriving.now.block }
     requires large { arriving.now.block ≤ 65536 }
+    requires fit { RowsFit arriving.now.rows.now past.now.earlier }
     requires before { IsNodeBefore arriving.now.plan.now (earlier_rows arriving.now.rows.now past.now.earlier) arriving.now.block (slice_index arriving.now.ready.now 0) lists }
     requires formers { length past.now.formers.now ≡ length arriving.now.plan.now.net.nodes }
     requires stayed { HaveStayed arriving.now.plan.now (earlier_rows arriving.now.rows.now past.now.earlier) arriving.now.rows.now past.now.formers.now (slice_index arriving.now.ready.now 0) }
@@ -145,14 +150,14 @@ fn reads_the_same(past: &Past, node: &Node) -> bool
     for port in 0..node.inputs.len() {
         match &past.formers[node.inputs.get(port).node as usize] {
             Former::Same => {}
-            Former::Whole(_) => return false,
+            Former::Whole(_) | Former::Tail(_, _) => return false,
         }
     }
     true
 }
 
-// What a node of this kind gives that has no difference: it stays as it is.
-fn unchanged_run(kind: &Kind, lists: NodeLists, block: u32) -> NodeRun
+/// What a node of this kind gives that has no difference: it stays as it is.
+pub fn unchanged_run(kind: &Kind, lists: NodeLists, block: u32) -> NodeRun
     requires few { length lists.visits.job ≤ 1048576 }
     requires some { 1 ≤ block }
     ensures lists { result.lists ≡ lists }
@@ -212,8 +217,78 @@ fn apart_lists<R: Threads + Sync>(
     lists_by(the_only(results), Checkpoints::Nothing)
 }
 
-// What a station gives.
+// What a station gives: a source by what its edited rows change, where a run is kept.
 fn station_run<R: Threads + Sync, L: Ledger>(
+    rt: &R,
+    alloc: Global,
+    arriving: &Arriving,
+    past: &Past,
+    number: u32,
+    lists: NodeLists,
+    steps: &mut Steps<L>,
+) -> Result<NodeRun, NodeRefusal>
+    requires wave { IsWave arriving.now }
+    requires one { arriving.now.ready.now ≡ number ∷ [] }
+    requires some { 1 ≤ arriving.now.workers }
+    requires most { arriving.now.workers ≤ 64 }
+    requires block { 64 ≤ arriving.now.block }
+    requires large { arriving.now.block ≤ 65536 }
+    requires fit { RowsFit arriving.now.rows.now past.now.earlier }
+    requires before { IsNodeBefore arriving.now.plan.now (earlier_rows arriving.now.rows.now past.now.earlier) arriving.now.block number lists }
+    requires can { CanWork arriving.now.plan.now arriving.now.rows.now arriving.now.outputs.now number }
+    ensures gives { IfOk result (IsNodeRun arriving.now (earlier_rows arriving.now.rows.now past.now.earlier) lists number) }
+    ensures cause { IfErr result (λ refusal. IsFaultAt arriving.now.plan.now arriving.now.rows.now number refusal.fault) }
+    ensures back { IfErr result (λ refusal. refusal.lists ≡ lists) }
+    ensures steps { steps.old ≤ steps.new }
+    ensures spent { steps.new ≤ steps.old + worked_behind arriving.now (came_before arriving.now.rows.now (earlier_rows arriving.now.rows.now past.now.earlier) lists) number }
+    ensures counted { OnOk result (steps.new ≡ steps.old + worked_behind arriving.now (came_before arriving.now.rows.now (earlier_rows arriving.now.rows.now past.now.earlier) lists) number) }
+{
+    let kind = &arriving.plan.net.nodes.get(number as usize).kind;
+    match kind {
+        Kind::Source => edited_source(rt, alloc, arriving, past, number, lists, steps),
+        _ => whole_run(rt, alloc, arriving, past, number, lists, steps),
+    }
+}
+
+// What a source gives: its lists edited in place, or made anew where they would become shorter or no run is kept.
+fn edited_source<R: Threads + Sync, L: Ledger>(
+    rt: &R,
+    alloc: Global,
+    arriving: &Arriving,
+    past: &Past,
+    number: u32,
+    lists: NodeLists,
+    steps: &mut Steps<L>,
+) -> Result<NodeRun, NodeRefusal>
+    requires wave { IsWave arriving.now }
+    requires one { arriving.now.ready.now ≡ number ∷ [] }
+    requires some { 1 ≤ arriving.now.workers }
+    requires most { arriving.now.workers ≤ 64 }
+    requires block { 64 ≤ arriving.now.block }
+    requires large { arriving.now.block ≤ 65536 }
+    requires fit { RowsFit arriving.now.rows.now past.now.earlier }
+    requires before { IsNodeBefore arriving.now.plan.now (earlier_rows arriving.now.rows.now past.now.earlier) arriving.now.block number lists }
+    requires source { IsNodeOf arriving.now.plan.now number Source }
+    requires can { CanWork arriving.now.plan.now arriving.now.rows.now arriving.now.outputs.now number }
+    ensures gives { IfOk result (IsNodeRun arriving.now (earlier_rows arriving.now.rows.now past.now.earlier) lists number) }
+    ensures cause { IfErr result (λ refusal. IsFaultAt arriving.now.plan.now arriving.now.rows.now number refusal.fault) }
+    ensures back { IfErr result (λ refusal. refusal.lists ≡ lists) }
+    ensures steps { steps.old ≤ steps.new }
+    ensures spent { steps.new ≤ steps.old + worked_behind arriving.now (came_before arriving.now.rows.now (earlier_rows arriving.now.rows.now past.now.earlier) lists) number }
+    ensures counted { OnOk result (steps.new ≡ steps.old + worked_behind arriving.now (came_before arriving.now.rows.now (earlier_rows arriving.now.rows.now past.now.earlier) lists) number) }
+{
+    let Some(former) = past.earlier else {
+        return whole_run(rt, alloc, arriving, past, number, lists, steps);
+    };
+    match source_run(alloc, arriving, former, number, lists) {
+        Ok(Edited::Done(gives)) => Ok(gives),
+        Ok(Edited::Shorter(same)) => whole_run(rt, alloc, arriving, past, number, same, steps),
+        Err(refusal) => Err(refusal),
+    }
+}
+
+// What a station gives: where it has a difference its lists are edited in place, or made anew where that can't be.
+fn whole_run<R: Threads + Sync, L: Ledger>(
     rt: &R,
     alloc: Global,
     arriving: &Arriving,
@@ -256,13 +331,28 @@ fn station_run<R: Threads + Sync, L: Ledger>(
         return Ok(unchanged_run(kind, lists, arriving.block));
     }
     let (again, all) = counted(kind, &cut(count, arriving.block), same, visits);
+    let (again, all) = (again as u64, all as u64);
+    if can_redo_tail(past, kind, same, visits, count) {
+        let load = held.load();
+        let gives = tail_run(
+            alloc,
+            &load,
+            lists,
+            same / arriving.block,
+            again,
+            all,
+            steps,
+        );
+        drop(held);
+        return gives;
+    }
     let stays = Stays {
         fates: &lists.visits.fate,
         checkpoints: &lists.checkpoints,
         blocks: same / arriving.block,
     };
     let now = worked_lists(rt, alloc, arriving.workers, held, &stays, steps);
-    changed_run(now, lists, again as u64, all as u64)
+    changed_run(now, lists, again, all)
 }
 
 // What came to the one station that is ready.
@@ -321,6 +411,14 @@ fn is_unchanged(past: &Past, same: u32, visits: u32, count: u32) -> bool
     ensures no { result ≡ false → (past.now.earlier ≡ None) ⊎ (((same == visits) && (same == count)) ≡ false) }
 {
     past.earlier.is_some() && same == visits && same == count
+}
+
+// Whether a run is kept, in which a node of this kind can be edited in place: it doesn't become shorter. Where less than half
+// stays it is made anew, on all workers.
+fn can_redo_tail(past: &Past, kind: &Kind, same: u32, visits: u32, count: u32) -> bool
+    ensures { result ≡ true → ((former : Bor TheFormer) × (past.now.earlier ≡ Some former)) × HasTail kind.now × (visits ≤ count) }
+{
+    past.earlier.is_some() && has_tail(kind) && visits <= count && count / 2 <= same
 }
 
 // The lists of a station that is gone through again.

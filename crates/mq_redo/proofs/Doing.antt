@@ -1,5 +1,5 @@
 -- The carries of a range, one by one, and blocks that are done one after another.
-use Rattle.std.proofs.Common.{◌≡◌, ℕ, zero, suc, ◌+◌, ◌-◌, ◌*◌, ◌<◌, ◌≤◌, ◌⊎◌, inl, inr, List, [], ◌∷◌, ◌++◌, length, get_or, map, min, refl, sym, ap, ◌∙◌, arith, Some, slice_get, length-append, take}
+use Rattle.std.proofs.Common.{◌≡◌, ℕ, zero, suc, ◌+◌, ◌-◌, ◌*◌, ◌<◌, ◌≤◌, ◌⊎◌, inl, inr, All, List, [], ◌∷◌, ◌++◌, length, get_or, map, min, refl, sym, ap, ◌∙◌, subst, arith, Some, slice_get, length-append, take}
 use Rattle.std.proofs.Math.ListN.{get_or-append}
 use Rattle.std.proofs.Math.Seq.{get_or-append_seam}
 use native.Mathlib.Decide.{ℕ_discrete}
@@ -8,6 +8,7 @@ use Rattle.mq_scan.specs.Folds.{carries_after, fold_to}
 use Rattle.std.proofs.Math.Nat.{mul-le-mul_left, mul-le-mul_right}
 use Rattle.std.proofs.lemmas.List.{get_or-take, length-take-le}
 use Rattle.std.proofs.lemmas.Bool.{cases_lt}
+use Rattle.std.proofs.lemmas.List.Elements.{All-cons, All-nil}
 use Rattle.mq_base.proofs.lemmas.Lists.{some_inj}
 use Rattle.mq_scan.proofs.lemmas.Blocks.{block-start}
 use Rattle.mq_scan.specs.declared.blocks.Blocks.{Blocks}
@@ -24,6 +25,27 @@ module _ {S C : Type 0} (acted : S → C → C) (start : C) (part : ℕ → S) w
   carry-at from zero k l = absurd (omega arith)
   carry-at from (suc n) zero l = let e : suc from ≡ from + 0 + 1 = omega arith in ap (λ (m : ℕ). Some (fold_to acted start part m)) e
   carry-at from (suc n) (suc k) l = let e : suc from + k + 1 ≡ from + suc k + 1 = omega arith in carry-at (suc from) n k (omega arith) ∙ ap (λ (m : ℕ). Some (fold_to acted start part m)) e
+
+  -- where each may be read, all may
+  pub reads-all : (P : C → Type 0) (from n : ℕ) → ((k : ℕ) → k < n → P (fold_to acted start part (from + k + 1))) → All P (carries_after acted start part from n)
+  reads-all P from zero h = All-nil P
+  reads-all P from (suc n) h =
+      let e : from + 0 + 1 ≡ suc from = omega arith in
+      All-cons P (fold_to acted start part (suc from)) (carries_after acted start part (suc from) n) (subst (λ (m : ℕ). P (fold_to acted start part m)) e (h 0 (omega arith)))
+      (reads-all P (suc from) n (λ k l. let f : from + suc k + 1 ≡ suc from + k + 1 = omega arith in subst (λ (m : ℕ). P (fold_to acted start part m)) f (h (suc k) (omega arith))))
+
+  -- gone on from the carry at an index
+  module _ (from : ℕ) (carry : C) (is : carry ≡ fold_to acted start part from) where
+    pub fold-on : (n : ℕ) → fold_to acted carry (λ k. part (from + k)) n ≡ fold_to acted start part (from + n)
+    fold-on zero = let e : from ≡ from + 0 = omega arith in is ∙ ap (fold_to acted start part) e
+    fold-on (suc n) = let e : suc (from + n) ≡ from + suc n = omega arith in ap (acted (part (from + n))) (fold-on n) ∙ ap (fold_to acted start part) e
+
+    carries-from : (at n : ℕ) → carries_after acted carry (λ k. part (from + k)) at n ≡ carries_after acted start part (from + at) n
+    carries-from at zero = refl
+    carries-from at (suc n) = let e : from + suc at ≡ suc (from + at) = omega arith in (λ i. (fold-on (suc at) ∙ ap (fold_to acted start part) e) i ∷ (carries-from (suc at) n ∙ ap (λ (m : ℕ). carries_after acted start part m n) e) i)
+
+    pub carries-on : (n : ℕ) → carries_after acted carry (λ k. part (from + k)) 0 n ≡ carries_after acted start part from n
+    carries-on n = let e : from + 0 ≡ from = omega arith in carries-from 0 n ∙ ap (λ (m : ℕ). carries_after acted start part m n) e
 
   -- the carry behind a range of one job at least
   pub last-of : (from to : ℕ) (after : List C) (c : C) → from < to → after ≡ carries_after acted start part from (to - from) → slice_get after (to - from - 1) ≡ Some c → c ≡ fold_to acted start part to
@@ -86,3 +108,11 @@ staying-done time acted start part blocks first times carries kept inside h is =
           let b : min ((k + 1) * blocks.block) blocks.n ≡ (k + 1) * blocks.block = omega arith in
           ap (λ (cs : List _). get_or cs k d) is ∙ (get_or-take first carries k d less ∙ (h.behind k d (omega arith) ∙ (ap (fold_to h.does start (λ k. k)) a ∙ (fold-same acted start h.does part (first * blocks.block) h.same ((k + 1) * blocks.block) up ∙ ap (fold_to acted start part) (sym b)))));
     }
+
+-- before the first block none is done
+pub none-done : {S C : Type 0} (time : C → ℕ) (acted : S → C → C) (start : C) (part : ℕ → S) (blocks : Blocks) → AreDone time acted start part blocks 0 [] []
+none-done time acted start part blocks = record {
+  count_is = refl;
+  times_are = ap (λ (n : ℕ). map time (carries_after acted start part 0 n)) {x = 0} {y = min (0 * blocks.block) blocks.n} (omega arith);
+  behind = λ k d l. absurd (omega arith);
+}

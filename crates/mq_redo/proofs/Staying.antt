@@ -30,6 +30,10 @@ module _ {C : Type 0} (time : C → ℕ) (does : ℕ → C → C) (start : C) (j
   all-times : times ≡ map time (carries_after does start (λ k. k) 0 scan.blocks.n)
   all-times = scan.done.times_are ∙ ap (λ (n : ℕ). map time (carries_after does start (λ k. k) 0 n)) (scan-all time does start (λ k. k) scan.blocks)
 
+  -- and of as many as there are
+  pub kept-times : times ≡ map time (carries_after does start (λ k. k) 0 jobs)
+  kept-times = all-times ∙ ap (λ (n : ℕ). map time (carries_after does start (λ k. k) 0 n)) scan.all
+
   -- of each job
   pub kept-many : length times ≡ jobs
   kept-many = ap length all-times ∙ (times-many time does start (λ k. k) 0 scan.blocks.n ∙ scan.all)

@@ -4,6 +4,10 @@ use Rattle.mq_scan.specs.Folds.{carries_after, fold_to}
 use Rattle.mq_scan.specs.declared.blocks.Blocks.{Blocks}
 
 module _ {S C : Type 0} where
+  -- so many jobs may act on a carry in turn
+  abbrev pub MayAct : (S → C → C) → (S → C → Type 0) → (ℕ → S) → ℕ → C → Type 0
+  MayAct acted can_act part count carry = (n : ℕ) → n < count → can_act (part n) (fold_to acted carry part n)
+
   -- item k is the carry behind block k of n jobs
   abbrev pub AreBehind : (S → C → C) → C → (ℕ → S) → ℕ → ℕ → List C → Type 0
   AreBehind acted start part block n carries =

@@ -6,6 +6,7 @@ use Rattle.mq_core.specs.Kinds.Split.{output_at, route_value}
 use Rattle.mq_core.specs.declared.model.Demand.{Demand}
 use Rattle.mq_core.specs.declared.model.Fate.{Fate}
 use Rattle.mq_core.specs.declared.model.Kind.{Kind}
+use Rattle.mq_core.specs.declared.model.Kind.TheVariants.{ForkJoin, Server, Tandem}
 use Rattle.mq_core.specs.declared.model.Route.{Route}
 use Rattle.mq_core.specs.declared.model.Rows.{Rows}
 use Rattle.mq_core.specs.declared.model.Stage.{Stage}
@@ -65,3 +66,13 @@ IsKeptSplit route came block outs carries = IsKeptScan as_is (split_does route c
 pub record IsStaying (kind : Kind) (old new : Coming) (block first : ℕ) : Type 0 where
   pub even : length old.arrive ≡ length old.job
   pub same : first * block ≤ alike kind old new
+
+-- an earlier run of a server, a tandem or a fork-join had these fates and carries, and so many first blocks of it stay, where this comes now
+abbrev pub IsServerStaying : Demand → Coming → ℕ → ℕ → List Fate → List Mp → Type 0
+IsServerStaying demand new block first fates carries = (old : Coming) × IsKeptServer demand old block fates carries × IsStaying (Server demand) old new block first
+
+abbrev pub IsTandemStaying : List Stage → Coming → ℕ → ℕ → List Fate → List (List Mp) → Type 0
+IsTandemStaying stages new block first fates carries = (old : Coming) × IsKeptTandem stages old block fates carries × IsStaying (Tandem stages) old new block first
+
+abbrev pub IsForkJoinStaying : List (List Demand) → Coming → ℕ → ℕ → List Fate → List (List ℕ) → Type 0
+IsForkJoinStaying branches new block first fates carries = (old : Coming) × IsKeptForkJoin branches old block fates carries × IsStaying (ForkJoin branches) old new block first

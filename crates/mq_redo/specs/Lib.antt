@@ -1,4 +1,5 @@
 pub mod Alone
+pub mod Behind
 pub mod Branches
 pub mod Doing
 pub mod Kept

@@ -1,10 +1,10 @@
 // Blocks of a scan that are done again, from the carry behind those that stay.
-ghost use Rattle.std.specs.Prelude.{◌≡◌, ◌+◌, ◌-◌, ◌*◌, ◌<◌, ◌≤◌, ◌++◌, length, map, IfOk, OnOk};
+ghost use Rattle.std.specs.Prelude.{◌≡◌, ℕ, ◌+◌, ◌-◌, ◌*◌, ◌<◌, ◌≤◌, ◌++◌, All, length, map, IfOk, OnOk};
 ghost use Rattle.mq_scan.specs.Folds.{carries_after, fold_to};
-ghost use Rattle.mq_redo.specs.Doing.{AreDone, AreStaying};
+ghost use Rattle.mq_redo.specs.Doing.{AreDone, AreStaying, MayAct};
 
 use mq_base::{List, OutOfMemory, Steps};
-use mq_scan::{Blocks, Step, Timed, apply};
+use mq_scan::{Blocks, Step, Timed};
 use std::alloc::Global;
 use std::sync::ledger::Ledger;
 
@@ -35,19 +35,43 @@ pub fn redo_block<P: Step, L: Ledger>(
     ensures after { IfOk result (λ after. after ≡ carries_after P.acted (P.start step.now) (P.part step.now) from (to - from)) }
     ensures step { steps.new ≡ steps.old + 1 }
 {
-    steps.tick();
-    apply(alloc, step, from, to, carry)
+    let after = through_block(alloc, step, from, to, carry, steps)?;
+    Ok(after)
 }
 
-// Appends what is read of the carries after jobs, the first at this index.
-fn push_read<P: Timed>(
+// The carry after each job of a block, from one index up to another, where `carry` is the one before them, on which they may
+// act in turn. It counts one step, also where memory runs out, and refuses for want of memory alone.
+fn through_block<P: Step, L: Ledger>(
+    alloc: Global,
     step: &P,
     from: u32,
+    to: u32,
+    carry: P::Carry,
+    steps: &mut Steps<L>,
+) -> Result<List<P::Carry>, OutOfMemory>
+    requires order { from ≤ to }
+    requires inside { to ≤ P.size step.now }
+    requires acts { MayAct P.acted P.can_act (λ k. P.part step.now (from + k)) (to - from) carry }
+    ensures after { IfOk result (λ after. after ≡ carries_after P.acted carry (λ k. P.part step.now (from + k)) 0 (to - from)) }
+    ensures step { steps.new ≡ steps.old + 1 }
+{
+    steps.tick();
+    let mut after = Vec::with_capacity(alloc, (to - from) as usize)?;
+    let mut carry = carry;
+    'acts: for at in from..to {
+        step.advance(&mut carry, at);
+        after.push(carry)?;
+    }
+    Ok(List::from_vec(after))
+}
+
+// Appends what is read of the carries after jobs.
+fn push_read<P: Timed>(
+    step: &P,
     after: &List<P::Carry>,
     times: &mut Vec<u64>,
 ) -> Result<(), OutOfMemory>
-    requires inside { from + length after.now ≤ P.size step.now }
-    requires after { after.now ≡ carries_after P.acted (P.start step.now) (P.part step.now) from (length after.now) }
+    requires { All (P.can_time step.now) after.now }
     ensures { IfOk result (λ _. times.new.items ≡ times.old.items ++ map (P.time_of step.now) after.now) }
 {
     'reads: for at in 0..after.len() {
@@ -87,7 +111,37 @@ pub fn redone<P: Timed, L: Ledger>(
     'parts: for b in first..count {
         let (from, to) = blocks.range(b);
         let after = redo_block(alloc, step, from, to, carry, steps)?;
-        push_read(step, from, &after, &mut times)?;
+        push_read(step, &after, &mut times)?;
+        carry = *after.get((to - from - 1) as usize);
+        carries.push(carry)?;
+    }
+    Ok(Done { times, carries })
+}
+
+/// All blocks of a cut of the last jobs of a station, which are done one after another from the carry before the first of
+/// them. Each counts one step, also where memory runs out. It refuses for want of memory alone.
+pub fn redone_last<P: Timed, L: Ledger>(
+    alloc: Global,
+    step: &P,
+    blocks: &Blocks,
+    before: P::Carry,
+    steps: &mut Steps<L>,
+) -> Result<Done<P::Carry>, OutOfMemory>
+    requires all { blocks.now.n ≡ P.size step.now }
+    requires acts { MayAct P.acted P.can_act (P.part step.now) (P.size step.now) before }
+    requires reads { (n : ℕ) → n ≤ P.size step.now → P.can_time step.now (fold_to P.acted before (P.part step.now) n) }
+    ensures done { IfOk result (λ done. AreDone (P.time_of step.now) P.acted before (P.part step.now) blocks.now blocks.now.blocks done.times.items done.carries.items) }
+    ensures steps { steps.old ≤ steps.new }
+    ensures spent { steps.new ≤ steps.old + blocks.now.blocks }
+    ensures counted { OnOk result (steps.new ≡ steps.old + blocks.now.blocks) }
+{
+    let mut times = Vec::with_capacity(alloc, blocks.n as usize)?;
+    let mut carries = Vec::with_capacity(alloc, blocks.blocks as usize)?;
+    let mut carry = before;
+    'parts: for b in 0..blocks.blocks {
+        let (from, to) = blocks.range(b);
+        let after = through_block(alloc, step, from, to, carry, steps)?;
+        push_read(step, &after, &mut times)?;
         carry = *after.get((to - from - 1) as usize);
         carries.push(carry)?;
     }

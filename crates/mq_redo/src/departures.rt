@@ -1,5 +1,5 @@
 // Departures of an earlier run, which stay where its jobs are the same.
-ghost use Rattle.std.specs.Prelude.{◌≡◌, ◌+◌, ◌*◌, ◌≤◌, ℕ, List as Items, length, map, take, IfOk, OnOk};
+ghost use Rattle.std.specs.Prelude.{◌≡◌, ◌+◌, ◌*◌, ◌<◌, ◌≤◌, ◌^◌, ◌++◌, ℕ, List as Items, length, map, take, IfOk, OnOk};
 ghost use Rattle.mq_core.specs.declared.model.Fate.TheVariants.{Departs};
 ghost use Rattle.mq_redo.specs.Doing.{AreDone};
 ghost use Rattle.mq_redo.specs.Staying.{HaveStayed};
@@ -57,4 +57,35 @@ pub fn departures_behind<P: Timed, L: Ledger>(
     let jobs = blocks.n;
     let times = first_departures(alloc, fates, first * blocks.block, jobs)?;
     redone_behind(alloc, step, blocks, times, carries, first, steps)
+}
+
+/// When all jobs of a station depart, in ticks, and the carry behind each block of them: of so many first blocks as they were
+/// kept, with these fates and carries, and behind them as they were done again. It refuses for want of memory alone.
+pub fn with_first<C: Copy>(
+    alloc: Global,
+    fates: &Fates,
+    carries: &[C],
+    block: u32,
+    first: u32,
+    done: Done<C>,
+) -> Result<Done<C>, OutOfMemory>
+    requires fates { (times : Items ℕ) × (fates.now ≡ map (λ time. Departs time) times) × (first * block ≤ length times) }
+    requires few { first * block < 2 ^ 32 }
+    requires carries { first ≤ length carries.now }
+    ensures times { IfOk result (λ all. (times : Items ℕ) → fates.now ≡ map (λ time. Departs time) times → all.times.items ≡ take (first * block) times ++ done.times.items) }
+    ensures carries { IfOk result (λ all. all.carries.items ≡ take first carries.now ++ done.carries.items) }
+{
+    if first == 0 {
+        return Ok(done);
+    }
+    let count = first * block;
+    let mut times = first_departures(alloc, fates, count, count)?;
+    times.extend_from_slice(&done.times)?;
+    let mut all = Vec::new(alloc);
+    all.extend_from_slice(&carries[..first as usize])?;
+    all.extend_from_slice(&done.carries)?;
+    Ok(Done {
+        times,
+        carries: all,
+    })
 }

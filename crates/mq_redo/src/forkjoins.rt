@@ -1,21 +1,22 @@
 // A fork-join, behind the blocks that stay.
-ghost use Rattle.std.specs.Prelude.{◌≡◌, ◌+◌, ◌*◌, ◌≤◌, ◌++◌, length, map, IfOk, OnOk};
+ghost use Rattle.std.specs.Prelude.{◌≡◌, ◌+◌, ◌*◌, ◌≤◌, ◌++◌, ℕ, List as Items, length, map, take, IfOk, OnOk};
 ghost use Rattle.mq_alike.specs.Again.{Coming as TheComing};
+ghost use Rattle.mq_core.specs.declared.model.Fate.{Fate as TheFate};
 ghost use Rattle.mq_core.specs.declared.model.Fate.TheVariants.{Departs};
 ghost use Rattle.mq_core.specs.declared.model.Kind.TheVariants.{ForkJoin};
 ghost use Rattle.mq_forkjoin.specs.Servers.{begins_of};
 ghost use Rattle.mq_redo.specs.Branches.{begins_with};
-ghost use Rattle.mq_redo.specs.Kept.{IsKeptForkJoin, IsStaying, coming_as};
+ghost use Rattle.mq_redo.specs.Kept.{IsForkJoinStaying, IsKeptForkJoin, IsStaying, coming_as};
 ghost use Rattle.mq_stations.specs.Leaving.{AreServed, IsLoad};
 
-use crate::blocks::Done;
-use crate::departures::departures_behind;
-use crate::laws::done_are_kept;
+use crate::behind::{carry_before, last_of};
+use crate::blocks::{Done, redone_last};
+use crate::departures::with_first;
 use mq_alike::alike_is_first;
 use mq_base::{List, OutOfMemory, Steps};
 use mq_core::{Demand, Fates, Rows, Stream};
-use mq_forkjoin::{ForkJoinStep, carries_hold_departures};
-use mq_scan::Blocks;
+use mq_forkjoin::ForkJoinStep;
+use mq_scan::{Blocks, Step, cut};
 use mq_stations::{all_demands_of, branch_demands};
 use std::alloc::Global;
 use std::sync::ledger::Ledger;
@@ -45,13 +46,46 @@ pub fn branched_again<L: Ledger>(
     ensures counted { OnOk result (steps.new + first ≡ steps.old + blocks.now.blocks) }
 {
     alike_is_first();
+    let done = branched_behind(
+        alloc, rows, branches, arrivals, blocks, carries, first, steps,
+    )?;
+    let all = with_first(alloc, fates, carries, blocks.block, first, done)?;
+    Ok(all)
+}
+
+/// When the jobs behind so many first blocks depart from a fork-join, in ticks, and the latest departure from each of its
+/// servers behind each of their blocks, where those first blocks of an earlier run stay, of which these are the latest
+/// departures. Of the other jobs it reads nothing.
+pub fn branched_behind<L: Ledger>(
+    alloc: Global,
+    rows: &Rows,
+    branches: &List<List<Demand>>,
+    arrivals: &Stream,
+    blocks: &Blocks,
+    carries: &[[u64; 8]],
+    first: u32,
+    steps: &mut Steps<L>,
+) -> Result<Done<[u64; 8]>, OutOfMemory>
+    requires load { IsLoad rows.now (ForkJoin branches.now) arrivals.now }
+    requires all { blocks.now.n ≡ length arrivals.now.time }
+    requires few { blocks.now.block ≤ 65536 }
+    requires inside { first * blocks.now.block ≤ blocks.now.n }
+    requires kept { (fates : Items TheFate) × IsForkJoinStaying branches.now (coming_as rows.now arrivals.now) blocks.now.block first fates carries.now }
+    ensures served { IfOk result (λ done. (times : Items ℕ) → IsForkJoinStaying branches.now (coming_as rows.now arrivals.now) blocks.now.block first (map (λ time. Departs time) times) carries.now → AreServed rows.now (ForkJoin branches.now) arrivals.now (take (first * blocks.now.block) times ++ done.times.items)) }
+    ensures kept { IfOk result (λ done. (fates : Items TheFate) → IsForkJoinStaying branches.now (coming_as rows.now arrivals.now) blocks.now.block first fates carries.now → IsKeptForkJoin branches.now (coming_as rows.now arrivals.now) blocks.now.block (take (first * blocks.now.block) fates ++ map (λ time. Departs time) done.times.items) (take first carries.now ++ done.carries.items)) }
+    ensures steps { steps.old ≤ steps.new }
+    ensures spent { steps.new + first ≤ steps.old + blocks.now.blocks }
+    ensures counted { OnOk result (steps.new + first ≡ steps.old + blocks.now.blocks) }
+{
+    alike_is_first();
+    let last = last_of(alloc, arrivals, first * blocks.block)?;
+    let behind = last.stream();
     let asked = branch_demands(alloc, branches)?;
-    let demands = all_demands_of(alloc, rows, &asked, &arrivals.job)?;
+    let demands = all_demands_of(alloc, rows, &asked, &behind.job)?;
     let begins = branch_begins(alloc, branches)?;
-    let step = ForkJoinStep::new(arrivals, &demands, &begins);
-    carries_hold_departures(&step);
-    done_are_kept(&step);
-    let done = departures_behind(alloc, &step, blocks, fates, carries, first, steps)?;
+    let step = ForkJoinStep::new(behind, &demands, &begins);
+    let carry = carry_before(carries, first, step.first());
+    let done = redone_last(alloc, &step, &cut(step.count(), blocks.block), carry, steps)?;
     Ok(done)
 }
 

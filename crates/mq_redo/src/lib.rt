@@ -1,6 +1,7 @@
 //! The blocks of a station that are done again, behind those of a kept run that stay.
 #![tactic(auto)]
 
+mod behind;
 mod blocks;
 mod counts;
 mod delays;
@@ -14,7 +15,7 @@ mod tandems;
 pub use blocks::{Done, redo_block, redone_behind};
 pub use counts::{blocks_hold, counted};
 pub use delays::delayed_again;
-pub use forkjoins::branched_again;
-pub use servers::served_again;
+pub use forkjoins::{branched_again, branched_behind};
+pub use servers::{served_again, served_behind};
 pub use splits::{Rerouted, routed_again};
-pub use tandems::staged_again;
+pub use tandems::{staged_again, staged_behind};

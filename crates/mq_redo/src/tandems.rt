@@ -1,20 +1,22 @@
 // A tandem, behind the blocks that stay.
-ghost use Rattle.std.specs.Prelude.{◌≡◌, ◌+◌, ◌*◌, ◌≤◌, length, map, IfOk, OnOk};
+ghost use Rattle.std.specs.Prelude.{◌≡◌, ◌+◌, ◌*◌, ◌≤◌, ◌++◌, ℕ, List as Items, length, map, take, IfOk, OnOk};
 ghost use Rattle.mq_alike.specs.Again.{Coming as TheComing};
+ghost use Rattle.mq_core.specs.declared.model.Fate.{Fate as TheFate};
 ghost use Rattle.mq_core.specs.declared.model.Fate.TheVariants.{Departs};
 ghost use Rattle.mq_core.specs.declared.model.Kind.TheVariants.{Tandem};
-ghost use Rattle.mq_redo.specs.Kept.{IsKeptTandem, IsStaying, coming_as};
+ghost use Rattle.mq_redo.specs.Kept.{IsKeptTandem, IsStaying, IsTandemStaying, coming_as};
+ghost use Rattle.mq_redo.specs.Stages.{places_of};
 ghost use Rattle.mq_stations.specs.Leaving.{AreServed, IsLoad};
 
-use crate::blocks::Done;
-use crate::departures::departures_behind;
-use crate::laws::done_are_kept;
+use crate::behind::{carry_before, last_of};
+use crate::blocks::{Done, redone_last};
+use crate::departures::with_first;
 use mq_alike::alike_is_first;
 use mq_base::{List, OutOfMemory, Steps};
-use mq_core::{Fates, Rows, Stage, Stream};
-use mq_scan::Blocks;
-use mq_stations::tandem_scan;
-use mq_tandem::{Latest, TandemStep, carries_hold_departures};
+use mq_core::{Demand, Fates, Rows, Stage, Stream};
+use mq_scan::{Blocks, Step, cut};
+use mq_stations::all_demands_of;
+use mq_tandem::{Latest, TandemStep};
 use std::alloc::Global;
 use std::sync::ledger::Ledger;
 
@@ -43,10 +45,65 @@ pub fn staged_again<L: Ledger>(
     ensures counted { OnOk result (steps.new + first ≡ steps.old + blocks.now.blocks) }
 {
     alike_is_first();
-    let scan = tandem_scan(alloc, rows, stages, arrivals, blocks.block)?;
-    let step = TandemStep::new(arrivals, &scan.demands, &scan.places);
-    carries_hold_departures(&step);
-    done_are_kept(&step);
-    let done = departures_behind(alloc, &step, blocks, fates, carries, first, steps)?;
+    let done = staged_behind(alloc, rows, stages, arrivals, blocks, carries, first, steps)?;
+    let all = with_first(alloc, fates, carries, blocks.block, first, done)?;
+    Ok(all)
+}
+
+/// When the jobs behind so many first blocks depart from a tandem, in ticks, and the latest departures from its stages behind
+/// each of their blocks, where those first blocks of an earlier run stay, of which these are the latest departures. Of the
+/// other jobs it reads nothing.
+pub fn staged_behind<L: Ledger>(
+    alloc: Global,
+    rows: &Rows,
+    stages: &List<Stage>,
+    arrivals: &Stream,
+    blocks: &Blocks,
+    carries: &[Latest],
+    first: u32,
+    steps: &mut Steps<L>,
+) -> Result<Done<Latest>, OutOfMemory>
+    requires load { IsLoad rows.now (Tandem stages.now) arrivals.now }
+    requires all { blocks.now.n ≡ length arrivals.now.time }
+    requires few { blocks.now.block ≤ 65536 }
+    requires inside { first * blocks.now.block ≤ blocks.now.n }
+    requires kept { (fates : Items TheFate) × IsTandemStaying stages.now (coming_as rows.now arrivals.now) blocks.now.block first fates carries.now }
+    ensures served { IfOk result (λ done. (times : Items ℕ) → IsTandemStaying stages.now (coming_as rows.now arrivals.now) blocks.now.block first (map (λ time. Departs time) times) carries.now → AreServed rows.now (Tandem stages.now) arrivals.now (take (first * blocks.now.block) times ++ done.times.items)) }
+    ensures kept { IfOk result (λ done. (fates : Items TheFate) → IsTandemStaying stages.now (coming_as rows.now arrivals.now) blocks.now.block first fates carries.now → IsKeptTandem stages.now (coming_as rows.now arrivals.now) blocks.now.block (take (first * blocks.now.block) fates ++ map (λ time. Departs time) done.times.items) (take first carries.now ++ done.carries.items)) }
+    ensures steps { steps.old ≤ steps.new }
+    ensures spent { steps.new + first ≤ steps.old + blocks.now.blocks }
+    ensures counted { OnOk result (steps.new + first ≡ steps.old + blocks.now.blocks) }
+{
+    alike_is_first();
+    let last = last_of(alloc, arrivals, first * blocks.block)?;
+    let behind = last.stream();
+    let asked = stage_demands(alloc, stages)?;
+    let demands = all_demands_of(alloc, rows, &asked, &behind.job)?;
+    let places = stage_places(alloc, stages)?;
+    let step = TandemStep::new(behind, &demands, &places);
+    let carry = carry_before(carries, first, step.first());
+    let done = redone_last(alloc, &step, &cut(step.count(), blocks.block), carry, steps)?;
     Ok(done)
+}
+
+// What each stage asks for.
+fn stage_demands(alloc: Global, stages: &List<Stage>) -> Result<List<Demand>, OutOfMemory>
+    ensures { IfOk result (λ asked. asked ≡ map (λ stage. stage.demand) stages.now) }
+{
+    let mut asked = List::new(alloc);
+    for at in 0..stages.len() {
+        asked.push(stages.get(at).demand)?;
+    }
+    Ok(asked)
+}
+
+// How many jobs each stage holds.
+fn stage_places(alloc: Global, stages: &List<Stage>) -> Result<List<u8>, OutOfMemory>
+    ensures { IfOk result (λ places. places ≡ places_of stages.now) }
+{
+    let mut places = List::new(alloc);
+    for at in 0..stages.len() {
+        places.push(stages.get(at).places)?;
+    }
+    Ok(places)
 }

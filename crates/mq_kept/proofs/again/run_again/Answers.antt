@@ -8,7 +8,7 @@ use Rattle.mq_kept.specs.declared.checkpoints.Checkpoints.{Checkpoints}
 use Rattle.mq_kept.specs.declared.former.NodeLists.{NodeLists}
 use Rattle.mq_kept.proofs.Formers.{put-count, put-twice}
 use Rattle.mq_kept.proofs.Ranks.{IsDoneTo, rank-wave, taken-done}
-use Rattle.mq_kept.proofs.WorkedTo.{again-net, all-kept, all-redone, all-spent, before-at, blocks-net, comes-refused, fault-is-cause, in-checkpoints, in-formers, in-outputs, in-visits, reads-stayed, spent-more, spent-within, sums-fit, the-node, worked-begins, worked-more, worked-net}
+use Rattle.mq_kept.proofs.WorkedTo.{again-net, all-kept, all-redone, all-spent, before-at, blocks-net, comes-refused, fault-is-cause, fits-refused, in-checkpoints, in-formers, in-outputs, in-visits, reads-stayed, spent-more, spent-within, sums-fit, the-node, worked-begins, worked-more, worked-net}
 use Rattle.mq_kept.proofs.again.run_again.Goals as goal
 
 pub loop-rank-init : goal.loop-rank-init
@@ -75,7 +75,7 @@ loop-rank-preserved g c =
     let before = before-at c.core_laws.ensures c.args.plan.now c.args.rows.now c.args.block old c.args.nodes worked c.loop-rank.rank v it c.get-number.ensures c.requires.before lists c.put_at-lists.ensures.had in
     let all = t.all ∙ blocks-net c.runs_are_of_networks.ensures c.args.plan.now c.args.rows.now c.args.block old v lists w.0 w.1 before in
     record {
-      worked = worked-more c.core_laws.ensures c.args.plan.now c.args.rows.now c.args.block old c.args.nodes worked c.loop-rank.rank v it c.get-number.ensures lists c.put_at-lists.ensures.had gives w.0 w.1 w.2 (t.kept.checkpoints w.0 w.1) t.back t.stayed
+      worked = worked-more c.core_laws.ensures c.args.plan.now c.args.rows.now c.args.block old c.args.nodes worked c.loop-rank.rank v it c.get-number.ensures lists c.put_at-lists.ensures.had gives w.0 w.1 w.2 (t.kept.checkpoints w.0 w.1) t.back t.fits t.stayed
           (t.again ∙ again-net c.runs_are_of_networks.ensures c.args.plan.now c.args.rows.now c.args.block old v lists w.0 w.1 before) all t.again_few t.all_few c.put.new.worked
           (put-twice worked.nodes c.put_at-lists.new.nodes v c.no_lists.result c.put_at-lists.ensures.put c.put.new.worked.nodes gives.lists c.put.ensures.put) c.put.ensures.formers c.put.ensures.redone;
       steps = let so_far = c.loop-rank.invariant.steps in let more = c.node_run.ensures.steps in omega arith;
@@ -105,7 +105,11 @@ pub undone-requires : goal.undone-requires
 undone-requires g c =
     let worked = c.loop-rank.worked in
     let twice = put-twice worked.nodes c.put_at-lists.new.nodes c.get-number.result.now c.no_lists.result c.put_at-lists.ensures.put c.put_at.new.nodes c.in-Err.refusal.lists c.put_at.ensures.put in
-    record { nodes = put-count worked.nodes c.put_at.new.nodes c.get-number.result.now c.in-Err.refusal.lists twice (length worked.formers.items) c.loop-rank.invariant.worked.count }
+    record {
+      nodes = put-count worked.nodes c.put_at.new.nodes c.get-number.result.now c.in-Err.refusal.lists twice (length worked.formers.items) c.loop-rank.invariant.worked.count;
+      fit = fits-refused c.core_laws.ensures c.args.plan.now c.args.rows.now c.args.block (earlier_rows c.args.rows.now c.args.earlier) c.args.nodes worked c.loop-rank.rank c.get-number.result.now c.loop-rank.invariant.worked c.get-number.ensures
+          c.put_at-lists.result c.put_at.new.nodes c.put_at-lists.ensures.had (subst (λ (l : NodeLists). IsPut worked.nodes c.get-number.result.now l c.put_at.new.nodes) c.in-Err.ensures.back twice);
+    }
 
 pub returns-in-Err-clause-cause : goal.returns-in-Err-clause-cause
 returns-in-Err-clause-cause g c =

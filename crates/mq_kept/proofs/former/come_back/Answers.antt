@@ -3,11 +3,20 @@ use Rattle.std.specs.Prelude.{slice_get}
 use Rattle.std.proofs.lemmas.List.{length-set}
 use Rattle.std.proofs.lemmas.Option.{slice_get-get_or}
 use Rattle.mq_base.proofs.lemmas.Lists.{get-set_other, get-set_same, some_inj}
-use Rattle.mq_kept.specs.Formers.{AreNodes, lists_before}
+use Rattle.mq_kept.specs.Formers.{AreNodes, FitsIn, lists_before}
 use Rattle.mq_kept.specs.declared.former.Former.{Former}
 use Rattle.mq_kept.specs.declared.former.Former.TheVariants.{Same}
-use Rattle.mq_kept.proofs.Formers.{all-back, comes-put, put-count, put-twice, same-more}
+use Rattle.mq_kept.proofs.Formers.{all-back, comes-put, fits-put, put-count, put-twice, same-more}
 use Rattle.mq_kept.proofs.former.come_back.Goals as goal
+
+pub put_back-requires : goal.put_back-requires
+put_back-requires c =
+    let was = c.loop-at.invariant in
+    let formers = c.loop-at.formers in
+    let at = c.loop-at.at in
+    let size = was.long in
+    let inside : at < length formers = omega arith in
+    was.fit at c.put_at-now.result c.replace-former.result c.put_at-now.ensures.had (slice_get-get_or formers at c.index-formers-at.result inside ∙ ap Some (sym c.replace-former.ensures.value))
 
 pub loop-at-preserved : goal.loop-at-preserved
 loop-at-preserved c =
@@ -24,6 +33,8 @@ loop-at-preserved c =
     record {
       long = long ∙ was.long;
       count = subst (λ n. AreNodes n c.put_at.new.nodes) (sym long) (put-count c.loop-at.nodes c.put_at.new.nodes at c.put_back.result twice (length formers) was.count);
+      fit = fits-put c.loop-at.nodes c.put_at.new.nodes at c.put_back.result twice formers (set formers at put) was.fit was.count inside (λ w apart. get-set_other formers at w put apart)
+          (λ own e. let is : own ≡ Same = some_inj own put (sym e ∙ get-set_same formers at put inside) ∙ is_same in subst (λ (f : Former). FitsIn f c.put_back.result) (sym is) tt);
       same = λ w l. ap (λ x. slice_get (set formers at x) w) is_same ∙ same-more formers at inside was.same w l;
       back = λ before can. comes-put c.loop-at.nodes c.put_at.new.nodes at c.put_back.result twice before formers (set formers at put) (was.back before can) was.count inside long (λ w apart. get-set_other formers at w put apart)
           (λ lists own a e.

@@ -1,16 +1,16 @@
-use Rattle.std.proofs.Common.{◌≡◌, ◌+◌, ◌-◌, ◌++◌, ℕ, List, [], ◌∷◌, length, length-append, map, ap, arith, subst, sym, ◌∙◌}
+use Rattle.std.proofs.Common.{◌≡◌, ◌+◌, ◌-◌, ◌++◌, All, ℕ, List, [], ◌∷◌, length, length-append, map, ap, arith, subst, sym, ◌∙◌}
 use Rattle.mq_scan.specs.Folds.{carries_after, fold_to}
 use Rattle.mq_scan.proofs.Spans.{times-ranges-next}
 use Rattle.mq_scan.proofs.lemmas.Blocks.{block-range, end_of}
 use Rattle.mq_redo.specs.Doing.{AreBehind, AreDone}
-use Rattle.mq_redo.proofs.Doing.{behind-more, block-some, carries-many, kept-few, last-of}
+use Rattle.mq_redo.proofs.Doing.{behind-more, block-some, carries-many, kept-few, last-of, reads-all}
 use Rattle.mq_redo.proofs.blocks.redone.Goals as goal
 
 pub overflow_cast-first : goal.overflow_cast-first
 overflow_cast-first g c = let few = kept-few c.args.blocks.now (length c.args.kept.carries.items) c.requires.inside in omega arith
 
-pub push_read-requires-clause-inside : goal.push_read-requires-clause-inside
-push_read-requires-clause-inside g c =
+pub push_read-requires : goal.push_read-requires
+push_read-requires g c =
     let step = c.args.step.now in
     let from = c.range-from.result.0 in
     let to = c.range-from.result.1 in
@@ -18,16 +18,8 @@ push_read-requires-clause-inside g c =
     let order = range.1 in
     let ends = range.2 in
     let all = c.requires.all in
-    let many : length c.in_ok-after.after ≡ to - from = ap length c.in_ok-after.ensures.after ∙ carries-many g.P.Step.acted (g.P.Step.start step) (g.P.Step.part step) from (to - from) in
-    omega arith
-
-pub push_read-requires-clause-after : goal.push_read-requires-clause-after
-push_read-requires-clause-after g c =
-    let step = c.args.step.now in
-    let from = c.range-from.result.0 in
-    let to = c.range-from.result.1 in
-    let many : length c.in_ok-after.after ≡ to - from = ap length c.in_ok-after.ensures.after ∙ carries-many g.P.Step.acted (g.P.Step.start step) (g.P.Step.part step) from (to - from) in
-    c.in_ok-after.ensures.after ∙ ap (carries_after g.P.Step.acted (g.P.Step.start step) (g.P.Step.part step) from) (sym many)
+    subst (All (g.P.Timed.can_time step)) (sym c.in_ok-after.ensures.after)
+    (reads-all g.P.Step.acted (g.P.Step.start step) (g.P.Step.part step) (g.P.Timed.can_time step) from (to - from) (λ k l. g.met.P.Timed.folds_time step (from + k + 1) (omega arith)))
 
 pub get-carry-requires : goal.get-carry-requires
 get-carry-requires g c =

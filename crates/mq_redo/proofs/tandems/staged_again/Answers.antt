@@ -1,78 +1,40 @@
-use Rattle.std.proofs.Common.{◌≡◌, ◌∙◌, ◌*◌, [], ℕ, List, ap, length, map, min, refl, subst, sym, arith}
-use Rattle.mq_core.specs.Handling.{demand_of_job}
-use Rattle.mq_core.specs.Recurrences.{tandem_departs}
+use Rattle.std.proofs.Common.{◌≡◌, ◌∙◌, ◌*◌, ◌≤◌, ◌++◌, ℕ, List, length, map, subst, sym, take, arith}
+use Rattle.mq_core.specs.declared.model.Fate.{Fate}
+use Rattle.mq_core.specs.declared.model.Fate.TheVariants.{Departs}
 use Rattle.mq_core.specs.declared.model.Kind.TheVariants.{Tandem}
-use Rattle.mq_maxplus.specs.Matrices.{matrix_act}
-use Rattle.mq_redo.specs.Stages.{asks_at_stages, last_departure, places_of}
-use Rattle.mq_redo.specs.Kept.{coming_as, tandem_does}
-use Rattle.mq_redo.specs.Staying.{HaveStayed, IsKeptScan}
-use Rattle.mq_redo.proofs.Same.{tandem-same}
-use Rattle.mq_scan.specs.Folds.{carries_after}
-use Rattle.mq_stations.proofs.lemmas.Blocks.{blocks-all}
-use Rattle.mq_stations.proofs.lemmas.StageFacts.{demands-told, loads-sound, stages-are, tandem-served}
-use Rattle.mq_tandem.specs.Rows.{job_matrix, none_kept}
+use Rattle.mq_redo.specs.Kept.{IsKeptTandem, IsTandemStaying, coming_as}
+use Rattle.mq_stations.specs.Leaving.{AreServed}
+use Rattle.mq_redo.proofs.TandemTail.{few-kept, many-kept}
+use Rattle.mq_redo.proofs.Tails.{fates-behind}
 use Rattle.mq_redo.proofs.tandems.staged_again.Goals as goal
 
-pub new-step-requires-clause-load : goal.new-step-requires-clause-load
-new-step-requires-clause-load g c =
-    let scan = c.in_ok-scan.ensures in
-    loads-sound c.args.rows.now (Tandem c.args.stages.now) scan.asked _ c.args.arrivals.now _ c.requires.load scan.asks (demands-told c.args.rows.now _ c.args.arrivals.now.job c.requires.load.told) scan.demands
+pub staged_behind-requires-clause-kept : goal.staged_behind-requires-clause-kept
+staged_behind-requires-clause-kept g c = (c.args.fates.now, c.requires.kept)
 
-pub new-step-requires-clause-stages : goal.new-step-requires-clause-stages
-new-step-requires-clause-stages g c =
-    let scan = c.in_ok-scan.ensures in
-    stages-are c.requires.load.columns c.args.stages.now scan.asked _ (λ demand. map (demand_of_job c.args.rows.now demand) c.args.arrivals.now.job) _ c.requires.load.sound scan.asks scan.places scan.demands
+pub with_first-requires-clause-fates : goal.with_first-requires-clause-fates
+with_first-requires-clause-fates g c =
+    let inside : c.args.first * c.args.blocks.now.block ≤ length c.args.arrivals.now.time = (let within = c.requires.inside in let all = c.requires.all in omega arith) in
+    let kept = c.requires.kept.1 in
+    (kept.times, kept.fates_are, many-kept c.alike_is_first.ensures c.args.rows.now c.args.stages.now c.args.arrivals.now c.requires.load c.args.blocks.now.block c.args.first c.args.carries.now inside c.args.fates.now c.requires.kept)
 
-pub departures_behind-requires-clause-stays : goal.departures_behind-requires-clause-stays
-departures_behind-requires-clause-stays g c =
-    let stages = c.args.stages.now in
-    let old = c.requires.kept.0 in
-    let new = coming_as c.args.rows.now c.args.arrivals.now in
-    let even = c.requires.kept.2.even in
-    let alike = c.requires.kept.2.same in
-    let few = (c.alike_is_first.ensures (Tandem stages) old new).old_few in
-    let scan = c.in_ok-scan.ensures in
-    let step = c.new-step.ensures in
-    let rows = c.args.rows.now in
-    let jobs = c.args.arrivals.now.job in
-    let p : c.new-step.result.places.now ≡ places_of c.args.stages.now = step.places ∙ scan.places in
-    let d : c.new-step.result.demands.now ≡ asks_at_stages rows c.args.stages.now jobs = step.demands ∙ (scan.demands ∙ ap (map (λ demand. map (demand_of_job rows demand) jobs)) scan.asks) in
-    subst (λ (z : List ℕ × List ℕ × List (List ℕ)). HaveStayed (last_departure z.0) matrix_act (none_kept z.0) (job_matrix z.0 z.1 z.2) c.args.blocks.now.block c.args.first c.args.fates.now c.args.carries.now)
-    (λ i. (sym p i, sym step.arrive i, sym d i))
-    (record {
-      does = tandem_does stages old;
-      jobs = length old.arrive;
-      kept = c.requires.kept.1;
-      within = omega arith;
-      same = λ k l last. tandem-same c.alike_is_first.ensures old new k stages last (omega arith);
-    })
+pub with_first-requires-clause-carries : goal.with_first-requires-clause-carries
+with_first-requires-clause-carries g c =
+    let inside : c.args.first * c.args.blocks.now.block ≤ length c.args.arrivals.now.time = (let within = c.requires.inside in let all = c.requires.all in omega arith) in
+    few-kept c.alike_is_first.ensures c.args.rows.now c.args.stages.now c.args.arrivals.now c.requires.load c.args.blocks.now.block c.args.first c.args.carries.now inside c.args.fates.now c.requires.kept
 
+-- the departures of all jobs
 pub returns-clause-served : goal.returns-clause-served
 returns-clause-served g c =
-    let scan = c.in_ok-scan.ensures in
-    let step = c.new-step.ensures in
-    let its = c.in_ok-scan.scan in
-    let now = c.new-step.result in
-    let blocks = c.args.blocks.now in
-    let all : min (blocks.blocks * blocks.block) blocks.n ≡ length now.arrive.now = blocks-all blocks ∙ (c.requires.all ∙ ap length (sym step.arrive)) in
-    let read : map (last_departure now.places.now) (carries_after matrix_act (none_kept now.places.now) (job_matrix now.places.now now.arrive.now now.demands.now) 0 (length now.arrive.now)) ≡ tandem_departs now.places.now (map (λ _. []) now.places.now) now.arrive.now now.demands.now = c.carries_hold_departures.ensures in
-    tandem-served c.requires.load.columns c.args.rows.now c.args.stages.now c.args.arrivals.now scan.asked its.demands its.places c.in_ok-done.done.times.items c.requires.load.sound scan.asks scan.demands scan.places
-    (c.in_ok-done.ensures.done.times_are ∙ (ap (λ (n : ℕ). map (last_departure now.places.now) (carries_after matrix_act (none_kept now.places.now) (job_matrix now.places.now now.arrive.now now.demands.now) 0 n)) all ∙ (read ∙ (λ i. tandem_departs (step.places i) (map (λ _. []) (step.places i)) (step.arrive i) (step.demands i)))))
+    let kept = c.requires.kept.1 in
+    subst (λ (times : List ℕ). AreServed c.args.rows.now (Tandem c.args.stages.now) c.args.arrivals.now times) (sym (c.in_ok-all.ensures.times kept.times kept.fates_are))
+    (c.in_ok-done.ensures.served kept.times (subst (λ (fates : List Fate). IsTandemStaying c.args.stages.now (coming_as c.args.rows.now c.args.arrivals.now) c.args.blocks.now.block c.args.first fates c.args.carries.now) kept.fates_are c.requires.kept))
 
 pub returns-clause-kept : goal.returns-clause-kept
 returns-clause-kept g c =
-    let scan = c.in_ok-scan.ensures in
-    let step = c.new-step.ensures in
-    let rows = c.args.rows.now in
-    let jobs = c.args.arrivals.now.job in
-    let blocks = c.args.blocks.now in
+    let from = c.args.first * c.args.blocks.now.block in
+    let kept = c.requires.kept.1 in
     let done = c.in_ok-done.done in
-    let p : c.new-step.result.places.now ≡ places_of c.args.stages.now = step.places ∙ scan.places in
-    let d : c.new-step.result.demands.now ≡ asks_at_stages rows c.args.stages.now jobs = step.demands ∙ (scan.demands ∙ ap (map (λ demand. map (demand_of_job rows demand) jobs)) scan.asks) in
-    record {
-      times = done.times.items;
-      fates_are = refl;
-      scan = subst (λ (z : List ℕ × List ℕ × List (List ℕ) × ℕ). IsKeptScan (last_departure z.0) (λ k rows. matrix_act (job_matrix z.0 z.1 z.2 k) rows) (none_kept z.0) z.3 blocks.block done.times.items done.carries.items)
-          (λ i. (p i, step.arrive i, d i, c.requires.all i))
-          (c.done_are_kept.ensures blocks done.times.items done.carries.items c.in_ok-done.ensures.done);
-    }
+    let times = c.in_ok-all.ensures.times kept.times kept.fates_are in
+    let fates = fates-behind from c.args.fates.now kept.times done.times.items kept.fates_are ∙ (λ i. map (λ (time : ℕ). Departs time) (sym times i)) in
+    subst (λ (z : List Fate × List _). IsKeptTandem c.args.stages.now (coming_as c.args.rows.now c.args.arrivals.now) c.args.blocks.now.block z.0 z.1) (λ i. (fates i, sym c.in_ok-all.ensures.carries i))
+    (c.in_ok-done.ensures.kept c.args.fates.now c.requires.kept)

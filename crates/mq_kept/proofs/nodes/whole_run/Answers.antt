@@ -1,5 +1,9 @@
-use Rattle.std.proofs.Common.{◌≡◌, ◌+◌, ◌/◌, ◌≤◌, ◌∙◌, ℕ, length, Some, ap, sym, refl, subst, arith}
-use Rattle.std.specs.Prelude.{IfErr, IfOk, OnOk, slice_get}
+use Rattle.std.proofs.Common.{◌≡◌, ◌+◌, ◌*◌, ◌/◌, ◌≤◌, ◌∙◌, ℕ, length, Some, ap, sym, refl, subst, arith}
+use Rattle.std.specs.Borrow.{Bor}
+use Rattle.std.specs.Prelude.{IfErr, IfOk, OnOk, Option, slice_get}
+use Rattle.mq_alike.specs.Again.{alike}
+use Rattle.mq_edits.specs.Former.{rows_before}
+use Rattle.mq_edits.specs.declared.former.FormerRows.{FormerRows}
 use Rattle.std.proofs.lemmas.Result.{on_ok_weaker}
 use Rattle.mq_core.specs.declared.model.Node.{Node}
 use Rattle.mq_core.specs.declared.model.Plan.{Plan}
@@ -8,14 +12,15 @@ use Rattle.mq_core.specs.declared.model.Stream.{Stream}
 use Rattle.mq_exits.specs.Results.{IsWorkedOut}
 use Rattle.mq_exits.specs.declared.working.Ending.TheVariants.{OnTime}
 use Rattle.mq_kept.specs.KeptNodes.{IsKeptNode, blocks_behind, coming_of}
-use Rattle.mq_kept.specs.NodeRuns.{IsFaultAt, IsNodeRun, came_before, earlier_rows}
+use Rattle.mq_kept.specs.NodeRuns.{IsFaultAt, IsNodeBefore, IsNodeRun, came_before, earlier_rows}
 use Rattle.mq_kept.specs.declared.former.NodeLists.{NodeLists}
 use Rattle.mq_kept.proofs.CameBefore.{before-even, before-few, before-told, none-before, none-or-differs, staying-at, staying-by}
 use Rattle.mq_kept.proofs.Ended.{changed-cause, changed-ok, changed-run, kept-lists, loaded-at}
 use Rattle.mq_kept.proofs.Numbers.{none-worked, station-again, station-all, station-worked}
+use Rattle.mq_kept.proofs.TailRuns.{staying-load}
 use Rattle.mq_kept.proofs.Unchanged.{station-run}
 use Rattle.mq_redo.specs.Kept.{coming_as}
-use Rattle.mq_kept.proofs.nodes.station_run.Goals as goal
+use Rattle.mq_kept.proofs.nodes.whole_run.Goals as goal
 
 pub alike_at-same-requires-clause-none : goal.alike_at-same-requires-clause-none
 alike_at-same-requires-clause-none g c none =
@@ -134,3 +139,30 @@ returns-clause-counted g c =
     let worked = station-worked s came c.args.number c.get.result.now c.stream-arrivals.result.now c.get.ensures loaded c.alike_at-same.result c.len-visits.result c.len-count.result blocks
     c.requires.wave.block c.alike_at-same.ensures c.len-visits.ensures c.len-count.ensures (none-or-differs s past.earlier c.args.number c.args.lists c.requires.before c.alike_at-same.result c.len-visits.result c.len-count.result (c.is_unchanged.ensures.no c.if-is_unchanged.false)) refl in
     changed-ok _ c.args.lists c.counted-again.result.0 c.counted-again.result.1 made c.changed_run.result (on_ok_weaker made (λ h. h c.get.result.now c.get.ensures ∙ ap (λ n. c.args.steps.now + n) worked) counted) c.changed_run.ensures.gives
+
+pub tail_run-gives-requires-clause-stays : goal.tail_run-gives-requires-clause-stays
+tail_run-gives-requires-clause-stays g c =
+    let s = c.args.arriving.now in
+    let lists = c.args.lists in
+    let node = c.get.result.now in
+    let arrivals = c.stream-arrivals.result.now in
+    let first = c.alike_at-same.result / s.block in
+    let held = c.in-Ok.held in
+    let h = c.in-Ok.ensures in
+    let yes = c.can_redo_tail.ensures c.if-can_redo_tail.true in
+    let old = earlier_rows s.rows.now c.args.past.now.earlier in
+    let before = subst (λ (o : Option (Bor FormerRows)). IsNodeBefore s.plan.now (earlier_rows s.rows.now o) s.block c.args.number lists) yes.0.1 c.requires.before in
+    let loaded = loaded-at held s.plan.now s.rows.now c.args.number arrivals h.ready h.plan h.rows h.number c.stream-arrivals.ensures in
+    let staying = staying-by c.core_laws.ensures s.plan.now s.rows.now s.block c.args.number lists node c.get.ensures old (coming_as s.rows.now arrivals) c.alike_at-same.result first c.requires.wave.block c.requires.before c.alike_at-same.ensures refl in
+    let same = subst (λ (o : Option (Bor FormerRows)). first * s.block ≤ alike node.kind (came_before s.rows.now (earlier_rows s.rows.now o) lists) (coming_as s.rows.now arrivals)) yes.0.1 staying.1.same in
+    let told = c.load-load.ensures.told in
+    let visits = c.len-visits.ensures in
+    let count = c.len-count.ensures in
+    let fewer = yes.2 in
+    let longer : length lists.visits.job ≤ length arrivals.job = omega arith in (
+      node.kind,
+      yes.1,
+      staying-load c.load-load.result s.plan.now s.rows.now c.args.number s.block arrivals
+          ((λ k. (told k).0) ∙ h.plan) ((λ k. (told k).1) ∙ h.rows) ((λ k. (told k).2) ∙ h.number) ((λ k. (told k).3) ∙ sym c.stream-arrivals.ensures) (c.load-load.ensures.block ∙ h.block)
+          node c.get.ensures c.requires.wave.read loaded (rows_before yes.0.0.now s.rows.now) before.0 lists before.1 first same longer,
+    )
