@@ -97,6 +97,8 @@ class Files(Test):
         self.assertEqual((fault.line, fault.word, fault.file, fault.source), (3, 3, path, "source\tdoor from"))
         self.assertEqual(str(fault).split("\n")[0], f"{path}: model line 3: word 3 not allowed")
         self.assertEqual(str(fault).split("\n")[2], "          \t     ^^^^")
+        marked = self.fault(mpsim.ModelError, mpsim.run, "\ufeffmodel 9\n", [])
+        self.assertEqual((marked.line, marked.source), (1, "model 9"))
         missing = self.fault(mpsim.ModelError, mpsim.run, "model 1\nsource\n", [])
         self.assertEqual(str(missing).split("\n")[1:], ["    source", "           ^"])
 

@@ -1,7 +1,7 @@
 """Reports: each figure is what stands in the text, which is read here word by word; what is cut or altered is refused."""
 
 import io
-import random
+import re
 import unittest
 
 from ground import EXAMPLES, DESK, Test, nodes_of, reports, text_of, waits_of, words_of
@@ -95,11 +95,12 @@ class Figures(Test):
                         self.assertEqual(visits.share_within(ticks, departed=True), within / len(waits) if waits else None)
 
     def test_percentiles_of_a_thousand(self):
-        drawn = random.Random(51)
-        rows = [("door", it, drawn.randrange(3)) for it in range(1000)]
-        report = mpsim.run(DESK, rows, jobs=True)
+        """Waits of 0, 1, and so on up to 999: 99.9 of 100 don't exceed 998, though the float 99.9 is a little more than that."""
+        report = mpsim.run(DESK, [("door", it, 2) for it in range(1000)], jobs=True)
         waits = waits_of("".join(report.lines()), "desk")
-        self.assertEqual([report.visits["desk"].percentile(it) for it in PERCENTS], [least_wait(waits, it) for it in PERCENTS])
+        told = [report.visits["desk"].percentile(it) for it in PERCENTS]
+        self.assertEqual(told, [least_wait(waits, it) for it in PERCENTS])
+        self.assertEqual(told, [0, 9, 99, 329, 499, 666, 899, 989, 998, 999])
         for percent in -1, 100.1:
             with self.assertRaises(ValueError):
                 report.visits["desk"].percentile(percent)
@@ -143,6 +144,8 @@ class Refusals(Test):
                 line.replace("depart ", "depart 99999999999999999999"),
                 line.replace("wait ", "wait -"),
                 line.replace("job ", "job 4294967296"),
+                line.replace("job ", "job 1"),
+                re.sub(r"^job \d+", "job 0", line),
                 line.replace("util ", "util 7"),
                 line.replace("report 2", "report 3"),
             }
@@ -160,15 +163,34 @@ class Refusals(Test):
                         self.refused(CALLS[:at] + other + CALLS[at + 1 :])
 
     def test_each_number_that_others_tell_too(self):
-        """Each number of a node's line of which the lines of the jobs tell, made one more."""
+        """Each number of a node of which the lines of the jobs tell, made one more; and each time of such a line, but when a lost job came."""
         lines = CALLS.splitlines(keepends=True)
         for at, line in enumerate(lines):
             words = line.split(" ")
-            for word in ("in", "out", "lost", "held", "wait", "max") if words[0] == "node" else ():
+            for word in ("in", "out", "lost", "held", "wait", "max", "area") if words[0] == "node" else ():
                 index = words.index(word) + 1
                 other = " ".join([*words[:index], str(int(words[index]) + 1), *words[index + 1 :]])
                 with self.subTest(line=other):
                     self.assertIn(self.refused("".join([*lines[:at], other, *lines[at + 1 :]])).line, (2, at + 1))
+
+        for at, line in enumerate(lines):
+            for found in re.finditer(r"(?:arrive|wait|depart) \d*(\d)", line) if line.startswith("job ") else ():
+                other = line[: found.start(1)] + str((int(found[1]) + 1) % 10) + line[found.end() :]
+                if other.split()[5] != "lost" or found[0].split()[0] != "arrive":
+                    with self.subTest(line=other):
+                        self.refused("".join([*lines[:at], other, *lines[at + 1 :]]))
+
+    def test_numbers_that_lines_share(self):
+        """Without the lines of jobs: how many jobs there are, which the sources and, where nothing is forked, the exits tell too."""
+        for name in "desk", "assembly":
+            text = text_of(EXAMPLES, name, "report.txt")
+            lines = text.splitlines(keepends=True)
+            jobs = int(lines[1].split()[1])
+            self.assertEqual(self.refused(text.replace(f"jobs {jobs} ", f"jobs {jobs + 1} ", 1)).line, 2)
+            came = int(nodes_of(text)[0]["in"])
+            self.assertEqual(self.refused(text.replace(f"in {came} out {came} ", f"in {came + 1} out {came + 1} ", 1)).line, 2)
+        text = text_of(EXAMPLES, "desk", "report.txt")
+        self.assertEqual(self.refused(text.replace("exit desk.0 3", "exit desk.0 4")).line, 6)
 
     def test_a_report_that_is_cut(self):
         """At each byte, but where all lines of jobs lack and no other: that is a report too, and the caller knows whether they were asked for."""
@@ -191,6 +213,13 @@ class Refusals(Test):
                     self.assertEqual(fault.line, at + 1)
         fault = self.refused("".join([*lines, lines[jobs[0]]]))
         self.assertEqual(fault.line, len(lines) + 1)
+        by_node = {}
+        for at in jobs:
+            by_node.setdefault(lines[at].split()[2], []).append(lines[at])
+        first, second, *others = by_node
+        turned = [line for name in (second, first, *others) for line in by_node[name]]
+        fault = self.refused("".join([*lines[: jobs[0]], *turned]))
+        self.assertEqual(fault.line, jobs[0] + len(by_node[second]) + 1)
 
     def test_lines_that_lack_or_stand_twice(self):
         lines = CALLS.splitlines(keepends=True)

@@ -3,6 +3,7 @@
 import collections
 import os
 import pathlib
+import resource
 import signal
 import subprocess
 import sys
@@ -115,6 +116,15 @@ class Inputs(Test):
         with self.assertRaises(ZeroDivisionError):
             mpsim.run(DESK, (("door", 1 // it, 1) for it in (1, 0)))
 
+    def test_a_trace_for_which_there_is_no_room(self):
+        limits = resource.getrlimit(resource.RLIMIT_FSIZE)
+        resource.setrlimit(resource.RLIMIT_FSIZE, (100000, limits[1]))
+        try:
+            with self.assertRaises(OSError):
+                mpsim.run(DESK, MANY)
+        finally:
+            resource.setrlimit(resource.RLIMIT_FSIZE, limits)
+
     def test_names_with_a_dash_and_blanks(self):
         with tempfile.TemporaryDirectory() as folder:
             for name in "-model", "a model":
@@ -194,9 +204,9 @@ class Ends(Test):
                 raise ZeroDivisionError
 
     def test_a_reader_that_has_enough(self):
-        with mpsim.visits(DESK, MANY) as reading:
+        with mpsim.visits(DESK, MANY, timeout=60) as reading:
             self.assertEqual(next(iter(next(reading.pieces()))).job, 1)
-        with mpsim.visits(DESK, MANY) as reading:
+        with mpsim.visits(DESK, MANY, timeout=60) as reading:
             self.assertEqual(reading.jobs, len(MANY))
 
     def test_a_time_that_is_out(self):
@@ -219,6 +229,10 @@ class Ends(Test):
         for script in "head -c 300 {}; exec sleep 60", "cat {}; exec sleep 60", "cat {}; exec sleep 60 >&-":
             fault = self.ends(mpsim.TimedOut, script.format(STORED), lambda: mpsim.run(MODEL, TRACE, timeout=0.2))
             self.assertEqual(str(fault), "mpsim was ended, since its time was out")
+
+    def test_a_time_that_is_that_of_all_runs(self):
+        script = f'sleep 0.2; exec {programs.find("mpsim")} "$@"'
+        self.ends(mpsim.TimedOut, script, lambda: mpsim.sweep(TRACE, [MODEL] * 30, jobs=True, timeout=1))
 
     def test_a_program_that_is_killed(self):
         """Also where a part of the report stands there: what is told is how the program ended, and not where the report is cut."""

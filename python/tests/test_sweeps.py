@@ -58,6 +58,7 @@ class Runs(Test):
     def test_models_by_a_list(self):
         sweep = mpsim.sweep([("door", 0, 1)], [DESK, mpsim.Model(), DESK.encode()])
         self.assertEqual([(it.label, it.status) for it in sweep.values()], [(1, 0), (2, 3), (3, 0)])
+        self.assertEqual(mpsim.sweep([("door", 0, 1)], {0: DESK, "": DESK}).curve("desk", "in"), [(0, 1), ("", 1)])
         self.assertEqual((mpsim.sweep([], []), mpsim.sweep([], {})), ({}, {}))
         for models in DESK, DESK.encode(), mpsim.Model(), 7:
             with self.assertRaises(TypeError):

@@ -65,6 +65,14 @@ class Examples(Test):
             finally:
                 os.chdir(before)
 
+    def test_readme(self):
+        """The example of the wheel's page."""
+        lines = [it[4:] for it in (PYTHON / "README.md").read_text().splitlines() if it.startswith("    ")]
+        *most, last = lines
+        names = {}
+        exec("\n".join(most), names)
+        self.assertEqual(eval(last, names), (1, 2 / 3))
+
     def test_page_names_each_call(self):
         text = PAGE.read_text()
         for name in mpsim.__all__[1:]:

@@ -1,7 +1,6 @@
 """The visits of a run, as arrays by node, and what is asked of them."""
 
 from array import array
-from bisect import bisect_right
 from fractions import Fraction
 from typing import NamedTuple, Optional
 
@@ -82,9 +81,8 @@ class NodeVisits:
         >>> desk.share_within(3), desk.share_within(4), desk.share_within(4, departed=True)
         (0.5, 0.75, 1.0)
         """
-        waits = self.waits()
-        count = len(waits) if departed else len(self)
-        return bisect_right(waits, ticks) / count if count else None
+        count = sum(it >= 0 for it in self.wait) if departed else len(self)
+        return sum(0 <= it <= ticks for it in self.wait) / count if count else None
 
     def to_pandas(self):
         """A data frame, a row a visit, as that of Visits. Raises ImportError where pandas isn't there."""

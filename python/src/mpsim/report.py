@@ -161,7 +161,7 @@ class Report:
         there."""
         import pandas
 
-        frame = pandas.DataFrame(self.nodes, columns=["name", "kind", *NUMBERS])
+        frame = pandas.DataFrame(list(self.nodes), columns=["name", "kind", *NUMBERS])
         return frame.set_index("name").convert_dtypes(convert_string=False)
 
     @classmethod
@@ -269,7 +269,7 @@ class Reading:
     def pieces(self):
         """The visits, as NodeVisits of one node each, in the order of the lines. No more than half a megabyte of text is held at a time. Raises
         ReportError where a line is none, and behind the last piece where the visits of a node aren't those that its line counts."""
-        seen = {it.name: _Seen() for it in self.nodes}
+        seen = {it.name: _Seen(self.span) for it in self.nodes}
         # The names of the nodes from that of the last visit on.
         self._left = list(seen)
         for text in self._texts():
@@ -277,7 +277,7 @@ class Reading:
                 seen[piece.node].add(piece)
                 yield piece
         for node in self.nodes:
-            if seen[node.name].told() != (node.in_, node.out, node.lost, node.held or 0, node.wait, node.max):
+            if seen[node.name].told() != (node.in_, node.out, node.lost, node.held or 0, node.wait, node.max, node.area):
                 raise self._contradiction(node, "the lines of its jobs are others, or some lack")
 
     def _texts(self):
@@ -354,17 +354,23 @@ class Reading:
 class _Seen:
     """What the visits of a node come to, as its line tells it."""
 
-    def __init__(self):
-        self.count = self.lost = self.held = self.wait = self.max = 0
+    def __init__(self, span):
+        self.span = span
+        self.count = self.lost = self.held = self.wait = self.max = self.area = 0
 
     def add(self, visits):
         lost, held = visits.wait.count(LOST), visits.wait.count(HELD)
         self.count, self.lost, self.held = self.count + len(visits), self.lost + lost, self.held + held
         self.wait += sum(visits.wait) - lost * LOST - held * HELD
         self.max = max(self.max, max(visits.wait))
+        self.area += sum(visits.depart) - sum(visits.arrive)
+        if lost or held:
+            # In place of what stands for its departure, a lost visit leaves as it comes, and a held one at the end.
+            self.area += sum(arrive - LOST for arrive, wait in zip(visits.arrive, visits.wait) if wait == LOST)
+            self.area += held * (self.span - HELD)
 
     def told(self):
-        return self.count, self.count - self.lost - self.held, self.lost, self.held, self.wait, self.max
+        return self.count, self.count - self.lost - self.held, self.lost, self.held, self.wait, self.max, self.area
 
 
 def _fill(visits, numbers, count):

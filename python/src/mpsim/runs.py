@@ -11,7 +11,8 @@ What each of them takes:
 
 What each of them raises: the exceptions of `mpsim.errors`, by the status of the program; ProgramError where there is no program, or it is killed;
 ReportError where what it wrote is no report; TypeError or ValueError for what is no model, trace or edits. KeyboardInterrupt ends the program too.
-Nothing is left behind: no process, no open file, no file on a disk. """
+Nothing is left behind: no process, no open file, no file on a disk.
+"""
 
 import contextlib
 import time
@@ -120,7 +121,9 @@ def sweep(trace, models, *, jobs=False, timeout=None):
     >>> mpsim.sweep([("calls", 0), ("calls", 1), ("calls", 2)], models).curve("lines", "share_lost")
     [(1, 0.6666666666666666), (2, 0.3333333333333333), (3, 0.0)]
     """
-    return Sweep((it.label, it) for it in scenarios(trace, models, jobs=jobs, timeout=timeout))
+    # Where Ctrl-C comes between two scenarios, the program isn't left to whoever holds the traceback.
+    with contextlib.closing(scenarios(trace, models, jobs=jobs, timeout=timeout)) as coming:
+        return Sweep((it.label, it) for it in coming)
 
 
 def scenarios(trace, models, *, jobs=False, timeout=None):
@@ -130,6 +133,7 @@ def scenarios(trace, models, *, jobs=False, timeout=None):
     mpsweep runs them, 64 a call. It writes no lines of jobs: with `jobs` each model has a run of mpsim, which takes longer, and its report has the
     visits. A model that is refused, or whose run is, hands over a Scenario with its status; what `run` raises besides stops all: a file that can't
     be read, no memory, and a time that is out, which is that of all runs together. Of a list of rows the first model says which column is which.
+    Who stops early lets the iterator go, or closes it (`contextlib.closing`), and with it the program.
 
     >>> import mpsim
     >>> models = mpsim.variants("model 1\\nsource door\\nserver desk ={ticks} from door\\n", ticks=[1, 2, 4])
@@ -142,16 +146,19 @@ def scenarios(trace, models, *, jobs=False, timeout=None):
     if isinstance(models, (str, bytes, Model)) or not isinstance(models, Iterable):
         raise TypeError("models are a dict or a list of models")
     labelled = list(models.items() if isinstance(models, Mapping) else enumerate(models, 1))
-    return _scenarios(trace, labelled, jobs, timeout and time.monotonic() + timeout, timeout) if labelled else iter(())
+    return _scenarios(trace, labelled, jobs, timeout)
 
 
-def _scenarios(trace, labelled, jobs, end, timeout):
+def _scenarios(trace, labelled, jobs, timeout):
+    if not labelled:
+        return
     run_some, step = (_by_mpsim, 1) if jobs else (_by_mpsweep, MODELS)
+    end = None if timeout is None else time.monotonic() + timeout
     with _inputs(lambda _: model_input(labelled[0][1]), lambda made: trace_input(trace, made[0])) as (_, rows):
         for begin in range(0, len(labelled), step):
             some = labelled[begin : begin + step]
             with _inputs(*[lambda _, it=it: model_input(it) for _, it in some]) as texts:
-                left = None if timeout is None else max(end - time.monotonic(), 0)
+                left = None if end is None else max(end - time.monotonic(), 0)
                 yield from run_some(rows, texts, [label for label, _ in some], left)
 
 
