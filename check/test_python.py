@@ -1,0 +1,27 @@
+"""The Python package: each file of python/tests is run by unittest, in a process of its own, over the programs that the other checks run.
+
+A case is a test there; one that is left out, since pandas, numpy or hatchling isn't there, is told here.
+"""
+import re
+import sys
+
+from programs import PROGRAMS, ROOT, Check, executable, run
+
+TESTS = sorted((ROOT / "python" / "tests").glob("test_*.py"))
+
+
+class Python(Check):
+    def runs(self, file):
+        for name in PROGRAMS:
+            (self.folder / name).symlink_to(executable(name))
+        ran = run(sys.executable, "-B", file, "-v", settings={"MPSIM_PROGRAMS": str(self.folder)})
+        told = ran.line.decode(errors="backslashreplace")
+        self.cases += int(re.search(r"^Ran (\d+) tests? in ", told, flags=re.MULTILINE)[1]) - 1 if ran.status == 0 else 0
+        self.holds(f"{ran.command}\nstatus {ran.status}\n{told}", ran.status == 0)
+        for name, _, why in re.findall(r"^(\w+) \(.*\)(?:\n.*)? \.\.\. skipped (['\"])(.*)\2$", told, flags=re.MULTILINE):
+            with self.subTest(name):
+                self.skipTest(f"{name}: {why}")
+
+
+for file in TESTS:
+    setattr(Python, f"{file.stem}", lambda self, file=file: self.runs(file))

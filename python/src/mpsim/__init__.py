@@ -1,0 +1,67 @@
+"""Queueing networks over recorded traces, from Python.
+
+>>> import mpsim
+>>> model = "model 1\\nsource door\\nserver desk talk from door\\n"
+>>> report = mpsim.run(model, [("door", 0, 4), ("door", 1, 1), ("door", 2, 3)])
+>>> report["desk"].wait, report["desk"].p90
+(6, 3)
+
+The programs mpsim, mpsweep and mpedit do the work, in processes of their own: nothing here simulates, and nothing here is proved. What a call
+takes and raises stands in its own text; `docs/PYTHON.md` begins with tasks.
+
+Times are whole ticks, from 0; what a tick is, is up to who writes the trace.
+"""
+
+__version__ = "0.1.0"
+
+# The module of each name. (No module is called as one of them: reading it would put it in that place.) It is read when one of its names is first
+# asked for, so that the commands of the wheel start without the rest.
+_MODULES = {
+    "run": "runs",
+    "made": "runs",
+    "visits": "runs",
+    "scenarios": "runs",
+    "sweep": "runs",
+    "edit": "runs",
+    "Set": "inputs",
+    "Add": "inputs",
+    "Model": "model",
+    "variants": "model",
+    "Report": "report",
+    "Node": "report",
+    "Exit": "report",
+    "Again": "report",
+    "Sweep": "sweeps",
+    "Scenario": "sweeps",
+    "Visits": "node_visits",
+    "NodeVisits": "node_visits",
+    "Visit": "node_visits",
+    "Error": "errors",
+    "UsageError": "errors",
+    "ModelError": "errors",
+    "TraceError": "errors",
+    "BoundError": "errors",
+    "ReadError": "errors",
+    "WriteError": "errors",
+    "OutOfMemory": "errors",
+    "VisitsError": "errors",
+    "EditsError": "errors",
+    "ProgramError": "errors",
+    "TimedOut": "errors",
+    "ReportError": "errors",
+}
+__all__ = ["__version__", *_MODULES]
+
+
+def __getattr__(name):
+    if name not in _MODULES:
+        raise AttributeError(f"module {__name__!r} has no attribute {name!r}")
+    from importlib import import_module
+
+    value = getattr(import_module(f"{__name__}.{_MODULES[name]}"), name)
+    globals()[name] = value
+    return value
+
+
+def __dir__():
+    return sorted({*globals(), *_MODULES})

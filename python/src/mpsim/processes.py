@@ -1,0 +1,104 @@
+"""A program that runs, and how it ends: nothing of it is left, whatever happens."""
+
+import contextlib
+import os
+import signal
+import subprocess
+import threading
+
+from . import programs
+from .errors import ProgramError, ReportError, TimedOut, error_of
+
+
+class Running:
+    """A program that runs in a block. Its output is `stream`. Behind the block it has ended, by itself or killed: also where the block is left by
+    an exception, by Ctrl-C, or before all is read. Leaving raises what the program told, where its status is none of `fine`.
+
+    `timeout` (seconds, int or float, or None) is counted from the start of the program to its end."""
+
+    def __init__(self, name, words, inputs, fine=(0,), timeout=None):
+        self.name, self.inputs, self.fine = name, inputs, fine
+        self._process = self._timer = None
+        self._is_late = self._is_killed = False
+        file = programs.find(name)
+        # The error output goes into memory, where it can't fill a pipe that nobody reads.
+        self._errors = os.memfd_create("mpsim-errors")
+        try:
+            self._process = subprocess.Popen(
+                [file, *words],
+                stdout=subprocess.PIPE,
+                stderr=self._errors,
+                pass_fds=[handle for it in inputs for handle in it.handles],
+                env=programs.surroundings(),
+            )
+            self.stream = self._process.stdout
+            if timeout is not None:
+                self._timer = threading.Timer(timeout, self._late)
+                self._timer.daemon = True
+                self._timer.start()
+        except OSError as fault:
+            self._clear()
+            raise ProgramError(f"{file} can't be started: {fault.strerror}") from fault
+        except BaseException:
+            self._clear()
+            raise
+
+    def __enter__(self):
+        return self
+
+    def __exit__(self, kind, value, trace):
+        told = ""
+        try:
+            self._settle(kind)
+            told = os.pread(self._errors, os.fstat(self._errors).st_size, 0).decode(errors="surrogateescape")
+        finally:
+            self._clear()
+        if kind is None or issubclass(kind, ReportError):
+            self._judge(told)
+
+    def _settle(self, kind):
+        """Waits for the end of the program, where it goes towards one, and kills it where it doesn't."""
+        if kind is None:
+            if self.stream.read(1):
+                # Nobody wants the rest.
+                self._kill()
+            self._process.wait()
+        elif issubclass(kind, ReportError):
+            # A program that dies leaves its report cut; how it died is to be told, and it is about to.
+            with contextlib.suppress(subprocess.TimeoutExpired):
+                self._process.wait(1)
+
+    def _judge(self, told):
+        """Raises what the program's end asks for."""
+        status = self._process.returncode
+        if self._is_late and status == -signal.SIGKILL:
+            raise TimedOut(f"{self.name} was ended, since its time was out", told, status) from None
+        if self._is_killed:
+            return
+        if status == -signal.SIGINT:
+            # At a terminal Ctrl-C ends both, and the end of the program may be seen first.
+            raise KeyboardInterrupt
+        if status not in self.fine:
+            raise error_of(self.name, status, told, self.inputs) from None
+
+    def _late(self):
+        self._is_late = True
+        with contextlib.suppress(ProcessLookupError):
+            self._process.kill()
+
+    def _kill(self):
+        self._is_killed = True
+        self._process.kill()
+
+    def _clear(self):
+        """Ends the program, where it still runs, and lets go of all that was opened for it."""
+        if self._timer is not None:
+            self._timer.cancel()
+        if self._process is not None:
+            if self._process.poll() is None:
+                self._kill()
+            self._process.wait()
+            self._process.stdout.close()
+        if self._timer is not None and self._timer.ident is not None:
+            self._timer.join()
+        os.close(self._errors)

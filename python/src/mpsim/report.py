@@ -1,0 +1,386 @@
+"""Reports: the one reader of their text, which refuses what is cut or altered, and what is asked of them. docs/REPORT.md has every word."""
+
+import io
+import re
+from typing import NamedTuple, Optional
+
+from .errors import ReportError
+from .node_visits import FIELDS, HELD, LOST, NodeVisits, Visits
+
+# Bytes of job lines that are read at a time.
+CHUNK = 1 << 19
+N, NAME = r"(0|[1-9]\d*)", r"([a-z][a-z0-9_]{0,31})"
+KIND = "source|server|delay|loss|tandem|forkjoin|split|fork|join|trunk"
+# The lines of a report, but for those of jobs.
+LINES = {
+    name: re.compile(text.replace("NAME", NAME).replace("KIND", KIND).replace("N", N) + "\n", re.ASCII)
+    for name, text in {
+        "form": r"mpsim report ([12])",
+        "jobs": r"jobs N span N",
+        "node": r"node NAME (KIND) in N out N lost N(?: held N)? wait N max N(?: p50 N p90 N p99 N)? busy N area N peak N util (-|[01]\.\d{4})",
+        "exit": r"exit NAME\.([0-7]) N sojourn N",
+        "again": r"again N of N blocks",
+    }.items()
+}
+JOB = re.compile(rf"job {N} {NAME} arrive {N} (?:wait {N} depart {N}|lost|held)".encode())
+# A line of a visit that departed, without its node, its numbers and its line feed; without letters.
+STAND_INS = (b" lost\n", b" wait -1 depart -1\n"), (b" held\n", b" wait -2 depart -2\n")
+SHAPE, DIGITS, LETTERS = b"job   wait  depart \n", b"0123456789-", b"abdeijoprtw"
+
+
+class Node(NamedTuple):
+    """A line `node`: its name and kind (str), and numbers (int). Times are in ticks: `wait` is the sum of the waits, `max` the greatest, `p50`,
+    `p90` and `p99` percentiles of them; `busy` and `area` are sums over time. `in_` (the word `in`) counts the visits, `util` is a float, or None
+    for a node without servers. Form 1 has no percentiles, and of a model of version 1 no `held`: they are None there.
+
+    >>> import mpsim
+    >>> desk = mpsim.run("model 1\\nsource door\\nserver desk =4 from door\\n", [("door", 0), ("door", 1)])["desk"]
+    >>> desk.in_, desk.wait, desk.max, desk.p50, desk.mean_wait, desk.mean_time, desk.util
+    (2, 3, 3, 0, 1.5, 5.5, 1.0)
+    """
+
+    name: str
+    kind: str
+    in_: int
+    out: int
+    lost: int
+    held: Optional[int]
+    wait: int
+    max: int
+    p50: Optional[int]
+    p90: Optional[int]
+    p99: Optional[int]
+    busy: int
+    area: int
+    peak: int
+    util: Optional[float]
+
+    @property
+    def mean_wait(self):
+        """The mean wait of the visits that departed (float, ticks), the field's Wq; None where none departed."""
+        return self.wait / self.out if self.out else None
+
+    @property
+    def mean_time(self):
+        """The mean time in the node of the visits that departed (float, ticks), the field's W; None where none departed or some are held."""
+        return self.area / self.out if self.out and not self.held else None
+
+    @property
+    def share_lost(self):
+        """The share of the visits that were lost (float); None where nobody came."""
+        return self.lost / self.in_ if self.in_ else None
+
+    def line(self):
+        """The line of the report (str), without its line feed."""
+        words = (f"{word} {value}" for word, value in zip(NUMBERS, self[2:-1]) if value is not None)
+        return f"node {self.name} {self.kind} {' '.join(words)} util {'-' if self.util is None else f'{self.util:.4f}'}"
+
+
+# The words of a node's numbers, as the line and frames have them.
+NUMBERS = [it.rstrip("_") for it in Node._fields[2:]]
+
+
+class Exit(NamedTuple):
+    """A line `exit`: the node (str) and its output (int) that nobody reads, how many jobs left there (int), and the sum of their times in the
+    network (int, ticks)."""
+
+    name: str
+    output: int
+    jobs: int
+    sojourn: int
+
+
+class Again(NamedTuple):
+    """The last line of an edited report: so many of all blocks are done again (int)."""
+
+    done: int
+    blocks: int
+
+
+class Report:
+    """What a run tells.
+
+    `form` (1 or 2), `jobs` (int) and `span` (int, ticks) are those of its first lines; `nodes` (a tuple of Node) and `exits` (a tuple of Exit) are
+    in the order of the lines. `report["desk"]` is the node of a name, KeyError where there is none, and `"desk" in report` whether there is one.
+    `visits` (Visits) is None unless the lines of the jobs are there. `again` (Again) is None but for an edit. `str(report)` is the text without the
+    lines of the jobs; `lines()` has all.
+
+    >>> import mpsim
+    >>> report = mpsim.run("model 1\\nsource door\\nserver desk =4 from door\\n", [("door", 0), ("door", 1)])
+    >>> print(report, end="")
+    mpsim report 2
+    jobs 2 span 8
+    node door source in 2 out 2 lost 0 held 0 wait 0 max 0 p50 0 p90 0 p99 0 busy 0 area 0 peak 0 util -
+    node desk server in 2 out 2 lost 0 held 0 wait 3 max 3 p50 0 p90 3 p99 3 busy 8 area 11 peak 2 util 1.0000
+    exit desk.0 2 sojourn 11
+    >>> report.mean_sojourn
+    5.5
+    """
+
+    def __init__(self, form, jobs, span, nodes, exits, visits=None, again=None):
+        self.form, self.jobs, self.span = form, jobs, span
+        self.nodes, self.exits, self.visits, self.again = tuple(nodes), tuple(exits), visits, again
+        self._by_name = {it.name: it for it in self.nodes}
+
+    def __getitem__(self, name):
+        return self._by_name[name]
+
+    def __contains__(self, name):
+        return name in self._by_name
+
+    # What a loop should go over, nodes or names, isn't plain: `nodes` says it.
+    __iter__ = None
+
+    def __repr__(self):
+        return f"<Report of {self.jobs} jobs, {len(self.nodes)} nodes, span {self.span}>"
+
+    def __str__(self):
+        return "".join(self.lines(jobs=False))
+
+    def lines(self, jobs=True):
+        """The lines (str, each with its line feed), byte for byte as they were read; with `jobs` those of the jobs too, where the report has them."""
+        yield f"mpsim report {self.form}\njobs {self.jobs} span {self.span}\n"
+        for it in self.nodes:
+            yield it.line() + "\n"
+        for it in self.exits:
+            yield f"exit {it.name}.{it.output} {it.jobs} sojourn {it.sojourn}\n"
+        for it in self.visits.each() if jobs and self.visits else ():
+            yield f"job {it.job} {it.node} arrive {it.arrive} " + (f"wait {it.wait} depart {it.depart}\n" if it.end == "left" else f"{it.end}\n")
+        if self.again:
+            yield f"again {self.again.done} of {self.again.blocks} blocks\n"
+
+    @property
+    def mean_sojourn(self):
+        """The mean time of a job in the network (float, ticks), from the lines `exit`; behind a fork each part that leaves counts as one. None
+        where none left."""
+        jobs = sum(it.jobs for it in self.exits)
+        return sum(it.sojourn for it in self.exits) / jobs if jobs else None
+
+    def to_pandas(self):
+        """The nodes as a data frame, a row a node by its name, with the words of the lines as columns. Raises ImportError where pandas isn't
+        there."""
+        import pandas
+
+        frame = pandas.DataFrame(list(self.nodes), columns=["name", "kind", *NUMBERS])
+        return frame.set_index("name").convert_dtypes(convert_string=False)
+
+    @classmethod
+    def read(cls, path):
+        """The report in a file. Raises OSError where it can't be read, and ReportError where it is no report, is cut, or contradicts itself."""
+        with open(path, "rb") as stream:
+            return cls.parse(stream)
+
+    @classmethod
+    def parse(cls, text):
+        """The report of a text (str), of bytes, or of an open file of bytes. Raises ReportError as `read` does.
+
+        >>> import mpsim
+        >>> mpsim.Report.parse("mpsim report 2\\njobs 3 span")
+        Traceback (most recent call last):
+        mpsim.errors.ReportError: report line 2: 'jobs 3 span' is no line of a report
+        """
+        return Reading(text).report()
+
+
+def stream_of(text):
+    """An open file of bytes of a text, of bytes, or of such a file."""
+    if hasattr(text, "read"):
+        return text
+    return io.BytesIO(text.encode(errors="surrogateescape") if isinstance(text, str) else text)
+
+
+class Reading:
+    """A report that is being read. Its first lines are there at once, as `form`, `jobs`, `span`, `nodes`, `exits` and `again` of a Report; `pieces`
+    gives the visits."""
+
+    def __init__(self, text, first=1):
+        self._stream, self._number = stream_of(text), first - 1
+        self.again = None
+        self._next()
+        self.form = int(self._line_of("form")[1])
+        self.jobs, self.span = map(int, self._line_of("jobs").groups())
+        self.nodes, self.exits, self._node_lines = [], [], self._number
+        self._read_exits(self._read_nodes())
+        self._judge_jobs()
+        if self._line.startswith(b"again "):
+            self.again = Again(*map(int, self._line_of("again").groups()))
+        self._has_jobs = self._line.startswith(b"job ") and not self.again
+        if not self._has_jobs and self._line and not self._line.startswith(b"scenario "):
+            raise self._fault(self._line)
+
+    @property
+    def rest(self):
+        """The line behind a report without lines of jobs, and its number: in a sweep the next scenario begins there."""
+        return self._line, self._number
+
+    def _next(self):
+        self._number += 1
+        self._line = self._stream.readline()
+
+    def _fault(self, line, why="is no line of a report"):
+        return ReportError(self._number, line.decode(errors="surrogateescape").rstrip("\n"), why)
+
+    def _line_of(self, kind):
+        """The groups of the line at which reading stands, which goes on behind it."""
+        found = LINES[kind].fullmatch(self._line.decode("ascii", "surrogateescape"))
+        if not found:
+            raise self._fault(self._line)
+        self._next()
+        return found
+
+    def _read_nodes(self):
+        names = []
+        while self._line.startswith(b"node ") or not self.nodes:
+            line = self._line
+            name, kind, *values, util = self._line_of("node").groups()
+            node = Node(name, kind, *[None if it is None else int(it) for it in values], None if util == "-" else float(util))
+            self.nodes.append(node)
+            if (node.p50 is None) != (self.form == 1) or (node.held is None and self.form == 2):
+                raise ReportError(self._number - 1, line.decode().rstrip("\n"), f"isn't of form {self.form}")
+            if node.in_ != node.out + node.lost + (node.held or 0):
+                raise self._contradiction(node, "its in isn't the sum of out, lost and held")
+            if node.name in names:
+                raise self._contradiction(node, "its name stands twice")
+            names.append(node.name)
+        return names
+
+    def _read_exits(self, names):
+        before = -1, -1
+        while self._line.startswith(b"exit ") or not self.exits:
+            line = self._line
+            name, *values = self._line_of("exit").groups()
+            it = Exit(name, *map(int, values))
+            place = names.index(name) if name in names else -1, it.output
+            if place <= before or place[0] < 0:
+                raise ReportError(self._number - 1, line.decode().rstrip("\n"), "is of no node, or stands behind the line of a later output")
+            before = place
+            self.exits.append(it)
+
+    def _judge_jobs(self):
+        """Jobs come by the sources, and where nothing is forked or joined each leaves once, so that it is seen where a line lacks."""
+        if self.jobs != sum(it.in_ for it in self.nodes if it.kind == "source"):
+            raise ReportError(self._node_lines - 1, f"jobs {self.jobs} span {self.span}", "contradicts the lines of the sources")
+        if not any(it.kind in ("fork", "join") for it in self.nodes) and self.jobs != sum(it.jobs for it in self.exits):
+            raise self._fault(self._line, f"stands behind lines of exits by which not all of {self.jobs} jobs leave")
+
+    def _contradiction(self, node, why):
+        return ReportError(self._node_lines + self.nodes.index(node), node.line(), f"contradicts the report: {why}")
+
+    def pieces(self):
+        """The visits, as NodeVisits of one node each, in the order of the lines. No more than half a megabyte of text is held at a time. Raises
+        ReportError where a line is none, and behind the last piece where the visits of a node aren't those that its line counts."""
+        seen = {it.name: _Seen(self.span) for it in self.nodes}
+        # The names of the nodes from that of the last visit on.
+        self._left = list(seen)
+        for text in self._texts():
+            for piece in self._pieces_of(text):
+                seen[piece.node].add(piece)
+                yield piece
+        for node in self.nodes:
+            if seen[node.name].told() != (node.in_, node.out, node.lost, node.held or 0, node.wait, node.max, node.area):
+                raise self._contradiction(node, "the lines of its jobs are others, or some lack")
+
+    def _texts(self):
+        """The lines of the jobs, whole lines, half a megabyte or so at a time."""
+        left = self._line if self._has_jobs else b""
+        while self._has_jobs:
+            text = self._stream.read(CHUNK)
+            cut = text.rfind(b"\n") + 1
+            if cut:
+                yield left + text[:cut]
+                left = text[cut:]
+            else:
+                left += text
+            if not text:
+                break
+        if left:
+            yield left
+
+    def _pieces_of(self, text):
+        # No number of a report is below 0, so that a visit without a wait can be given one, and all lines have one shape. Then many lines are
+        # looked at together: those of one node are cut off, its name is taken out, what is left has to be that shape without its digits, and
+        # is four numbers a line without its letters.
+        if b"-" in text or not text.endswith(b"\n") or re.search(rb" 0\d", text):
+            raise self._first_fault(text)
+        for end, stand_in in STAND_INS:
+            text = text.replace(end, stand_in)
+        while text:
+            name = text[:80].split(None, 3)[2:3]
+            words = b" %s arrive " % name[0] if name else b" "
+            end = text.find(b"\n", text.rfind(words)) + 1
+            mine, text = text[:end], text[end:]
+            lines, count = mine.replace(words, b" "), mine.count(b"\n")
+            piece = NodeVisits(name[0].decode(errors="replace")) if name else None
+            shaped = piece is not None and lines.translate(None, DIGITS) == SHAPE * count
+            if not shaped or not _fill(piece, lines.translate(None, LETTERS), count) or not self._is_next(piece):
+                for end, stand_in in STAND_INS:
+                    mine = mine.replace(stand_in, end)
+                raise self._first_fault(mine)
+            self._number += count
+            yield piece
+
+    def _is_next(self, piece):
+        """Whether the visits are of a node that is there and not before the one of the last visits, and of jobs that are there."""
+        if piece.node not in self._left or min(piece.job) < 1 or max(piece.job) > self.jobs:
+            return False
+        del self._left[: self._left.index(piece.node)]
+        return True
+
+    def _first_fault(self, text):
+        """The fault of the first of these lines that is none, line by line."""
+        *lines, cut = text.split(b"\n")
+        for line in lines:
+            found = JOB.fullmatch(line)
+            numbers = [int(it) for it in found.group(1, 3, 4, 5) if it] if found else []
+            if not found or not 1 <= numbers[0] <= self.jobs or max(numbers) >= 1 << 63:
+                return self._fault(line)
+            name = found[2].decode()
+            if name not in self._left:
+                return self._fault(line, "is of no node, or stands behind the lines of a later one")
+            del self._left[: self._left.index(name)]
+            self._number += 1
+        return self._fault(cut, "is cut")
+
+    def report(self, asked=False):
+        """The whole report. One of nobody has no line of a job: whether it has visits is then told by `asked`, that they were asked for."""
+        visits = None
+        if self._has_jobs or asked:
+            visits = Visits((it.name, NodeVisits(it.name)) for it in self.nodes)
+            for piece in self.pieces():
+                visits[piece.node].extend(piece)
+        return Report(self.form, self.jobs, self.span, self.nodes, self.exits, visits, self.again)
+
+
+class _Seen:
+    """What the visits of a node come to, as its line tells it."""
+
+    def __init__(self, span):
+        self.span = span
+        self.count = self.lost = self.held = self.wait = self.max = self.area = 0
+
+    def add(self, visits):
+        lost, held = visits.wait.count(LOST), visits.wait.count(HELD)
+        self.count, self.lost, self.held = self.count + len(visits), self.lost + lost, self.held + held
+        self.wait += sum(visits.wait) - lost * LOST - held * HELD
+        self.max = max(self.max, max(visits.wait))
+        self.area += sum(visits.depart) - sum(visits.arrive)
+        if lost or held:
+            # In place of what stands for its departure, a lost visit leaves as it comes, and a held one at the end.
+            self.area += sum(arrive - LOST for arrive, wait in zip(visits.arrive, visits.wait) if wait == LOST)
+            self.area += held * (self.span - HELD)
+
+    def told(self):
+        return self.count, self.count - self.lost - self.held, self.lost, self.held, self.wait, self.max, self.area
+
+
+def _fill(visits, numbers, count):
+    """Puts four numbers a line of so many lines into visits. Whether they are that many, and in range."""
+    words = numbers.split()
+    if len(words) != 4 * count:
+        return False
+    try:
+        for at, name in enumerate(FIELDS):
+            getattr(visits, name).fromlist(list(map(int, words[at::4])))
+    except OverflowError:
+        return False
+    return True

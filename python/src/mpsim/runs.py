@@ -1,0 +1,177 @@
+"""The calls that run the three programs.
+
+What each of them takes:
+
+- A model is a Model, a text (str with a line feed, or bytes), or a path (str or PathLike).
+- A trace is a path, a text, a data frame of pandas or polars with the columns `source` and `time`, or rows: dicts, named tuples, or sequences, of
+  which the first may be the header. Rows without a header are a source, a time and the values of the columns in the order in which the model names
+  them first. Times and values are whole numbers; a float that is whole is taken as one, since a missing value makes floats of a column.
+- `workers` (int, 1 to 64) and `block` (int, 1 to 65,536) change who does what, and nothing of the report.
+- `timeout` (seconds) is how long a program may take, from its start to its end; where it takes longer it is ended, and TimedOut raised.
+
+What each of them raises: the exceptions of `mpsim.errors`, by the status of the program; ProgramError where there is no program, or it is killed;
+ReportError where what it wrote is no report; TypeError or ValueError for what is no model, trace or edits. KeyboardInterrupt ends the program too.
+Nothing is left behind: no process, no open file, no file on a disk.
+"""
+
+import contextlib
+import time
+from collections.abc import Iterable, Mapping
+
+from .errors import BoundError, ModelError, TraceError, VisitsError
+from .inputs import edits_input, model_input, trace_input
+from .model import Model
+from .processes import Running
+from .report import Reading
+from .sweeps import Scenario, Sweep, scenarios_of
+
+# mpsweep takes so many models.
+MODELS = 64
+
+
+@contextlib.contextmanager
+def _inputs(*makers):
+    """What these make, each of those before it; all is closed behind the block."""
+    with contextlib.ExitStack() as stack:
+        made = []
+        for make in makers:
+            made.append(make(made))
+            stack.callback(made[-1].close)
+        yield made
+
+
+def _model_and_trace(model, trace):
+    return _inputs(lambda _: model_input(model), lambda made: trace_input(trace, made[0]))
+
+
+def _options(jobs=False, workers=None, block=None, form=None):
+    words = ["--jobs"] if jobs else []
+    for name, value in ("--workers", workers), ("--block", block), ("--report", form):
+        words += [name, str(value)] if value is not None else []
+    return words
+
+
+def _report(program, words, inputs, jobs, timeout):
+    with Running(program, words, inputs, timeout=timeout) as running:
+        return Reading(running.stream).report(jobs)
+
+
+def run(model, trace, *, jobs=False, workers=None, block=None, form=None, timeout=None):
+    """The report (Report) of a trace through a model, by mpsim. With `jobs` it has the visits; `form` is 1 or 2, 2 where it isn't given. The head
+    of this module says what models and traces are, and what is raised.
+
+    >>> import mpsim
+    >>> model = mpsim.Model()
+    >>> desk = model.server("desk", "talk", model.source("phone"), model.source("web"))
+    >>> report = mpsim.run(model, [("phone", 0, 30), ("web", 10, 60), ("phone", 20, 15)], jobs=True)
+    >>> report["desk"].max, report.visits["desk"].share_within(20)
+    (70, 0.6666666666666666)
+    """
+    with _model_and_trace(model, trace) as inputs:
+        words = [it.word for it in inputs] + _options(jobs, workers, block, form)
+        return _report("mpsim", words, inputs, jobs, timeout)
+
+
+def made(number, *, jobs=False, workers=None, block=None, form=None, timeout=None):
+    """The report (Report) of the made input of a number (int, 0 to 2^64 - 1), by mpsim. It raises what `run` does.
+
+    >>> import mpsim
+    >>> mpsim.made(7).jobs
+    20159
+    """
+    return _report("mpsim", ["--made", str(number), *_options(jobs, workers, block, form)], [], jobs, timeout)
+
+
+@contextlib.contextmanager
+def visits(model, trace, *, workers=None, block=None, timeout=None):
+    """A run of which nothing is kept: a block with a Reading (`mpsim.report`), whose `nodes` and `exits` are there at once, and whose `pieces()`
+    gives the visits, as NodeVisits of one node each. Who leaves the block early ends the program. It raises what `run` does, at the end of the
+    block at the latest; `timeout` counts the time in the block.
+
+    >>> import mpsim
+    >>> trace = "source,time\\ndoor,0\\ndoor,1\\n"
+    >>> with mpsim.visits("model 1\\nsource door\\nserver desk =4 from door\\n", trace) as reading:
+    ...     sum(wait > 2 for piece in reading.pieces() if piece.node == "desk" for wait in piece.wait)
+    1
+    """
+    with _model_and_trace(model, trace) as inputs:
+        with Running("mpsim", [it.word for it in inputs] + _options(True, workers, block), inputs, timeout=timeout) as running:
+            yield Reading(running.stream)
+
+
+def edit(model, trace, edits, *, timeout=None):
+    """The report (Report) of an edited trace, by mpedit, whose `again` tells how much of the run the edits reach. Edits are a text (str with a line
+    feed, or bytes), a path, or a list of Set and Add. It raises what `run` does, and EditsError.
+
+    >>> import mpsim
+    >>> rows = [("door", 0, 4), ("door", 1, 1)]
+    >>> report = mpsim.edit("model 1\\nsource door\\nserver desk d from door\\n", rows, [mpsim.Set(2, "door", 3, (1,)), mpsim.Add("door", 9, (2,))])
+    >>> report["desk"].wait, report.again.done, report.again.blocks
+    (1, 2, 2)
+    """
+    with _inputs(lambda _: model_input(model), lambda made: trace_input(trace, made[0]), lambda _: edits_input(edits)) as inputs:
+        return _report("mpedit", [it.word for it in inputs], inputs, False, timeout)
+
+
+def sweep(trace, models, *, jobs=False, timeout=None):
+    """One trace through many models: a Sweep of all that `scenarios` hands over, whose arguments it takes and whose exceptions it raises.
+
+    >>> import mpsim
+    >>> models = mpsim.variants("model 2\\nsource calls\\ntrunk lines {lines} =5 from calls\\n", lines=[1, 2, 3])
+    >>> mpsim.sweep([("calls", 0), ("calls", 1), ("calls", 2)], models).curve("lines", "share_lost")
+    [(1, 0.6666666666666666), (2, 0.3333333333333333), (3, 0.0)]
+    """
+    # Where Ctrl-C comes between two scenarios, the program isn't left to whoever holds the traceback.
+    with contextlib.closing(scenarios(trace, models, jobs=jobs, timeout=timeout)) as coming:
+        return Sweep((it.label, it) for it in coming)
+
+
+def scenarios(trace, models, *, jobs=False, timeout=None):
+    """One trace through many models: each Scenario as it comes, in the order of the models. They are a dict by labels, or a list, labelled 1, 2 and
+    so on; any number of them.
+
+    mpsweep runs them, 64 a call. It writes no lines of jobs: with `jobs` each model has a run of mpsim, which takes longer, and its report has the
+    visits. A model that is refused, or whose run is, hands over a Scenario with its status; what `run` raises besides stops all: a file that can't
+    be read, no memory, and a time that is out, which is that of all runs together. Of a list of rows the first model says which column is which.
+    Who stops early lets the iterator go, or closes it (`contextlib.closing`), and with it the program.
+
+    >>> import mpsim
+    >>> models = mpsim.variants("model 1\\nsource door\\nserver desk ={ticks} from door\\n", ticks=[1, 2, 4])
+    >>> for scenario in mpsim.scenarios([("door", 0), ("door", 1)], models, jobs=True):
+    ...     print(scenario.label, scenario.report.visits["desk"].share_within(0))
+    1 1.0
+    2 0.5
+    4 0.5
+    """
+    if isinstance(models, (str, bytes, Model)) or not isinstance(models, Iterable):
+        raise TypeError("models are a dict or a list of models")
+    labelled = list(models.items() if isinstance(models, Mapping) else enumerate(models, 1))
+    return _scenarios(trace, labelled, jobs, timeout)
+
+
+def _scenarios(trace, labelled, jobs, timeout):
+    if not labelled:
+        return
+    run_some, step = (_by_mpsim, 1) if jobs else (_by_mpsweep, MODELS)
+    end = None if timeout is None else time.monotonic() + timeout
+    with _inputs(lambda _: model_input(labelled[0][1]), lambda made: trace_input(trace, made[0])) as (_, rows):
+        for begin in range(0, len(labelled), step):
+            some = labelled[begin : begin + step]
+            with _inputs(*[lambda _, it=it: model_input(it) for _, it in some]) as texts:
+                left = None if end is None else max(end - time.monotonic(), 0)
+                yield from run_some(rows, texts, [label for label, _ in some], left)
+
+
+def _by_mpsweep(rows, models, labels, timeout):
+    inputs = [rows, *models]
+    with Running("mpsweep", [it.word for it in inputs], inputs, fine=(0, 11), timeout=timeout) as running:
+        yield from scenarios_of(running.stream, labels, inputs)
+
+
+def _by_mpsim(rows, models, labels, timeout):
+    (model,), (label,) = models, labels
+    try:
+        found = Scenario(label, 0, _report("mpsim", [model.word, rows.word, "--jobs"], [model, rows], True, timeout), None)
+    except (ModelError, TraceError, BoundError, VisitsError) as fault:
+        found = Scenario(label, fault.status, None, fault)
+    yield found

@@ -1,0 +1,116 @@
+"""What the package says of itself: the examples of each call and of docs/PYTHON.md are run; and what is asked of its files."""
+
+import ast
+import doctest
+import importlib
+import inspect
+import os
+import tempfile
+import unittest
+
+from ground import PYTHON, ROOT, SOURCES, Test
+
+import mpsim
+
+MODULES = sorted(it.stem for it in (SOURCES / "mpsim").glob("*.py"))
+PAGE = ROOT / "docs" / "PYTHON.md"
+STANDARD = {"array", "bisect", "collections", "contextlib", "csv", "fractions", "importlib", "io", "itertools", "os", "re", "shutil", "signal"}
+STANDARD |= {"subprocess", "sys", "threading", "time", "typing"}
+
+
+def module_of(name):
+    return mpsim if name == "__init__" else importlib.import_module(f"mpsim.{name}")
+
+
+class Examples(Test):
+    def runs(self, examples):
+        told = []
+        result = doctest.DocTestRunner(verbose=False).run(examples, out=told.append)
+        self.assertEqual(result.failed, 0, "".join(told))
+        return result.attempted
+
+    def test_each_call_has_an_example(self):
+        """Each call and each type, but for exceptions, which have one at their head."""
+        finder = doctest.DocTestFinder(exclude_empty=True)
+        for name in mpsim.__all__[1:]:
+            it = getattr(mpsim, name)
+            with self.subTest(name):
+                self.assertTrue(inspect.getdoc(it))
+                examples = sum(len(test.examples) for test in finder.find(it))
+                is_plain = name in ("Visit", "Exit", "Again", "Scenario") or (inspect.isclass(it) and issubclass(it, Exception) and name != "Error")
+                self.assertTrue(examples or is_plain)
+
+    def test_examples_are_run(self):
+        count = 0
+        for name in MODULES:
+            for test in doctest.DocTestFinder().find(module_of(name)):
+                if test.examples:
+                    with self.subTest(test.name):
+                        count += self.runs(test)
+        self.assertGreater(count, 50)
+
+    def test_page(self):
+        """All blocks of docs/PYTHON.md, one behind the other, in a folder with the examples."""
+        lines = PAGE.read_text().splitlines()
+        marks = [at for at, it in enumerate(lines) if it.startswith("```")]
+        blocks = [lines[begin + 1 : end] for begin, end in zip(marks[::2], marks[1::2])]
+        self.assertTrue(len(blocks) > 8 and all(it[0].startswith(">>> ") for it in blocks), blocks)
+        before = os.getcwd()
+        with tempfile.TemporaryDirectory() as folder:
+            os.symlink(ROOT / "examples", os.path.join(folder, "examples"))
+            os.chdir(folder)
+            try:
+                examples = doctest.DocTestParser().get_doctest("".join(f"{line}\n" for it in blocks for line in [*it, ""]), {}, str(PAGE), None, 0)
+                self.assertGreater(self.runs(examples), 20)
+            finally:
+                os.chdir(before)
+
+    def test_readme(self):
+        """The example of the wheel's page."""
+        lines = [it[4:] for it in (PYTHON / "README.md").read_text().splitlines() if it.startswith("    ")]
+        *most, last = lines
+        names = {}
+        exec("\n".join(most), names)
+        self.assertEqual(eval(last, names), (1, 2 / 3))
+
+    def test_page_names_each_call(self):
+        text = PAGE.read_text()
+        for name in mpsim.__all__[1:]:
+            self.assertIn(name, text)
+
+
+def modules_of(tree):
+    """The modules that a source reads, but for the package's own."""
+    for it in ast.walk(tree):
+        if isinstance(it, ast.Import):
+            yield from (name.name.split(".")[0] for name in it.names)
+        elif isinstance(it, ast.ImportFrom) and not it.level:
+            yield it.module.split(".")[0]
+
+
+class Sources(Test):
+    def test_files(self):
+        """Short enough to be read, and for Python 3.9."""
+        for path in sorted(PYTHON.rglob("*.py")):
+            with self.subTest(path.name):
+                lines = path.read_text().splitlines()
+                self.assertLess(len(lines), 400)
+                self.assertEqual([it for it in lines if len(it) > 150], [])
+                ast.parse(path.read_text(), feature_version=(3, 9))
+
+    def test_modules(self):
+        """The package stands on Python's own library; what makes a frame is looked for in few files."""
+        for name in MODULES:
+            found = set(modules_of(ast.parse((SOURCES / "mpsim" / f"{name}.py").read_text())))
+            with self.subTest(name):
+                self.assertEqual(found - STANDARD - ({"pandas", "numpy"} if name in ("report", "node_visits", "sweeps") else set()), set())
+
+    def test_names(self):
+        self.assertEqual(set(mpsim.__all__) - set(dir(mpsim)), set())
+        self.assertEqual(set(mpsim._MODULES) & set(MODULES), set())
+        with self.assertRaises(AttributeError):
+            mpsim.absent
+
+
+if __name__ == "__main__":
+    unittest.main()
