@@ -265,7 +265,7 @@ class Ends(Test):
         self.assertIn(f"{path} can't be started", str(caught.exception))
 
     def test_no_memory(self):
-        script = f'ulimit -v 20000; unset GLIBC_TUNABLES; exec {programs.find("mpsim")} "$@"'
+        script = f'ulimit -v 8000; unset GLIBC_TUNABLES; exec {programs.find("mpsim")} "$@"'
         fault = self.ends(mpsim.OutOfMemory, script, lambda: mpsim.run(DESK, MANY))
         self.assertEqual((fault.told, fault.status), ("mpsim: out of memory", 8))
         self.assertIsInstance(fault, MemoryError)
