@@ -6,6 +6,10 @@ use Rattle.std.specs.List.{AllByRecursion}
 use Rattle.mq_base.proofs.lemmas.Each.{Each-weaker}
 use Rattle.mq_crew.specs.Crew.{total_size}
 use Rattle.mq_crew.proofs.lemmas.Sizes.{total-most}
+use Rattle.mq_maxplus.specs.Maxplus.{affine_act, mp_or_zero}
+use Rattle.mq_maxplus.specs.declared.mp.Mp.TheVariants.{Void}
+use Rattle.mq_scan.specs.Folds.{carries_after}
+use Rattle.mq_server.specs.Jobs.{job}
 use Rattle.mq_branches.specs.Servers.{IsCarried, IsTask}
 use Rattle.mq_branches.specs.declared.servers.Carried.{Carried}
 use Rattle.mq_branches.specs.declared.servers.Task.{Task}
@@ -20,6 +24,10 @@ task_size task = task.blocks.blocks
 
 abbrev pub begun_size : Carried → ℕ
 begun_size begun = begun.task.blocks.blocks
+
+-- the times of a block of a server, where its lists are these
+pub server-times : (arrive arrive' demands demands' : List ℕ) (from n : ℕ) (times : List ℕ) → arrive ≡ arrive' → demands ≡ demands' → times ≡ map mp_or_zero (carries_after affine_act Void (job arrive demands) from n) → times ≡ map mp_or_zero (carries_after affine_act Void (job arrive' demands') from n)
+server-times arrive arrive' demands demands' from n times a d h = h ∙ (λ k. map mp_or_zero (carries_after affine_act Void (job (a k) (d k)) from n))
 
 -- a further server
 pub tasks-more : (tasks : List Task) (at : ℕ) (task : Task) (all all' : List Carried) (begun : Carried) → slice_get tasks at ≡ Some task → begun.task ≡ task → all' ≡ all ++ begun ∷ [] → map task_of all ≡ take at tasks → map task_of all' ≡ take (at + 1) tasks

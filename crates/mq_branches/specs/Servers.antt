@@ -4,9 +4,9 @@ use Rattle.mq_maxplus.specs.Maxplus.{affine_act, affine_then, mp_or_zero}
 use Rattle.mq_maxplus.specs.declared.affine.Affine.{Affine}
 use Rattle.mq_maxplus.specs.declared.mp.Mp.{Mp}
 use Rattle.mq_maxplus.specs.declared.mp.Mp.TheVariants.{Void}
+use Rattle.mq_scan.specs.Blocks.{AreTimesOf, IsSumOf}
 use Rattle.mq_scan.specs.Folds.{AreBefore}
 use Rattle.mq_server.specs.Jobs.{job, IsLateLoad}
-use Rattle.mq_stations.specs.Blocks.{AreTimesOf, IsSumOf}
 use Rattle.mq_branches.specs.declared.servers.Carried.{Carried}
 use Rattle.mq_branches.specs.declared.servers.Task.{Task}
 

@@ -8,9 +8,8 @@ ghost use Rattle.mq_branches.specs.Servers.{AreCarriesOf, AreDeparturesOf, IsCar
 use mq_base::{List, OutOfMemory};
 use mq_crew::{Gate, Pieces, run_parts};
 use mq_maxplus::{Affine, Mp};
-use mq_scan::Blocks;
+use mq_scan::{Blocks, block_carries, block_summary, block_times, joined_times};
 use mq_server::{ServerStep, carries_are_departures};
-use mq_stations::{applied, before_of, joined, sum_of};
 use std::alloc::Global;
 use std::thread::Threads;
 
@@ -39,7 +38,7 @@ impl<'a> Pieces for Task<'a> {
     fn piece(&self, alloc: Global, b: u32) -> Result<Affine, OutOfMemory> {
         let _ = alloc;
         let step = ServerStep::behind(self.arrive, self.demands);
-        Ok(sum_of(&step, &self.blocks, b))
+        Ok(block_summary(&step, &self.blocks, b))
     }
 }
 
@@ -65,7 +64,7 @@ impl<'a> Pieces for Carried<'a> {
 
     fn piece(&self, alloc: Global, b: u32) -> Result<List<u64>, OutOfMemory> {
         let step = ServerStep::behind(self.task.arrive, self.task.demands);
-        applied(alloc, &step, &self.task.blocks, &self.before, b)
+        block_times(alloc, &step, &self.task.blocks, &self.before, b)
     }
 }
 
@@ -81,7 +80,7 @@ fn begun<'a>(
     ensures before { IfOk result (λ begun. AreCarriesOf task.now begun.before) }
 {
     let step = ServerStep::behind(task.arrive, task.demands);
-    let before = before_of(alloc, &step, &task.blocks, sums)?;
+    let before = block_carries(alloc, &step, &task.blocks, sums)?;
     Ok(Carried {
         task: *task,
         before,
@@ -96,7 +95,7 @@ fn finished(alloc: Global, task: &Task, group: &List<List<u64>>) -> Result<List<
 {
     let step = ServerStep::behind(task.arrive, task.demands);
     carries_are_departures(&step);
-    joined(alloc, &step, &task.blocks, group)
+    joined_times(alloc, &step, &task.blocks, group)
 }
 
 // The same for several servers.

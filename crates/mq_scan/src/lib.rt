@@ -3,10 +3,12 @@
 #![tactic(auto)]
 
 mod blocks;
+mod by_blocks;
 mod passes;
 mod step;
 
 pub use blocks::{Blocks, block_size, cut};
+pub use by_blocks::{block_carries, block_summary, block_times, joined_times};
 pub use passes::{
     apply, carries, ranges_append, scan, scan_times, summaries_act, summarise, times, times_append,
 };

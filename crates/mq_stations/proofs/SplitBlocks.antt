@@ -12,13 +12,12 @@ use Rattle.mq_core.specs.Streams.{picked}
 use Rattle.mq_core.specs.declared.model.Route.{Route}
 use Rattle.mq_core.specs.declared.model.Rows.{Rows}
 use Rattle.mq_core.specs.declared.model.Stream.{Stream}
+use Rattle.mq_scan.specs.Blocks.{from_of, to_of}
 use Rattle.mq_scan.specs.declared.blocks.Blocks.{Blocks}
 use Rattle.mq_split.specs.Outs.{PiecesJoin, outs_from, picked_stream, piece_of}
-use Rattle.mq_stations.specs.Blocks.{from_of, to_of}
 use Rattle.mq_stations.specs.Leaving.{AreRouted}
 use Rattle.mq_stations.specs.Scans.{AreSplitBlocks, AreSplitParts, HaveParts}
-use Rattle.mq_scan.proofs.lemmas.Blocks.{block-start, blocks-few}
-use Rattle.mq_stations.proofs.lemmas.Blocks.{blocks-all}
+use Rattle.mq_scan.proofs.lemmas.Blocks.{block-start, blocks-few, last-end}
 
 -- Parts of a list.
 get-drop : {X : Type 0} (xs : List X) (n k : ℕ) → slice_get (drop n xs) k ≡ slice_get xs (n + k)
@@ -134,6 +133,5 @@ pub behind-ends : PiecesJoin → (out : ℕ) (group : List (List Stream)) (b : �
     (route : Route) (arrivals : Stream) (values : List ℕ) (blocks : Blocks) → out < outputs_by route → AreSplitBlocks route arrivals values blocks group → stream ≡ picked_stream (outs_from route 0 values) arrivals out
 behind-ends law out group b stream more less was route arrivals values blocks l h =
     let len = h.len in
-    let last : b ≡ blocks.blocks = omega arith in
-    let ends : min (b * blocks.block) blocks.n ≡ length values = ap (λ n. min (n * blocks.block) blocks.n) last ∙ (blocks-all blocks ∙ h.all) in
+    let ends : min (b * blocks.block) blocks.n ≡ length values = last-end blocks b (omega arith) ∙ h.all in
     was route arrivals values blocks l h ∙ (ap (λ n. piece_of route arrivals values 0 n out) ends ∙ law.whole route arrivals values h.valued out)

@@ -1,4 +1,3 @@
-pub mod Blocks
 pub mod Late
 pub mod Leaving
 pub mod Losses

@@ -12,11 +12,11 @@ use Rattle.mq_core.specs.declared.model.Stream.{Stream}
 use Rattle.mq_maxplus.specs.Matrices.{entry, matrix_act, matrix_then}
 use Rattle.mq_maxplus.specs.Maxplus.{mp_or_zero}
 use Rattle.mq_maxplus.specs.declared.mp.Mp.{Mp}
+use Rattle.mq_scan.specs.Blocks.{AreTimesOf, IsSumOf, from_of, to_of}
 use Rattle.mq_scan.specs.Folds.{AreBefore}
 use Rattle.mq_scan.specs.declared.blocks.Blocks.{Blocks}
 use Rattle.mq_split.specs.Outs.{ArePieces, IsValued}
 use Rattle.mq_tandem.specs.Rows.{job_matrix, kept, last_row, none_kept}
-use Rattle.mq_stations.specs.Blocks.{AreTimesOf, IsSumOf, from_of, to_of}
 use Rattle.mq_stations.specs.declared.forkjoin.ForkJoinScan.{ForkJoinScan}
 use Rattle.mq_stations.specs.declared.tandem.TandemScan.{TandemScan}
 

@@ -8,7 +8,6 @@ ghost use Rattle.mq_core.specs.SequenceLaws.{sends_once};
 ghost use Rattle.mq_stations.specs.Leaving.{IsLeft, IsLoad};
 ghost use Rattle.mq_stations.specs.declared.outflow.Outflow.{Outflow as TheOutflow};
 
-mod blocks;
 mod delay;
 mod forkjoin;
 mod late;
@@ -20,7 +19,6 @@ mod split;
 mod tandem;
 mod trunk;
 
-pub use blocks::{applied, before_of, joined, sum_of};
 use delay::delay_whole;
 use forkjoin::forkjoin_whole;
 pub use forkjoin::{ForkJoinScan, branch_demands, forkjoin_scan};

@@ -8,12 +8,11 @@ ghost use Rattle.mq_stations.specs.Leaving.{AreAsked, AreServed, IsLoad};
 ghost use Rattle.mq_maxplus.specs.declared.mp.Mp.{Mp as TheMp};
 ghost use Rattle.mq_tandem.specs.Rows.{IsTandemLoad};
 
-use crate::blocks::{applied, before_of, joined, sum_of};
 use crate::outflow::all_demands_of;
 use mq_base::{List, OutOfMemory};
 use mq_core::{Demand, Rows, Stage, Stream};
 use mq_maxplus::Matrix;
-use mq_scan::{Blocks, cut};
+use mq_scan::{Blocks, block_carries, block_summary, block_times, cut, joined_times};
 use mq_tandem::{Latest, TandemStep, carries_hold_departures, tandem_departures};
 use std::alloc::Global;
 
@@ -92,7 +91,7 @@ pub fn tandem_sum(arrivals: &Stream, scan: &TandemScan, b: u32) -> Matrix
     ensures { IsTandemSum arrivals.now scan.now b result }
 {
     let step = TandemStep::new(arrivals, &scan.demands, &scan.places);
-    sum_of(&step, &scan.blocks, b)
+    block_summary(&step, &scan.blocks, b)
 }
 
 /// The latest departures before each block, of the summaries of all. It refuses for want of memory alone.
@@ -109,7 +108,7 @@ pub fn tandem_carries(
     ensures { IfOk result (λ carries. AreTandemCarries arrivals.now scan.now carries) }
 {
     let step = TandemStep::new(arrivals, &scan.demands, &scan.places);
-    before_of(alloc, &step, &scan.blocks, sums)
+    block_carries(alloc, &step, &scan.blocks, sums)
 }
 
 /// When the jobs of block `b` depart, in ticks, from the latest departures before each block. It refuses
@@ -128,7 +127,7 @@ pub fn tandem_times(
     ensures { IfOk result (λ times. AreTandemTimes arrivals.now scan.now b times) }
 {
     let step = TandemStep::new(arrivals, &scan.demands, &scan.places);
-    applied(alloc, &step, &scan.blocks, before, b)
+    block_times(alloc, &step, &scan.blocks, before, b)
 }
 
 /// When all jobs depart, in ticks, of the departures of each block, one after another. It refuses for want
@@ -147,7 +146,7 @@ pub fn tandem_joined(
 {
     let step = TandemStep::new(arrivals, &scan.demands, &scan.places);
     carries_hold_departures(&step);
-    joined(alloc, &step, &scan.blocks, group)
+    joined_times(alloc, &step, &scan.blocks, group)
 }
 
 // What each job asks for at each stage, in ticks.

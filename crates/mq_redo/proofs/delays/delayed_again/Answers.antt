@@ -6,7 +6,7 @@ use Rattle.mq_redo.specs.Staying.{HaveStayed, IsKeptScan}
 use Rattle.mq_redo.proofs.Alone.{delayed-all}
 use Rattle.mq_redo.proofs.Same.{delay-same}
 use Rattle.mq_scan.specs.Folds.{carries_after}
-use Rattle.mq_stations.proofs.lemmas.Blocks.{blocks-all}
+use Rattle.mq_scan.proofs.lemmas.Blocks.{last-end}
 use Rattle.mq_stations.proofs.lemmas.Leaves.{delay-departs, load-sound}
 use Rattle.mq_redo.proofs.delays.delayed_again.Goals as goal
 
@@ -36,7 +36,7 @@ returns-clause-departs g c =
     let step = c.new-step.result in
     let blocks = c.args.blocks.now in
     let sound = load-sound c.args.rows.now (Delay c.args.demand.now) c.args.demand.now c.args.arrivals.now c.in_ok-demands.demands c.requires.load c.requires.load.told c.in_ok-demands.ensures in
-    let all : min (blocks.blocks * blocks.block) blocks.n ≡ length c.args.arrivals.now.time = blocks-all blocks ∙ c.requires.all in
+    let all : min (blocks.blocks * blocks.block) blocks.n ≡ length c.args.arrivals.now.time = last-end blocks blocks.blocks (omega arith) ∙ c.requires.all in
     delay-departs c.args.rows.now c.args.demand.now c.args.arrivals.now c.in_ok-demands.demands c.in_ok-done.done.times.items c.in_ok-demands.ensures
     (c.in_ok-done.ensures.done.times_are ∙ ((λ i. map as_is (carries_after own_only 0 (delay_job (c.new-step.ensures.arrive i) (c.new-step.ensures.demands i)) 0 (all i))) ∙ delayed-all c.args.arrivals.now.time c.in_ok-demands.demands sound.each))
 

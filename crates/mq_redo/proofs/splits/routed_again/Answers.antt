@@ -13,7 +13,7 @@ use Rattle.mq_redo.proofs.Staying.{kept-many, staying, times-many}
 use Rattle.mq_scan.specs.Folds.{carries_after}
 use Rattle.mq_scan.specs.declared.blocks.Blocks.{Blocks}
 use Rattle.mq_split.specs.Outs.{outs_from, picked_stream}
-use Rattle.mq_stations.proofs.lemmas.Blocks.{blocks-all}
+use Rattle.mq_scan.proofs.lemmas.Blocks.{last-end}
 use Rattle.mq_stations.proofs.lemmas.Leaves.{routed-outputs, splits}
 use Rattle.mq_redo.proofs.splits.routed_again.Goals as goal
 
@@ -41,7 +41,7 @@ redone_behind-requires-clause-stays g c =
 -- the outputs of all jobs
 outs-are : (route : Route) (values times : List ℕ) (blocks : Blocks) → blocks.n ≡ length values → times ≡ map as_is (carries_after own_only 0 (λ k. output_at route (get_or values k 0) k) 0 (min (blocks.blocks * blocks.block) blocks.n)) → times ≡ outs_from route 0 values
 outs-are route values times blocks e h =
-    h ∙ (ap (λ (n : ℕ). map as_is (carries_after own_only 0 (λ k. output_at route (get_or values k 0) k) 0 n)) (blocks-all blocks ∙ e) ∙ routed-all route values)
+    h ∙ (ap (λ (n : ℕ). map as_is (carries_after own_only 0 (λ k. output_at route (get_or values k 0) k) 0 n)) (last-end blocks blocks.blocks (omega arith) ∙ e) ∙ routed-all route values)
 
 pub narrow_outs-requires : goal.narrow_outs-requires
 narrow_outs-requires g c =
@@ -55,7 +55,7 @@ narrow_outs-requires g c =
 
 -- one of each job
 outs-many : (route : Route) (values times : List ℕ) (blocks : Blocks) → times ≡ map as_is (carries_after own_only 0 (λ k. output_at route (get_or values k 0) k) 0 (min (blocks.blocks * blocks.block) blocks.n)) → length times ≡ blocks.n
-outs-many route values times blocks h = ap length h ∙ (times-many as_is own_only 0 (λ k. output_at route (get_or values k 0) k) 0 (min (blocks.blocks * blocks.block) blocks.n) ∙ blocks-all blocks)
+outs-many route values times blocks h = ap length h ∙ (times-many as_is own_only 0 (λ k. output_at route (get_or values k 0) k) 0 (min (blocks.blocks * blocks.block) blocks.n) ∙ last-end blocks blocks.blocks (omega arith))
 
 pub streams_by-requires-clause-jobs : goal.streams_by-requires-clause-jobs
 streams_by-requires-clause-jobs g c =

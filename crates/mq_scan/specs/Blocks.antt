@@ -1,4 +1,4 @@
--- What the pieces of a station that is scanned are, block by block, whatever its jobs do.
+-- The blocks of a cut of all jobs: the indices of each, what its jobs do together, and the times that are read behind them.
 use Rattle.std.specs.Prelude.{◌≡◌, ◌<◌, ◌+◌, ◌-◌, ◌*◌, ℕ, List, length, map, min, slice_index_or}
 use Rattle.mq_scan.specs.Folds.{carries_after, span}
 use Rattle.mq_scan.specs.declared.blocks.Blocks.{Blocks}

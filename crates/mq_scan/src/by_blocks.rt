@@ -1,14 +1,14 @@
-// The passes over the blocks of a station that is scanned, whatever its jobs do.
+// The passes of a scan over the blocks of a cut of all jobs.
 ghost use Rattle.std.specs.Prelude.{◌≡◌, ◌<◌, ℕ, List as Items, length, map, IfOk, slice_index_or};
+ghost use Rattle.mq_scan.specs.Blocks.{AreSumsOf, AreTimesOf, IsSumOf};
 ghost use Rattle.mq_scan.specs.Folds.{AreBefore, carries_after};
-ghost use Rattle.mq_stations.specs.Blocks.{AreSumsOf, AreTimesOf, IsSumOf};
 
+use crate::{Blocks, Step, Timed, carries, summarise, times};
 use mq_base::{List, OutOfMemory};
-use mq_scan::{Blocks, Step, Timed, carries, summarise, times, times_append};
 use std::alloc::Global;
 
 /// What the jobs of block `b` do together, which is below the number of blocks of a cut of all jobs.
-pub fn sum_of<P: Step>(step: &P, blocks: &Blocks, b: u32) -> P::Summary
+pub fn block_summary<P: Step>(step: &P, blocks: &Blocks, b: u32) -> P::Summary
     requires all { blocks.now.n ≡ P.size step.now }
     requires inside { b < blocks.now.blocks }
     ensures { IsSumOf P.joined (P.part step.now) blocks.now b result }
@@ -19,7 +19,7 @@ pub fn sum_of<P: Step>(step: &P, blocks: &Blocks, b: u32) -> P::Summary
 
 /// The carry before each block of a cut of all jobs, of the summaries of all blocks. It refuses for want
 /// of memory alone.
-pub fn before_of<P: Step>(
+pub fn block_carries<P: Step>(
     alloc: Global,
     step: &P,
     blocks: &Blocks,
@@ -34,9 +34,9 @@ pub fn before_of<P: Step>(
     carries(alloc, step, sums)
 }
 
-/// When the jobs of block `b` of a cut of all jobs depart, in ticks, from the carry before each block. It
-/// refuses for want of memory alone.
-pub fn applied<P: Timed>(
+/// The time that is read of the carry after each job of block `b` of a cut of all jobs, from the carry
+/// before each block. It refuses for want of memory alone.
+pub fn block_times<P: Timed>(
     alloc: Global,
     step: &P,
     blocks: &Blocks,
@@ -53,9 +53,9 @@ pub fn applied<P: Timed>(
     times(alloc, step, from, to, *before.get(b as usize))
 }
 
-/// When all jobs depart, in ticks, of the departures of each block, one after another. It refuses for want
-/// of memory alone.
-pub fn joined<P: Timed>(
+/// The time that is read of the carry after each job, of the times of each block of a cut of all jobs, one
+/// block after another. It refuses for want of memory alone.
+pub fn joined_times<P: Timed>(
     alloc: Global,
     step: &P,
     blocks: &Blocks,
@@ -64,12 +64,11 @@ pub fn joined<P: Timed>(
     requires all { blocks.now.n ≡ P.size step.now }
     requires len { length group.now ≡ blocks.now.blocks }
     requires group { (b : ℕ) (d : Items ℕ) → b < length group.now → AreTimesOf (P.time_of step.now) P.acted (P.start step.now) (P.part step.now) blocks.now b (slice_index_or group.now b d) }
-    ensures { IfOk result (λ departs. departs ≡ map (P.time_of step.now) (carries_after P.acted (P.start step.now) (P.part step.now) 0 (P.size step.now))) }
+    ensures { IfOk result (λ times. times ≡ map (P.time_of step.now) (carries_after P.acted (P.start step.now) (P.part step.now) 0 (P.size step.now))) }
 {
-    times_append(step);
-    let mut departs = Vec::with_capacity(alloc, step.count() as usize)?;
+    let mut times = Vec::with_capacity(alloc, step.count() as usize)?;
     'parts: for b in 0..group.len() {
-        departs.extend_from_slice(group.get(b).as_slice())?;
+        times.extend_from_slice(group.get(b).as_slice())?;
     }
-    Ok(List::from_vec(departs))
+    Ok(List::from_vec(times))
 }

@@ -1,8 +1,8 @@
 use Rattle.std.proofs.Common.{ℕ, List}
 use Rattle.std.proofs.lemmas.Result.{IfOk-weaker}
 use Rattle.mq_scan.specs.Folds.{AreBefore, AreSummaries}
-use Rattle.mq_stations.proofs.lemmas.Blocks.{are-summaries}
-use Rattle.mq_stations.proofs.blocks.before_of.Goals as goal
+use Rattle.mq_scan.proofs.Cuts.{are-summaries}
+use Rattle.mq_scan.proofs.by_blocks.block_carries.Goals as goal
 
 pub carries-requires : goal.carries-requires
 carries-requires g c =

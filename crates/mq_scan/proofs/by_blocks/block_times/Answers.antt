@@ -1,7 +1,7 @@
 use Rattle.std.proofs.Common.{sym, ap, ◌∙◌}
 use Rattle.std.proofs.lemmas.Option.{get_or_from_slice_get, slice_get_within}
 use Rattle.mq_scan.specs.Folds.{fold_to}
-use Rattle.mq_stations.proofs.blocks.applied.Goals as goal
+use Rattle.mq_scan.proofs.by_blocks.block_times.Goals as goal
 
 pub times-requires-clause-before : goal.times-requires-clause-before
 times-requires-clause-before g c =
