@@ -10,36 +10,47 @@ use Rattle.mq_crew.specs.Crew.{AreAll, total_size}
 use Rattle.mq_counts.proofs.Lists.{among-all, pushed-at}
 use Rattle.mq_counts.proofs.Pieces.{few-pieces, pieces-all}
 use Rattle.mq_counts.specs.Tails.{AreCountedOf, IsTailIn}
-use Rattle.mq_counts.specs.TailPieces.{AreNodeWaits, AreWaitsIn, IsPieceCounts, IsWaited, counted_pieces}
-use Rattle.mq_counts.specs.Totals.{pieces_in, start_of}
+use Rattle.mq_counts.specs.TailPieces.{AreNodeWaits, AreWaitsIn, IsPieceCounts, IsWaited, counted_pieces, waits_in_piece}
+use Rattle.mq_counts.specs.Totals.{IsSumIn, pieces_in, start_of}
 use Rattle.mq_counts.specs.declared.tail_pieces.NodeWaits.{NodeWaits}
 use Rattle.mq_counts.specs.declared.totals.NodeVisits.{NodeVisits}
 use Rattle.mq_stats.specs.Numbers.{visits_between}
 use Rattle.mq_stats.specs.Percentiles.{ArePercentiles, waits_at}
-use Rattle.mq_stats.specs.WaitCounts.{AreCountsTo, WaitsJoin}
+use Rattle.mq_stats.specs.WaitCounts.{AreCounts, WaitsJoin}
+use Rattle.mq_stats.specs.declared.blocks.BlockCount.{BlockCount}
 use Rattle.mq_stats.specs.declared.tails.Percentiles.{Percentiles}
 use Rattle.mq_stats.specs.declared.wait_counts.WaitCounts.{WaitCounts}
 
 -- Pieces. The one at an index is among all.
-pub counts-at : (node : NodeWaits) (group : List WaitCounts) (b : ℕ) (counts : WaitCounts) → AreAll (IsPieceCounts node) (counted_pieces node) group → slice_get group b ≡ Some counts → IsPieceCounts node b counts
+pub counts-at : (node : NodeWaits) (group : List (Option WaitCounts)) (b : ℕ) (counts : Option WaitCounts) → AreAll (IsPieceCounts node) (counted_pieces node) group → slice_get group b ≡ Some counts → IsPieceCounts node b counts
 counts-at node group b counts all here = among-all (IsPieceCounts node) (counted_pieces node) group b counts all here
+
+-- the counts of the waits of a piece, where there are some
+pub counts-there : (node : NodeWaits) (group : List (Option WaitCounts)) (b : ℕ) (counts : WaitCounts) → AreAll (IsPieceCounts node) (counted_pieces node) group → slice_get group b ≡ Some (Some counts) → AreCounts (waits_in_piece node b) counts
+counts-there node group b counts all here = (counts-at node group b (Some counts) all here).waits
 
 -- the counts of the waits before a piece
 abbrev pub AreCountsBefore : NodeWaits → ℕ → WaitCounts → Type 0
-AreCountsBefore node b counts = AreCountsTo node.most (waits_at node.rows.now node.kind.now (visits_between 0 (start_of node.size (length node.visits.now.job) b) node.visits.now)) counts
+AreCountsBefore node b counts = AreCounts (waits_at node.rows.now node.kind.now (visits_between 0 (start_of node.size (length node.visits.now.job) b) node.visits.now)) counts
 
-pub counts-more : WaitsJoin → (node : NodeWaits) (b : ℕ) (sum piece sum' : WaitCounts) → IsWaited node → AreCountsBefore node b sum → IsPieceCounts node b piece →
-    ((most : ℕ) (waits more : List ℕ) → AreCountsTo most waits sum → AreCountsTo most more piece → AreCountsTo most (waits ++ more) sum') → AreCountsBefore node (b + 1) sum'
+-- no wait is before the first
+pub counts-none : WaitsJoin → (node : NodeWaits) (sum : WaitCounts) → AreCounts [] sum → AreCountsBefore node 0 sum
+counts-none law node sum h =
+    let none : 0 ≡ start_of node.size (length node.visits.now.job) 0 = omega arith in
+    subst (λ n. AreCounts (waits_at node.rows.now node.kind.now (visits_between 0 n node.visits.now)) sum) none h
+
+pub counts-more : WaitsJoin → (node : NodeWaits) (b : ℕ) (sum piece sum' : WaitCounts) → IsWaited node → AreCountsBefore node b sum → AreCounts (waits_in_piece node b) piece →
+    ((waits more : List ℕ) → AreCounts waits sum → AreCounts more piece → AreCounts (waits ++ more) sum') → AreCountsBefore node (b + 1) sum'
 counts-more law node b sum piece sum' waited before its added =
     let count = length node.visits.now.job in
     let first : 0 ≤ start_of node.size count b = omega arith in
     let rises : start_of node.size count b ≤ start_of node.size count (b + 1) = omega arith in
     let within : start_of node.size count (b + 1) ≤ count = omega arith in
-    subst (λ (waits : List ℕ). AreCountsTo node.most waits sum')
-    (law.join node.rows.now node.kind.now node.visits.now waited.visits 0 (start_of node.size count b) (start_of node.size count (b + 1)) first rises within) (added node.most _ _ before its)
+    subst (λ (waits : List ℕ). AreCounts waits sum')
+    (law.join node.rows.now node.kind.now node.visits.now waited.visits 0 (start_of node.size count b) (start_of node.size count (b + 1)) first rises within) (added _ _ before its)
 
 -- together they are no more than came
-pub counts-few : WaitsJoin → (node : NodeWaits) (b : ℕ) (sum piece : WaitCounts) → IsWaited node → AreCountsBefore node b sum → IsPieceCounts node b piece → sum.many + piece.many ≤ 1048576
+pub counts-few : WaitsJoin → (node : NodeWaits) (b : ℕ) (sum piece : WaitCounts) → IsWaited node → AreCountsBefore node b sum → AreCounts (waits_in_piece node b) piece → sum.many + piece.many ≤ 1048576
 counts-few law node b sum piece waited before its =
     let jobs = node.visits.now.job in
     let count = length jobs in
@@ -47,7 +58,7 @@ counts-few law node b sum piece waited before its =
     let rises : start_of node.size count b ≤ start_of node.size count (b + 1) = omega arith in
     let within : start_of node.size count (b + 1) ≤ count = omega arith in
     let low : length (waits_at node.rows.now node.kind.now (visits_between 0 (start_of node.size count b) node.visits.now)) ≤ length (visits_between 0 (start_of node.size count b) node.visits.now).job = law.few node.rows.now node.kind.now (visits_between 0 (start_of node.size count b) node.visits.now) in
-    let high : length (waits_at node.rows.now node.kind.now (visits_between (start_of node.size count b) (start_of node.size count (b + 1)) node.visits.now)) ≤ length (visits_between (start_of node.size count b) (start_of node.size count (b + 1)) node.visits.now).job = law.few node.rows.now node.kind.now (visits_between (start_of node.size count b) (start_of node.size count (b + 1)) node.visits.now) in
+    let high : length (waits_in_piece node b) ≤ length (visits_between (start_of node.size count b) (start_of node.size count (b + 1)) node.visits.now).job = law.few node.rows.now node.kind.now (visits_between (start_of node.size count b) (start_of node.size count (b + 1)) node.visits.now) in
     let came = length-between jobs 0 (start_of node.size count b) (omega arith) (omega arith) in
     let more = length-between jobs (start_of node.size count b) (start_of node.size count (b + 1)) rises within in
     let first = before.many in
@@ -58,11 +69,11 @@ counts-few law node b sum piece waited before its =
 some-pieces : (most pieces : ℕ) → 0 < most → cond {A = ℕ} (most == 0) 0 pieces ≡ pieces
 some-pieces most pieces l = grind (arith, nat_tests)
 
-pub counts-all : WaitsJoin → (node : NodeWaits) (b : ℕ) (sum : WaitCounts) → IsWaited node → 0 < node.most → b ≡ counted_pieces node → AreCountsBefore node b sum → AreCountsTo node.most (waits_at node.rows.now node.kind.now node.visits.now) sum
+pub counts-all : WaitsJoin → (node : NodeWaits) (b : ℕ) (sum : WaitCounts) → IsWaited node → 0 < node.most → b ≡ counted_pieces node → AreCountsBefore node b sum → AreCounts (waits_at node.rows.now node.kind.now node.visits.now) sum
 counts-all law node b sum waited some e before =
     let count = length node.visits.now.job in
     let end : start_of node.size count b ≡ count = ap (start_of node.size count) (e ∙ some-pieces node.most (pieces_in node.size count) some) ∙ pieces-all node.size count (let least = waited.least in omega arith) in
-    subst (λ v. AreCountsTo node.most (waits_at node.rows.now node.kind.now v) sum) (ap (λ n. visits_between 0 n node.visits.now) end ∙ law.whole node.rows.now node.kind.now node.visits.now waited.visits) before
+    subst (λ v. AreCounts (waits_at node.rows.now node.kind.now v) sum) (ap (λ n. visits_between 0 n node.visits.now) end ∙ law.whole node.rows.now node.kind.now node.visits.now waited.visits) before
 
 -- Nodes. Few visits make few pieces.
 at-most : (b : Bool) (n : ℕ) → n ≤ 128 → cond b 0 n ≤ 128
@@ -127,3 +138,7 @@ counted-more nodes v counted counted' tail so_far at grown =
       len = omega arith;
       each = λ u x here. pushed-at (λ w (t : Option Percentiles). IfSome t (IsTailIn nodes w)) v counted counted' tail so_far.len so_far.each at grown u x here;
     }
+
+-- the counts that were made with the totals of the node at an index are those of its waits
+pub sum-at : (nodes : List NodeVisits) (v : ℕ) (its : NodeWaits) (sum : BlockCount) (node : NodeVisits) → slice_get nodes v ≡ Some node → AreWaitsIn nodes v its → IsSumIn nodes v sum → IfSome sum.waits (AreCounts (waits_at its.rows.now its.kind.now its.visits.now))
+sum-at nodes v its sum node there at are = subst (λ (waits : List ℕ). IfSome sum.waits (AreCounts waits)) (sym (at node there)) (are node there).waits

@@ -2,8 +2,8 @@ pub mod Lists
 pub mod Sequences
 pub mod Pieces
 pub mod NodeTotals
+pub mod Exits
 pub mod Spans
-pub mod NoWaits
 pub mod CountedTails
 pub mod Endings
 pub mod Staying

@@ -1,5 +1,6 @@
 pub mod Counts
 pub mod Later
+pub mod Leaving
 pub mod Runs
 pub mod TailPieces
 pub mod Tails

@@ -1,12 +1,13 @@
 -- The waits at nodes, counted by pieces of their visits.
 use Rattle.std.specs.List.{AllByRecursion}
-use Rattle.std.specs.Prelude.{◌≡◌, ◌+◌, ◌≤◌, ◌==◌, ℕ, List, cond, length, Some, slice_get}
+use Rattle.std.specs.Prelude.{◌≡◌, ◌+◌, ◌≤◌, ◌↔◌, ◌==◌, ℕ, IfSome, IsSome, List, Option, cond, length, Some, slice_get}
+use Rattle.mq_core.specs.declared.model.Visits.{Visits}
 use Rattle.mq_counts.specs.Totals.{pieces_in, start_of}
 use Rattle.mq_counts.specs.declared.tail_pieces.NodeWaits.{NodeWaits}
 use Rattle.mq_counts.specs.declared.totals.NodeVisits.{NodeVisits}
 use Rattle.mq_stats.specs.Numbers.{AreVisits, visits_between}
-use Rattle.mq_stats.specs.Percentiles.{waits_at}
-use Rattle.mq_stats.specs.WaitCounts.{AreCountsTo}
+use Rattle.mq_stats.specs.Percentiles.{longest_wait, waits_at}
+use Rattle.mq_stats.specs.WaitCounts.{AreCounts}
 use Rattle.mq_stats.specs.declared.wait_counts.WaitCounts.{WaitCounts}
 
 -- visits to a node, a bound up to which a table can count, and how many visits a piece may have: no fewer than a table counts ticks
@@ -21,11 +22,20 @@ pub record IsWaited (node : NodeWaits) : Type 0 where
 abbrev pub counted_pieces : NodeWaits → ℕ
 counted_pieces node = cond (node.most == 0) 0 (pieces_in node.size (length node.visits.now.job))
 
--- the counts of the waits of the visits of a piece
-abbrev pub IsPieceCounts : NodeWaits → ℕ → WaitCounts → Type 0
-IsPieceCounts node b counts =
+-- the visits of a piece
+abbrev pub visits_in_piece : NodeWaits → ℕ → Visits
+visits_in_piece node b =
     let count = length node.visits.now.job in
-    AreCountsTo node.most (waits_at node.rows.now node.kind.now (visits_between (start_of node.size count b) (start_of node.size count (b + 1)) node.visits.now)) counts
+    visits_between (start_of node.size count b) (start_of node.size count (b + 1)) node.visits.now
+
+-- and their waits
+abbrev pub waits_in_piece : NodeWaits → ℕ → List ℕ
+waits_in_piece node b = waits_at node.rows.now node.kind.now (visits_in_piece node b)
+
+-- the counts of these waits, exactly where none is longer than can be counted
+pub record IsPieceCounts (node : NodeWaits) (b : ℕ) (counts : Option WaitCounts) : Type 0 where
+  pub told : IsSome counts ↔ (longest_wait node.rows.now node.kind.now (visits_in_piece node b) ≤ node.most)
+  pub waits : IfSome counts (AreCounts (waits_in_piece node b))
 
 -- the waits of these visits are those at a node
 abbrev pub AreWaitsIn : List NodeVisits → ℕ → NodeWaits → Type 0

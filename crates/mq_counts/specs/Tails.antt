@@ -2,7 +2,7 @@
 use Rattle.std.specs.List.{AllByRecursion}
 use Rattle.std.specs.Prelude.{◌≡◌, ◌<◌, ◌^◌, ℕ, IfSome, List, Option, length, Some, slice_get}
 use Rattle.mq_crew.specs.Crew.{AreAll}
-use Rattle.mq_counts.specs.Totals.{AreLongestOf, IsVisited}
+use Rattle.mq_counts.specs.Totals.{AreSumsOf, IsVisited}
 use Rattle.mq_counts.specs.declared.tails.KnownNodes.{KnownNodes}
 use Rattle.mq_counts.specs.declared.tails.NodesTails.{NodesTails}
 use Rattle.mq_counts.specs.declared.totals.NodeVisits.{NodeVisits}
@@ -26,10 +26,10 @@ pub record AreCountedOf (nodes : List NodeVisits) (count : ℕ) (counted : List 
   pub len : length counted ≡ count
   pub each : (v : ℕ) (tail : Option Percentiles) → slice_get counted v ≡ Some tail → IfSome tail (IsTailIn nodes v)
 
--- visits to nodes, with totals that have the longest of their waits
+-- visits to nodes, with what is counted of them
 pub record AreKnown (known : KnownNodes) : Type 0 where
   pub visited : AllByRecursion IsVisited known.nodes.now
-  pub totals : AreLongestOf known.nodes.now known.totals.now
+  pub sums : AreSumsOf known.nodes.now known.sums.now
 
 -- the same of no more than 65,535 nodes, with what was counted
 pub record AreCounting (of : NodesTails) : Type 0 where

@@ -1,10 +1,10 @@
--- The totals of nodes, in a list, from their visits.
-use Rattle.std.specs.Prelude.{◌≡◌, ◌+◌, ◌-◌, ◌*◌, ◌/◌, ℕ, List, fold, length, max, min, Some, slice_get}
-use Rattle.mq_core.specs.Sequences.{sequence_totals, sequence_waits}
+-- What is counted of nodes, in a list, from their visits.
+use Rattle.std.specs.Prelude.{◌≡◌, ◌+◌, ◌-◌, ◌*◌, ◌/◌, ℕ, Bool, List, cond, length, min, Some, slice_get}
 use Rattle.mq_crew.specs.Crew.{AreAll}
 use Rattle.mq_counts.specs.declared.totals.NodeVisits.{NodeVisits}
-use Rattle.mq_stats.specs.Numbers.{AreSmall, AreVisits, totals_from, visits_between}
-use Rattle.mq_stats.specs.declared.tallies.NodeTotals.{NodeTotals}
+use Rattle.mq_stats.specs.Blocks.{IsBlock, IsBlockOf}
+use Rattle.mq_stats.specs.Numbers.{AreVisits}
+use Rattle.mq_stats.specs.declared.blocks.BlockCount.{BlockCount}
 
 -- Pieces of this size. How many they are of so many visits, where the last one may have fewer.
 abbrev pub pieces_in : ℕ → ℕ → ℕ
@@ -22,30 +22,24 @@ IsVisited node = AreVisits node.rows.now node.kind.now node.visits.now
 abbrev pub pieces_of : NodeVisits → ℕ
 pieces_of node = pieces_in 16384 (length node.visits.now.job)
 
--- the totals of the visits of a piece
-abbrev pub IsPieceTotals : NodeVisits → ℕ → NodeTotals → Type 0
-IsPieceTotals node b totals =
+-- up to how many ticks waits are counted with the totals: where percentiles are told as many as a piece has visits
+abbrev pub counted_to : Bool → ℕ
+counted_to tails = cond tails 16384 0
+
+-- what is counted of the visits of a piece
+abbrev pub IsPieceCount : NodeVisits → ℕ → BlockCount → Type 0
+IsPieceCount node b block =
     let count = length node.visits.now.job in
-    (totals_from totals ≡ sequence_totals node.rows.now node.kind.now (visits_between (start_of 16384 count b) (start_of 16384 count (b + 1)) node.visits.now) node.span) × AreSmall totals
+    IsBlock node.rows.now node.kind.now node.visits.now node.span (counted_to node.tails) (start_of 16384 count b) (start_of 16384 count (b + 1)) block
 
--- the totals of all of them
-abbrev pub IsTotalsOf : NodeVisits → NodeTotals → Type 0
-IsTotalsOf node totals = (totals_from totals ≡ sequence_totals node.rows.now node.kind.now node.visits.now node.span) × AreSmall totals
-
--- totals with the longest of their waits
-abbrev pub IsLongestOf : NodeVisits → NodeTotals → Type 0
-IsLongestOf node totals = totals.longest ≡ fold max 0 (sequence_waits node.rows.now node.kind.now node.visits.now.job node.visits.now.arrive node.visits.now.fate)
+-- what is counted of all of them
+abbrev pub IsSumOf : NodeVisits → BlockCount → Type 0
+IsSumOf node sum = IsBlockOf node.rows.now node.kind.now node.visits.now node.span (counted_to node.tails) sum
 
 -- the same of the node at an index
-abbrev pub IsTotalsIn : List NodeVisits → ℕ → NodeTotals → Type 0
-IsTotalsIn nodes v totals = (node : NodeVisits) → slice_get nodes v ≡ Some node → IsTotalsOf node totals
-
-abbrev pub IsLongestIn : List NodeVisits → ℕ → NodeTotals → Type 0
-IsLongestIn nodes v totals = (node : NodeVisits) → slice_get nodes v ≡ Some node → IsLongestOf node totals
+abbrev pub IsSumIn : List NodeVisits → ℕ → BlockCount → Type 0
+IsSumIn nodes v sum = (node : NodeVisits) → slice_get nodes v ≡ Some node → IsSumOf node sum
 
 -- of each node
-abbrev pub AreTotalsOf : List NodeVisits → List NodeTotals → Type 0
-AreTotalsOf nodes totals = AreAll (IsTotalsIn nodes) (length nodes) totals
-
-abbrev pub AreLongestOf : List NodeVisits → List NodeTotals → Type 0
-AreLongestOf nodes totals = AreAll (IsLongestIn nodes) (length nodes) totals
+abbrev pub AreSumsOf : List NodeVisits → List BlockCount → Type 0
+AreSumsOf nodes sums = AreAll (IsSumIn nodes) (length nodes) sums

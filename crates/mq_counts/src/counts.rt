@@ -1,21 +1,23 @@
 // What a report tells of nodes, of what came to them and what left.
-ghost use Rattle.std.specs.Prelude.{◌≡◌, ◌<◌, ◌≤◌, ◌^◌, ◌==◌, ◌&&◌, ℕ, List as Items, false, length, IfOk};
+ghost use Rattle.std.specs.Prelude.{◌≡◌, ◌<◌, ◌≤◌, ◌^◌, ◌==◌, ◌&&◌, ℕ, List as Items, length, IfOk};
 ghost use Rattle.std.specs.List.{AllByRecursion, list_any};
-ghost use Rattle.mq_core.specs.Sequences.{sequence_exit};
 ghost use Rattle.mq_core.specs.StandardTable.{run_of};
 ghost use Rattle.mq_core.specs.Theorems.{IsReadFor};
-ghost use Rattle.mq_stats.specs.Numbers.{AreLeaving};
-ghost use Rattle.mq_counts.specs.Counts.{AreCountable, AreCounts, AreCountsOf, AreExits, AreNodeCounts, AreVisitsIn, IsCountOf, IsVisitsIn, is_read as reads_output};
-ghost use Rattle.mq_counts.specs.Tails.{AreTailsOf, IsTailIn, IsTailOf};
+ghost use Rattle.mq_core.specs.declared.model.Node.{Node as TheNode};
+ghost use Rattle.mq_core.specs.declared.model.Rows.{Rows as TheRows};
+ghost use Rattle.mq_counts.specs.Counts.{AreCountable, AreCounts, AreCountsOf, AreNodeCounts, AreVisitsIn, IsVisitsIn, is_read as reads_output};
+ghost use Rattle.mq_counts.specs.Leaving.{AreNodeStreams, AreParted};
+ghost use Rattle.mq_counts.specs.Tails.{AreTailsOf, IsTailIn};
 ghost use Rattle.mq_counts.specs.declared.totals.NodeVisits.{NodeVisits as TheVisits};
-ghost use Rattle.mq_counts.specs.Totals.{AreLongestOf, AreTotalsOf, IsTotalsOf, IsVisited};
+ghost use Rattle.mq_counts.specs.Totals.{AreSumsOf, IsVisited};
 
+use crate::leaving::{PartedExits, exits_at, parted_exits};
 use crate::tails::{NO_WAIT, tails_of};
-use crate::totals::{NodeVisits, totals_of};
+use crate::totals::{NodeVisits, sums_by_node};
 use mq_base::{List, OutOfMemory};
 use mq_core::{Input, Kind, Node, Plan, Rows, Stream, Visits, span_is_sequences};
 use mq_crew::Gate;
-use mq_stats::{Exit, NodeTotals, Percentiles, last_at, lasts_are_greatest, leaving};
+use mq_stats::{BlockCount, Exit, NodeTotals, Percentiles, last_at, lasts_are_greatest};
 use std::alloc::Global;
 use std::thread::Threads;
 
@@ -70,7 +72,7 @@ pub fn is_read(nodes: &[Node], node: u32, output: usize) -> bool
 }
 
 // The visits to a node, up to the last event there.
-fn visits_in<'a>(rows: &'a Rows, sequences: &NodeSequences<'a>) -> NodeVisits<'a>
+fn visits_in<'a>(rows: &'a Rows, sequences: &NodeSequences<'a>, tails: bool) -> NodeVisits<'a>
     requires { AreCountable rows.now sequences.now }
     ensures visited { IsVisited result }
     ensures its { IsVisitsIn rows.now sequences.now result }
@@ -80,6 +82,7 @@ fn visits_in<'a>(rows: &'a Rows, sequences: &NodeSequences<'a>) -> NodeVisits<'a
         kind: sequences.kind,
         visits: sequences.visits,
         span: last_at(sequences.visits, sequences.streams),
+        tails,
     }
 }
 
@@ -88,13 +91,14 @@ fn all_visits<'a>(
     alloc: Global,
     rows: &'a Rows,
     all: &List<NodeSequences<'a>>,
+    tails: bool,
 ) -> Result<List<NodeVisits<'a>>, OutOfMemory>
     requires { AllByRecursion (AreCountable rows.now) all.now }
     ensures { IfOk result (λ visits. AreVisitsIn rows.now all.now (length all.now) visits) }
 {
     let mut visits = List::new(alloc);
     for at in 0..all.len() {
-        visits.push(visits_in(rows, all.get(at)))?;
+        visits.push(visits_in(rows, all.get(at), tails))?;
     }
     Ok(visits)
 }
@@ -105,7 +109,7 @@ fn tails_told<R: Threads + Sync, G: Gate>(
     alloc: Global,
     workers: u32,
     nodes: &List<NodeVisits>,
-    totals: &List<NodeTotals>,
+    sums: &List<BlockCount>,
     form: u8,
     gate: &G,
 ) -> Result<List<Percentiles>, OutOfMemory>
@@ -113,13 +117,13 @@ fn tails_told<R: Threads + Sync, G: Gate>(
     requires most { workers ≤ 64 }
     requires few { length nodes.now < 2 ^ 16 }
     requires visited { AllByRecursion IsVisited nodes.now }
-    requires totals { AreLongestOf nodes.now totals.now }
+    requires sums { AreSumsOf nodes.now sums.now }
     ensures { IfOk result (λ tails. form ≡ 2 → AreTailsOf nodes.now tails) }
 {
     if form != 2 {
         return Ok(List::new(alloc));
     }
-    tails_of(rt, alloc, workers, nodes, totals, gate)
+    tails_of(rt, alloc, workers, nodes, sums, gate)
 }
 
 // Those at a node; none where a report of this form tells none.
@@ -133,85 +137,32 @@ fn tail_told(tails: &List<Percentiles>, form: u8, at: usize) -> Percentiles
     *tails.get(at)
 }
 
-// What leaves by an output, unless some input reads it.
-fn exit_at(nodes: &[Node], rows: &Rows, node: u32, output: usize, stream: &Stream) -> Exit
-    requires { AreLeaving rows.now stream.now }
-    ensures { reads_output nodes.now node output ≡ false → (result.count, result.sojourn) ≡ sequence_exit rows.now stream.now }
-{
-    if is_read(nodes, node, output) {
-        return Exit {
-            count: 0,
-            sojourn: 0,
-        };
-    }
-    leaving(rows, stream)
-}
-
-// The same of each output.
-fn exits_at(
-    alloc: Global,
-    nodes: &[Node],
-    rows: &Rows,
-    node: u32,
-    streams: &List<Stream>,
-) -> Result<List<Exit>, OutOfMemory>
-    requires { AllByRecursion (AreLeaving rows.now) streams.now }
-    ensures { IfOk result (AreExits nodes.now rows.now node streams.now) }
-{
-    let mut exits = List::new(alloc);
-    for output in 0..streams.len() {
-        exits.push(exit_at(nodes, rows, node, output, streams.get(output)))?;
-    }
-    Ok(exits)
-}
-
-// What is told of a node, of the totals of its visits and the percentiles of their waits.
-fn count_at(
-    alloc: Global,
-    nodes: &[Node],
-    rows: &Rows,
-    sequences: &NodeSequences,
-    its: &NodeVisits,
-    totals: &NodeTotals,
-    tail: Percentiles,
-) -> Result<NodeCount, OutOfMemory>
-    requires countable { AreCountable rows.now sequences.now }
-    requires its { IsVisitsIn rows.now sequences.now its.now }
-    requires totals { IsTotalsOf its.now totals.now }
-    ensures { IfOk result (λ count. (form : ℕ) → (form ≡ 2 → IsTailOf its.now tail) → IsCountOf nodes.now rows.now form sequences.now.number sequences.now.kind.now sequences.now.visits.now sequences.now.streams.now count) }
-{
-    let exits = exits_at(alloc, nodes, rows, sequences.number, sequences.streams)?;
-    Ok(NodeCount {
-        totals: *totals,
-        last: its.span,
-        tail,
-        exits,
-    })
-}
-
-// The same of each node.
+// What is told of each node, of what is counted of its visits, the percentiles of their waits and the pieces of what leaves.
 fn counts_at(
     alloc: Global,
-    nodes: &[Node],
-    rows: &Rows,
     all: &List<NodeSequences>,
     visits: &List<NodeVisits>,
-    totals: &List<NodeTotals>,
+    sums: &List<BlockCount>,
     tails: &List<Percentiles>,
+    parted: &PartedExits,
     form: u8,
 ) -> Result<List<NodeCount>, OutOfMemory>
-    requires countable { AllByRecursion (AreCountable rows.now) all.now }
-    requires visits { AreVisitsIn rows.now all.now (length all.now) visits.now }
-    requires totals { AreTotalsOf visits.now totals.now }
+    requires visits { length visits.now ≡ length all.now }
+    requires sums { AreSumsOf visits.now sums.now }
     requires tails { form ≡ 2 → AreTailsOf visits.now tails.now }
-    ensures { IfOk result (λ counts. AreCountsOf nodes.now rows.now form all.now counts) }
+    requires parted { AreParted parted.now }
+    requires streams { length parted.now.nodes ≡ length all.now }
+    ensures { IfOk result (λ counts. (nodes : Items TheNode) (rows : TheRows) → AreVisitsIn rows all.now (length all.now) visits.now → AreNodeStreams nodes rows all.now (length all.now) parted.now.nodes → AreCountsOf nodes rows form all.now counts) }
 {
     let mut counts = List::new(alloc);
     for at in 0..all.len() {
-        let tail = tail_told(tails, form, at);
-        let (sequences, its) = (all.get(at), visits.get(at));
-        match count_at(alloc, nodes, rows, sequences, its, totals.get(at), tail) {
-            Ok(count) => counts.push(count)?,
+        match exits_at(alloc, parted, at) {
+            Ok(exits) => counts.push(NodeCount {
+                totals: sums.get(at).totals,
+                last: visits.get(at).span,
+                tail: tail_told(tails, form, at),
+                exits,
+            })?,
             Err(fault) => {
                 drop(counts);
                 return Err(fault);
@@ -221,7 +172,7 @@ fn counts_at(
     Ok(counts)
 }
 
-// The same, where the totals are there.
+// The same, where what is counted of them is there.
 fn counts_with<R: Threads + Sync, G: Gate>(
     rt: &R,
     alloc: Global,
@@ -230,7 +181,7 @@ fn counts_with<R: Threads + Sync, G: Gate>(
     rows: &Rows,
     all: &List<NodeSequences>,
     visits: &List<NodeVisits>,
-    totals: &List<NodeTotals>,
+    sums: &List<BlockCount>,
     form: u8,
     gate: &G,
 ) -> Result<List<NodeCount>, OutOfMemory>
@@ -239,17 +190,26 @@ fn counts_with<R: Threads + Sync, G: Gate>(
     requires few { length all.now < 2 ^ 16 }
     requires countable { AllByRecursion (AreCountable rows.now) all.now }
     requires visits { AreVisitsIn rows.now all.now (length all.now) visits.now }
-    requires totals { AreTotalsOf visits.now totals.now }
+    requires sums { AreSumsOf visits.now sums.now }
     ensures { IfOk result (λ counts. AreCountsOf nodes.now rows.now form all.now counts) }
 {
-    let tails = tails_told(rt, alloc, workers, visits, totals, form, gate)?;
-    let counts = counts_at(alloc, nodes, rows, all, visits, totals, &tails, form);
-    drop(tails);
-    counts
+    let tails = tails_told(rt, alloc, workers, visits, sums, form, gate)?;
+    match parted_exits(rt, alloc, workers, nodes, rows, all, gate) {
+        Ok(parted) => {
+            let counts = counts_at(alloc, all, visits, sums, &tails, &parted, form);
+            drop(parted);
+            drop(tails);
+            counts
+        }
+        Err(fault) => {
+            drop(tails);
+            Err(fault)
+        }
+    }
 }
 
-/// What is told of each of these nodes of a network, at most 65,535: totals (`totals_of`), in form 2 percentiles (`tails_of`), and
-/// what leaves by each output that no input of the network reads. 1 to 64 workers work it out, who enter the gate. It refuses
+/// What is told of each of these nodes of a network, at most 65,535: totals, in form 2 percentiles (`tails_of`), and
+/// what leaves by each output that no input of the network reads (`parted_exits`). 1 to 64 workers work it out, who enter the gate. It refuses
 /// for want of memory alone.
 pub fn counts_of<R: Threads + Sync, G: Gate>(
     rt: &R,
@@ -267,13 +227,13 @@ pub fn counts_of<R: Threads + Sync, G: Gate>(
     requires countable { AllByRecursion (AreCountable rows.now) all.now }
     ensures { IfOk result (λ counts. AreCountsOf nodes.now rows.now form all.now counts) }
 {
-    let visits = all_visits(alloc, rows, all)?;
-    match totals_of(rt, alloc, workers, &visits, gate) {
-        Ok(totals) => {
+    let visits = all_visits(alloc, rows, all, form == 2)?;
+    match sums_by_node(rt, alloc, workers, &visits, gate) {
+        Ok(sums) => {
             let counts = counts_with(
-                rt, alloc, workers, nodes, rows, all, &visits, &totals, form, gate,
+                rt, alloc, workers, nodes, rows, all, &visits, &sums, form, gate,
             );
-            drop(totals);
+            drop(sums);
             drop(visits);
             counts
         }

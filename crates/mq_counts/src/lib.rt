@@ -5,6 +5,7 @@
 
 mod counts;
 mod later;
+mod leaving;
 mod runs;
 mod tail_pieces;
 mod tails;

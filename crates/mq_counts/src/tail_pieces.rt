@@ -1,8 +1,9 @@
-// The waits at nodes, counted by pieces of their visits.
-ghost use Rattle.std.specs.Prelude.{◌≡◌, ◌⊎◌, ◌<◌, ◌≤◌, ◌^◌, length, IfOk, IfSome};
+// The waits at nodes, counted by pieces of their visits, where they weren't with the totals.
+ghost use Rattle.std.specs.Prelude.{◌≡◌, ◌<◌, ◌≤◌, ◌^◌, ℕ, List as Items, length, IfOk, IfSome};
 ghost use Rattle.std.specs.List.{AllByRecursion};
 ghost use Rattle.mq_crew.specs.Crew.{AreAll, AreGroups};
 ghost use Rattle.mq_stats.specs.Percentiles.{ArePercentiles, waits_at};
+ghost use Rattle.mq_stats.specs.WaitCounts.{AreCounts};
 ghost use Rattle.mq_counts.specs.TailPieces.{AreNodeWaits, IsPieceCounts, IsWaited, counted_pieces};
 ghost use Rattle.mq_counts.specs.Tails.{AreCountedOf, AreKnown};
 ghost use Rattle.mq_counts.specs.Totals.{IsVisited};
@@ -13,13 +14,14 @@ use mq_base::{List, OutOfMemory};
 use mq_core::{Kind, Rows, Visits};
 use mq_crew::{Gate, Pieces, run_parts};
 use mq_stats::{
-    Percentiles, WaitCounts, count_between, counted_percentiles, counts_added, waits_join,
+    BlockCount, Percentiles, WaitCounts, count_between, counted_percentiles, counts_added,
+    no_counts, waits_join,
 };
 use std::alloc::Global;
 use std::thread::Threads;
 
-/// The visits to a node of this kind. A piece of them is the counts of the waits of `size` neighbours, up
-/// to `most` ticks by themselves. Where that is 0 there are no pieces.
+/// The visits to a node of this kind. A piece of them is the counts of the waits of `size` neighbours, exactly where none has
+/// more than `most` ticks. Where that is 0 there are no pieces.
 #[derive(Clone, Copy)]
 pub struct NodeWaits<'a> {
     pub rows: &'a Rows,
@@ -30,7 +32,7 @@ pub struct NodeWaits<'a> {
 }
 
 impl<'a> Pieces for NodeWaits<'a> {
-    type Piece = WaitCounts;
+    type Piece = Option<WaitCounts>;
 
     ghost fit = { IsWaited };
 
@@ -45,7 +47,7 @@ impl<'a> Pieces for NodeWaits<'a> {
         piece_count(self.visits.job.len() as u32, self.size)
     }
 
-    fn piece(&self, alloc: Global, b: u32) -> Result<WaitCounts, OutOfMemory> {
+    fn piece(&self, alloc: Global, b: u32) -> Result<Option<WaitCounts>, OutOfMemory> {
         let (from, to) = piece_ends(self.visits.job.len() as u32, self.size, b);
         count_between(
             alloc,
@@ -59,14 +61,17 @@ impl<'a> Pieces for NodeWaits<'a> {
     }
 }
 
-// Up to how many ticks the waits of so many visits are counted by pieces, where this is the longest wait: 0 where it has more
-// ticks than a piece has visits, and than there are visits.
-fn counted_up_to(longest: u64, visits: u32) -> u32
+// Up to how many ticks the waits of so many visits are counted by a second look, where this is counted of them: 0 where they are by
+// now, and where the longest has more ticks than there are visits.
+fn looked_up_to(sum: &BlockCount, visits: u32) -> u32
     requires { visits ≤ 1048576 }
-    ensures most { result ≤ 1048576 }
-    ensures all { (result ≡ 0) ⊎ (result ≡ longest) }
+    ensures { result ≤ 1048576 }
 {
-    if longest <= PIECE.max(visits) as u64 {
+    if sum.waits.is_some() {
+        return 0;
+    }
+    let longest = sum.totals.longest;
+    if longest <= visits as u64 {
         longest as u32
     } else {
         0
@@ -84,13 +89,13 @@ fn visits_in_piece(most: u32) -> u32
     PIECE.max(most)
 }
 
-// The visits to a node whose longest wait this is.
-fn waits_of_node<'a>(node: &NodeVisits<'a>, longest: u64) -> NodeWaits<'a>
+// The visits to a node of which this is counted.
+fn waits_of_node<'a>(node: &NodeVisits<'a>, sum: &BlockCount) -> NodeWaits<'a>
     requires visited { IsVisited node.now }
     ensures waited { IsWaited result }
     ensures waits { waits_at result.rows.now result.kind.now result.visits.now ≡ waits_at node.now.rows.now node.now.kind.now node.now.visits.now }
 {
-    let most = counted_up_to(longest, node.visits.job.len() as u32);
+    let most = looked_up_to(sum, node.visits.job.len() as u32);
     NodeWaits {
         rows: node.rows,
         kind: node.kind,
@@ -110,17 +115,27 @@ fn waits_by_node<'a, 'b>(
 {
     let mut all = Vec::with_capacity(alloc, known.nodes.len())?;
     for node in 0..known.nodes.len() {
-        let longest = known.totals.get(node).longest;
-        all.push_reserved(waits_of_node(known.nodes.get(node), longest));
+        all.push_reserved(waits_of_node(known.nodes.get(node), known.sums.get(node)));
     }
     Ok(List::from_vec(all))
 }
 
-// The percentiles of the waits at a node, where its pieces count 99 of 100 of them by themselves.
-fn counted_at(
+// The percentiles of the waits of these counts, where there are some.
+fn tail_of(counts: &Option<WaitCounts>) -> Option<Percentiles>
+    requires { (waits : Items ℕ) × IfSome counts.now (AreCounts waits) }
+    ensures { (waits : Items ℕ) → IfSome counts.now (AreCounts waits) → IfSome result (ArePercentiles waits) }
+{
+    match counts {
+        Some(counts) => counted_percentiles(counts),
+        None => None,
+    }
+}
+
+// The percentiles of the waits at a node, where its pieces count them.
+fn looked_at(
     alloc: Global,
     node: &NodeWaits,
-    group: &List<WaitCounts>,
+    group: &List<Option<WaitCounts>>,
 ) -> Result<Option<Percentiles>, OutOfMemory>
     requires waited { IsWaited node.now }
     requires group { AreAll (IsPieceCounts node.now) (counted_pieces node.now) group.now }
@@ -130,27 +145,52 @@ fn counted_at(
         return Ok(None);
     }
     waits_join();
-    let mut sum = count_between(alloc, node.rows, node.kind, node.visits, node.most, 0, 0)?;
+    let mut sum = no_counts(alloc)?;
     for b in 0..group.len() {
-        sum = counts_added(sum, group.get(b));
+        let Some(more) = group.get(b) else {
+            drop(sum);
+            return Ok(None);
+        };
+        sum = counts_added(alloc, sum, more)?;
     }
-    Ok(counted_percentiles(&sum))
+    let tail = counted_percentiles(&sum);
+    drop(sum);
+    Ok(tail)
+}
+
+// The same, where they were counted with the totals or are by now.
+fn counted_at(
+    alloc: Global,
+    node: &NodeWaits,
+    sum: &BlockCount,
+    group: &List<Option<WaitCounts>>,
+) -> Result<Option<Percentiles>, OutOfMemory>
+    requires waited { IsWaited node.now }
+    requires sum { IfSome sum.now.waits (AreCounts (waits_at node.now.rows.now node.now.kind.now node.now.visits.now)) }
+    requires group { AreAll (IsPieceCounts node.now) (counted_pieces node.now) group.now }
+    ensures { IfOk result (λ tail. IfSome tail (ArePercentiles (waits_at node.now.rows.now node.now.kind.now node.now.visits.now))) }
+{
+    if let Some(tail) = tail_of(&sum.waits) {
+        return Ok(Some(tail));
+    }
+    looked_at(alloc, node, group)
 }
 
 // The same of each node.
 fn counted_of(
     alloc: Global,
-    nodes: &List<NodeVisits>,
+    known: &KnownNodes,
     all: &List<NodeWaits>,
-    groups: &List<List<WaitCounts>>,
+    groups: &List<List<Option<WaitCounts>>>,
 ) -> Result<List<Option<Percentiles>>, OutOfMemory>
-    requires waits { AreNodeWaits nodes.now (length nodes.now) all.now }
+    requires known { AreKnown known.now }
+    requires waits { AreNodeWaits known.now.nodes.now (length known.now.nodes.now) all.now }
     requires groups { AreGroups counted_pieces IsPieceCounts all.now groups.now }
-    ensures { IfOk result (λ counted. AreCountedOf nodes.now (length nodes.now) counted) }
+    ensures { IfOk result (λ counted. AreCountedOf known.now.nodes.now (length known.now.nodes.now) counted) }
 {
     let mut counted = List::new(alloc);
     for node in 0..all.len() {
-        match counted_at(alloc, all.get(node), groups.get(node)) {
+        match counted_at(alloc, all.get(node), known.sums.get(node), groups.get(node)) {
             Ok(tail) => counted.push(tail)?,
             Err(fault) => {
                 drop(counted);
@@ -161,9 +201,9 @@ fn counted_of(
     Ok(counted)
 }
 
-/// The percentiles of the waits at each of these nodes, where some job waited, and none longer than 16,384
-/// ticks, or than as many ticks as there are visits. The visits are cut into pieces as for the totals, or of as many visits as the
-/// longest wait has ticks, and 1 to 64 workers make them, who enter the gate. It refuses for want of memory alone.
+/// The percentiles of the waits at each of these nodes, where they were counted with the totals, or the longest has no more ticks than
+/// there are visits. Then the visits are cut into pieces, of as many visits as the longest wait has ticks and no fewer than 16,384, and
+/// 1 to 64 workers make them, who enter the gate. It refuses for want of memory alone.
 pub fn counted_tails<R: Threads + Sync, G: Gate>(
     rt: &R,
     alloc: Global,
@@ -179,5 +219,5 @@ pub fn counted_tails<R: Threads + Sync, G: Gate>(
 {
     let all = waits_by_node(alloc, known)?;
     let groups = run_parts(rt, alloc, workers, all.as_slice(), gate)?;
-    counted_of(alloc, known.nodes, &all, &groups)
+    counted_of(alloc, known, &all, &groups)
 }

@@ -2,28 +2,28 @@
 ghost use Rattle.std.specs.Prelude.{◌≡◌, ◌<◌, ◌≤◌, ◌^◌, IfOk, IfSome, Some, length, slice_get};
 ghost use Rattle.std.specs.List.{AllByRecursion};
 ghost use Rattle.mq_counts.specs.Tails.{AreCounting, AreKnown, AreTailsOf, IsTailIn};
-ghost use Rattle.mq_counts.specs.Totals.{AreLongestOf, IsVisited};
+ghost use Rattle.mq_counts.specs.Totals.{AreSumsOf, IsVisited};
 
 use crate::tail_pieces::counted_tails;
 use crate::totals::NodeVisits;
 use mq_base::{List, OutOfMemory};
 use mq_crew::{Gate, Pieces, made};
-use mq_stats::{NodeTotals, Percentiles, tail_below};
+use mq_stats::{BlockCount, Percentiles, tail_below};
 use std::alloc::Global;
 use std::thread::Threads;
 
-// Where no job waited.
+// Where none are told.
 pub const NO_WAIT: Percentiles = Percentiles {
     p50: 0,
     p90: 0,
     p99: 0,
 };
 
-/// The visits to nodes, with their totals.
+/// The visits to nodes, with what is counted of them.
 #[derive(Clone, Copy)]
 pub struct KnownNodes<'a, 'b> {
     pub nodes: &'a List<NodeVisits<'b>>,
-    pub totals: &'a List<NodeTotals>,
+    pub sums: &'a List<BlockCount>,
 }
 
 /// What the percentiles are told from: a piece is those of the waits at one node.
@@ -53,21 +53,7 @@ impl<'a, 'b> Pieces for NodesTails<'a, 'b> {
     }
 }
 
-// The percentiles of the waits at a node, where they are known by now: no job waited, or they were counted.
-fn known_tail(known: &KnownNodes, counted: Option<Percentiles>, node: usize) -> Option<Percentiles>
-    requires known { AreKnown known.now }
-    requires inside { node < length known.now.nodes.now }
-    requires counted { IfSome counted (IsTailIn known.now.nodes.now node) }
-    ensures { IfSome result (IsTailIn known.now.nodes.now node) }
-{
-    let totals = *known.totals.get(node);
-    if totals.longest == 0 {
-        return Some(NO_WAIT);
-    }
-    counted
-}
-
-// The percentiles of the waits at a node, which are looked for only where they aren't known by now.
+// The percentiles of the waits at a node, which are looked for only where they weren't counted.
 fn tail_at(
     alloc: Global,
     known: &KnownNodes,
@@ -79,15 +65,15 @@ fn tail_at(
     requires counted { IfSome counted (IsTailIn known.now.nodes.now node) }
     ensures { IfOk result (IsTailIn known.now.nodes.now node) }
 {
-    if let Some(tail) = known_tail(known, counted, node) {
+    if let Some(tail) = counted {
         return Ok(tail);
     }
     let its = known.nodes.get(node);
-    let longest = known.totals.get(node).longest;
+    let longest = known.sums.get(node).totals.longest;
     tail_below(alloc, its.rows, its.kind, its.visits, longest)
 }
 
-// The percentiles of the waits at each node, where all are known by now.
+// The percentiles of the waits at each node, where all were counted.
 fn known_tails(alloc: Global, of: &NodesTails) -> Result<Option<List<Percentiles>>, OutOfMemory>
     requires { AreCounting of.now }
     ensures { IfOk result (λ known. IfSome known (AreTailsOf of.now.known.nodes.now)) }
@@ -95,7 +81,7 @@ fn known_tails(alloc: Global, of: &NodesTails) -> Result<Option<List<Percentiles
     let count = of.known.nodes.len();
     let mut tails = Vec::with_capacity(alloc, count)?;
     for node in 0..count {
-        let Some(tail) = known_tail(&of.known, *of.counted.get(node), node) else {
+        let Some(tail) = *of.counted.get(node) else {
             return Ok(None);
         };
         tails.push_reserved(tail);
@@ -103,8 +89,8 @@ fn known_tails(alloc: Global, of: &NodesTails) -> Result<Option<List<Percentiles
     Ok(Some(List::from_vec(tails)))
 }
 
-/// The percentiles of the waits at each of these nodes, at most 65,535, which have these totals. Mostly the waits are counted, by
-/// pieces of the visits; a node with percentiles that aren't counted by themselves is a piece of its own. 1 to 64 workers make the
+/// The percentiles of the waits at each of these nodes, at most 65,535, of which this is counted. Mostly the waits are counted by
+/// now, or are by a second look, by pieces of the visits; a node whose waits aren't is a piece of its own. 1 to 64 workers make the
 /// pieces, who enter the gate. Where no piece is left there are no workers. No node has more than 1,048,576 visits. It refuses for
 /// want of memory alone.
 pub fn tails_of<R: Threads + Sync, G: Gate>(
@@ -112,17 +98,17 @@ pub fn tails_of<R: Threads + Sync, G: Gate>(
     alloc: Global,
     workers: u32,
     nodes: &List<NodeVisits>,
-    totals: &List<NodeTotals>,
+    sums: &List<BlockCount>,
     gate: &G,
 ) -> Result<List<Percentiles>, OutOfMemory>
     requires some { 1 ≤ workers }
     requires most { workers ≤ 64 }
     requires few { length nodes.now < 2 ^ 16 }
     requires visited { AllByRecursion IsVisited nodes.now }
-    requires totals { AreLongestOf nodes.now totals.now }
+    requires sums { AreSumsOf nodes.now sums.now }
     ensures { IfOk result (λ tails. AreTailsOf nodes.now tails) }
 {
-    let known = KnownNodes { nodes, totals };
+    let known = KnownNodes { nodes, sums };
     let counted = counted_tails(rt, alloc, workers, &known, gate)?;
     let all = NodesTails {
         known,

@@ -1,22 +1,21 @@
-// The totals of nodes, by pieces of their visits.
+// What is counted of nodes, by pieces of their visits.
 ghost use Rattle.std.specs.Prelude.{◌≡◌, ◌+◌, ◌≤◌, ◌<◌, ◌^◌, length, IfOk};
 ghost use Rattle.std.specs.List.{AllByRecursion};
-ghost use Rattle.mq_core.specs.Sequences.{sequence_totals};
 ghost use Rattle.mq_crew.specs.Crew.{AreAll, AreGroups};
-ghost use Rattle.mq_stats.specs.Numbers.{AreSmall, totals_from};
-ghost use Rattle.mq_counts.specs.Totals.{AreTotalsOf, IsPieceTotals, IsVisited, pieces_in, pieces_of, start_of};
+ghost use Rattle.mq_stats.specs.Blocks.{IsBlock};
+ghost use Rattle.mq_counts.specs.Totals.{AreSumsOf, IsPieceCount, IsSumOf, IsVisited, counted_to, pieces_in, pieces_of, start_of};
 
 use mq_base::{List, OutOfMemory};
 use mq_core::{Kind, Rows, Visits};
 use mq_crew::{Gate, Pieces, run_parts};
-use mq_stats::{NodeTotals, totals_added, totals_between, totals_join};
+use mq_stats::{BlockCount, blocks_added, count_block, waits_join};
 use std::alloc::Global;
 use std::thread::Threads;
 
 // How many visits are a piece: what is read of them fits a processor's own memory.
 pub const PIECE: u32 = 16_384;
 
-/// The visits to a node of this kind, whose totals are told up to this span, in ticks. A piece of them is the totals of
+/// The visits to a node of this kind, which are counted up to this span, in ticks. A piece of them is what is counted of
 /// so many neighbours.
 #[derive(Clone, Copy)]
 pub struct NodeVisits<'a> {
@@ -24,26 +23,54 @@ pub struct NodeVisits<'a> {
     pub kind: &'a Kind,
     pub visits: &'a Visits,
     pub span: u64,
+    /// Whether the waits are counted with the totals, where none has more ticks than a piece has visits.
+    pub tails: bool,
 }
 
 impl<'a> Pieces for NodeVisits<'a> {
-    type Piece = NodeTotals;
+    type Piece = BlockCount;
 
     ghost fit = { IsVisited };
 
     ghost size = { pieces_of };
 
-    ghost is_piece = { IsPieceTotals };
+    ghost is_piece = { IsPieceCount };
 
     fn count(&self) -> u32 {
         piece_count(self.visits.job.len() as u32, PIECE)
     }
 
-    fn piece(&self, _alloc: Global, b: u32) -> Result<NodeTotals, OutOfMemory> {
+    fn piece(&self, alloc: Global, b: u32) -> Result<BlockCount, OutOfMemory> {
         let (from, to) = piece_ends(self.visits.job.len() as u32, PIECE, b);
-        let totals = totals_between(self.rows, self.kind, self.visits, self.span, from, to);
-        Ok(totals)
+        block_of(alloc, self, from, to)
     }
+}
+
+// Up to how many ticks waits are counted with the totals.
+fn counted_up_to(tails: bool) -> u32
+    ensures { result ≡ counted_to tails }
+{
+    if tails { PIECE } else { 0 }
+}
+
+// What is counted of the visits from one position up to another.
+fn block_of(alloc: Global, node: &NodeVisits, from: u32, to: u32) -> Result<BlockCount, OutOfMemory>
+    requires visited { IsVisited node.now }
+    requires order { from ≤ to }
+    requires within { to ≤ length node.now.visits.now.job }
+    ensures { IfOk result (IsBlock node.now.rows.now node.now.kind.now node.now.visits.now node.now.span (counted_to node.now.tails) from to) }
+{
+    let most = counted_up_to(node.tails);
+    count_block(
+        alloc,
+        node.rows,
+        node.kind,
+        node.visits,
+        node.span,
+        most,
+        from,
+        to,
+    )
 }
 
 // How many pieces of this size so many visits make.
@@ -70,56 +97,65 @@ pub fn piece_ends(count: u32, size: u32, b: u32) -> (u32, u32)
     (from, count.min(next))
 }
 
-// The totals of a node, of those of its pieces one after another.
-fn sum_of(node: &NodeVisits, group: &List<NodeTotals>) -> NodeTotals
+// What is counted of a node, of what is of its pieces one after another.
+fn sum_of(
+    alloc: Global,
+    node: &NodeVisits,
+    group: &List<BlockCount>,
+) -> Result<BlockCount, OutOfMemory>
     requires visited { IsVisited node.now }
-    requires group { AreAll (IsPieceTotals node.now) (pieces_of node.now) group.now }
-    ensures totals { totals_from result ≡ sequence_totals node.now.rows.now node.now.kind.now node.now.visits.now node.now.span }
-    ensures small { AreSmall result }
+    requires group { AreAll (IsPieceCount node.now) (pieces_of node.now) group.now }
+    ensures { IfOk result (IsSumOf node.now) }
 {
-    totals_join();
-    let mut sum = totals_between(node.rows, node.kind, node.visits, node.span, 0, 0);
+    waits_join();
+    let mut sum = block_of(alloc, node, 0, 0)?;
     for b in 0..group.len() {
-        sum = totals_added(&sum, group.get(b));
+        sum = blocks_added(alloc, sum, group.get(b))?;
     }
-    sum
+    Ok(sum)
 }
 
-// The totals of each node, of those of its pieces.
+// The same of each node.
 fn sums_of(
     alloc: Global,
     nodes: &List<NodeVisits>,
-    groups: &List<List<NodeTotals>>,
-) -> Result<List<NodeTotals>, OutOfMemory>
+    groups: &List<List<BlockCount>>,
+) -> Result<List<BlockCount>, OutOfMemory>
     requires visited { AllByRecursion IsVisited nodes.now }
-    requires groups { AreGroups pieces_of IsPieceTotals nodes.now groups.now }
-    ensures { IfOk result (λ totals. AreTotalsOf nodes.now totals) }
+    requires groups { AreGroups pieces_of IsPieceCount nodes.now groups.now }
+    ensures { IfOk result (λ sums. AreSumsOf nodes.now sums) }
 {
-    let mut totals = List::new(alloc);
+    let mut sums = List::new(alloc);
     for node in 0..nodes.len() {
-        totals.push(sum_of(nodes.get(node), groups.get(node)))?;
+        match sum_of(alloc, nodes.get(node), groups.get(node)) {
+            Ok(sum) => sums.push(sum)?,
+            Err(fault) => {
+                drop(sums);
+                return Err(fault);
+            }
+        }
     }
-    Ok(totals)
+    Ok(sums)
 }
 
-/// The totals of each of these nodes, at most 65,535. The visits to a node, at most 1,048,576, are cut into pieces
+/// What is counted of each of these nodes, at most 65,535. The visits to a node, at most 1,048,576, are cut into pieces
 /// of 16,384, and the pieces of all nodes are a list that 1 to 64 workers make, who enter the gate.
 /// It refuses for want of memory alone.
-pub fn totals_of<R: Threads + Sync, G: Gate>(
+pub fn sums_by_node<R: Threads + Sync, G: Gate>(
     rt: &R,
     alloc: Global,
     workers: u32,
     nodes: &List<NodeVisits>,
     gate: &G,
-) -> Result<List<NodeTotals>, OutOfMemory>
+) -> Result<List<BlockCount>, OutOfMemory>
     requires some { 1 ≤ workers }
     requires most { workers ≤ 64 }
     requires few { length nodes.now < 2 ^ 16 }
     requires visited { AllByRecursion IsVisited nodes.now }
-    ensures { IfOk result (λ totals. AreTotalsOf nodes.now totals) }
+    ensures { IfOk result (λ sums. AreSumsOf nodes.now sums) }
 {
     let groups = run_parts(rt, alloc, workers, nodes.as_slice(), gate)?;
-    let totals = sums_of(alloc, nodes, &groups);
+    let sums = sums_of(alloc, nodes, &groups);
     drop(groups);
-    totals
+    sums
 }

@@ -1,3 +1,4 @@
+pub mod Asked
 pub mod Backs
 pub mod Steps
 pub mod RunSteps
@@ -10,9 +11,11 @@ pub mod Telling
 pub mod Fine
 pub mod Held
 pub mod Joins
+pub mod ExitsJoin
 pub mod Least
 pub mod Tables
 pub mod Gathering
 pub mod Leaves
 pub mod Lasts
 pub mod WaitsJoin
+pub mod Waited

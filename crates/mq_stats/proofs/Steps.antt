@@ -4,14 +4,13 @@ use Rattle.std.specs.Prelude.{slice_get, fold, slice_index, ◌-◌, count_by, s
 use Rattle.std.proofs.lemmas.List.{drop_all}
 use Rattle.mq_base.proofs.lemmas.Lists.{drop_at, sum-cons}
 use Rattle.mq_core.specs.Sequences.{sequence_wait, sequence_waits, sequence_service, sequence_services, sequence_sojourn, sequence_sojourns, stream_sojourns}
+use Rattle.mq_core.specs.Fates.{service_time}
 use Rattle.mq_core.specs.Results.{numbers_of, one_more}
-use Rattle.mq_core.specs.declared.model.Demand.TheVariants.{Fixed}
 use Rattle.mq_core.specs.declared.model.Fate.{Fate}
 use Rattle.mq_core.specs.declared.model.Fate.TheVariants.{Departs, Held, Lost}
 use Rattle.mq_core.specs.declared.model.Kind.{Kind}
 use Rattle.mq_core.specs.declared.model.Rows.{Rows}
 use Rattle.mq_stats.proofs.Counts.{count-cons}
-use Rattle.mq_stats.specs.Numbers.{AsksOnce}
 
 -- Sums and greatest numbers. What is added so far, with what is left, is all.
 pub adds : (total added x all : ℕ) (rest rest' : List ℕ) → added ≡ x → rest ≡ x ∷ rest' → fold (λ a y. a + y) total rest ≡ all → fold (λ a y. a + y) (total + added) rest' ≡ all
@@ -61,28 +60,16 @@ pub leaves-at : (rows : Rows) (jobs times : List ℕ) (i job time : ℕ) → sli
     stream_sojourns rows (drop i jobs) (drop i times) ≡ (time - slice_index rows.time job) ∷ stream_sojourns rows (drop (i + 1) jobs) (drop (i + 1) times)
 leaves-at rows jobs times i job time j t = λ k. stream_sojourns rows (drop_at jobs i job j k) (drop_at times i time t k)
 
--- At a kind that serves no job each stay is a wait, and no visit is served. With a span of 0 a held visit doesn't stay.
-wait-is_stay : (rows : Rows) (kind : Kind) (job arrive : ℕ) (fate : Fate) → AsksOnce kind (Fixed 0) → sequence_wait rows kind job arrive fate ≡ sequence_sojourn 0 arrive fate
-wait-is_stay rows kind job arrive (Departs time) h = let e = h.bare rows job in omega arith
-wait-is_stay rows kind job arrive Lost h = refl
-wait-is_stay rows kind job arrive Held h = omega arith
-
-pub waits-are_stays : (rows : Rows) (kind : Kind) (jobs arrives : List ℕ) (fates : List Fate) → AsksOnce kind (Fixed 0) → length arrives ≡ length jobs → sequence_waits rows kind jobs arrives fates ≡ sequence_sojourns 0 arrives fates
-waits-are_stays rows kind [] [] fates h e = refl
-waits-are_stays rows kind [] (a ∷ arrives) fates h e = absurd (omega arith)
-waits-are_stays rows kind (j ∷ jobs) [] fates h e = refl
-waits-are_stays rows kind (j ∷ jobs) (a ∷ arrives) [] h e = refl
-waits-are_stays rows kind (j ∷ jobs) (a ∷ arrives) (f ∷ fates) h e = λ k. wait-is_stay rows kind j a f h k ∷ waits-are_stays rows kind jobs arrives fates h (omega arith) k
-
-none-served : (rows : Rows) (kind : Kind) (job : ℕ) (fate : Fate) → AsksOnce kind (Fixed 0) → sequence_service rows kind job fate ≡ 0
-none-served rows kind job (Departs time) h = h.service rows job
+-- where no job is served, nothing is
+none-served : (rows : Rows) (kind : Kind) (job : ℕ) (fate : Fate) → service_time rows kind job ≡ 0 → sequence_service rows kind job fate ≡ 0
+none-served rows kind job (Departs time) h = h
 none-served rows kind job Lost h = refl
-none-served rows kind job Held h = h.service rows job
+none-served rows kind job Held h = h
 
-pub services-are_none : (rows : Rows) (kind : Kind) (jobs : List ℕ) (fates : List Fate) → AsksOnce kind (Fixed 0) → sum (sequence_services rows kind jobs fates) ≡ 0
+pub services-are_none : (rows : Rows) (kind : Kind) (jobs : List ℕ) (fates : List Fate) → ((job : ℕ) → service_time rows kind job ≡ 0) → sum (sequence_services rows kind jobs fates) ≡ 0
 services-are_none rows kind [] fates h = refl
 services-are_none rows kind (j ∷ jobs) [] h = refl
 services-are_none rows kind (j ∷ jobs) (f ∷ fates) h =
-    let first = none-served rows kind j f h in
+    let first = none-served rows kind j f (h j) in
     let rest = services-are_none rows kind jobs fates h in
     sum-cons (sequence_service rows kind j f) (sequence_services rows kind jobs fates) ∙ omega arith

@@ -1,22 +1,17 @@
 -- Waits that are counted in a table: the first index up to which so many are counted is their percentile.
 use Rattle.std.proofs.Common.{◌≡◌, ℕ, zero, suc, ◌+◌, ◌<◌, ◌≤◌, ◌⊎◌, inl, inr, Bool, true, false, cond, List, [], ◌∷◌, drop, get_or, length, min, set, take, Some, refl, sym, ap, ◌∙◌, arith}
 use Rattle.std.specs.Prelude.{◌≢◌, ◌==◌, count_by, nat_le, slice_get, sum}
-use Rattle.std.specs.List.{Contains, filter}
+use Rattle.std.specs.List.{AllByRecursion as Each, Contains, filter}
 use Rattle.std.proofs.lemmas.Bool.{cases_lt}
 use Rattle.std.proofs.lemmas.Bool.Decides.{nat_tests}
 use Rattle.std.proofs.lemmas.Grind.{get_or-set_at}
-use Rattle.std.proofs.lemmas.List.{drop_all, get_or-set_other}
+use Rattle.std.proofs.lemmas.List.{get_or-set_other}
 use Rattle.std.proofs.lemmas.List.Sums.{sum_by_more}
-use Rattle.mq_core.specs.Sequences.{sequence_wait}
-use Rattle.mq_core.specs.declared.model.Fate.{Fate}
-use Rattle.mq_core.specs.declared.model.Fate.TheVariants.{Departs, Held, Lost}
-use Rattle.mq_core.specs.declared.model.Kind.{Kind}
-use Rattle.mq_core.specs.declared.model.Rows.{Rows}
+use Rattle.mq_base.proofs.lemmas.Lists.{drop_at}
 use Rattle.mq_stats.proofs.Counts.{count-cons}
-use Rattle.mq_stats.proofs.Gathering.{departed-at}
 use Rattle.mq_stats.proofs.Least.{at-least, least-is, reached}
 use Rattle.mq_stats.proofs.Passing.{passed-later, up_to}
-use Rattle.mq_stats.specs.Percentiles.{departed_waits, hundredths, least_of, percentile, reaches, with_wait}
+use Rattle.mq_stats.specs.Percentiles.{hundredths, least_of, percentile, reaches}
 use Rattle.mq_stats.specs.Tables.{IsReached, IsTableOf}
 
 -- how many of these are this number
@@ -145,75 +140,49 @@ reached-is p (x ∷ xs) table many wait l h r e some none =
     let waits : List ℕ = x ∷ xs in
     reached-least waits table many wait h r (some (omega arith)) ∙ ap (λ m. least_of (filter (reaches m waits) waits)) e
 
--- A wait more. It is counted at its own index, or at the last one where it is greater than those before that.
-below-last : (at waited last : ℕ) → at ≡ min waited last → at < last → waited ≡ at
-below-last at waited last e l = grind (arith, nat_tests)
-
-is-other : (wait at waited last : ℕ) → at ≡ min waited last → wait < last → (wait == at) ≡ false → (waited == wait) ≡ false
-is-other wait at waited last e l n = grind (arith, nat_tests)
-
-not-equal : (wait at : ℕ) → (wait == at) ≡ false → wait ≢ at
+-- A wait more is counted at the index that it is, or at the last one where it is greater.
+not-equal : (wait at : ℕ) → (at == wait) ≡ false → wait ≢ at
 not-equal wait at n e = grind (arith, nat_tests)
 
-is-same : (w wait : ℕ) → w ≡ wait → (w == wait) ≡ true
-is-same w wait e = grind (arith, nat_tests)
-
-counts-one : (table : List ℕ) (last at one waited wait : ℕ) → length table ≡ last + 1 → at ≡ min waited last → wait < last → get_or (set table at (get_or table at 0 + one)) wait 0 ≡ get_or table wait 0 + cond (waited == wait) one 0
-counts-one table last at one waited wait room e l = go (wait == at) refl
+pub counts-next : (table : List ℕ) (last : ℕ) (waits : List ℕ) (i at waited wait all : ℕ) → slice_get waits i ≡ Some waited → length table ≡ last + 1 → at ≡ min waited last →
+    get_or table wait 0 + count_by (λ w. min w last == wait) (drop i waits) ≡ all → get_or (set table at (get_or table at 0 + 1)) wait 0 + count_by (λ w. min w last == wait) (drop (i + 1) waits) ≡ all
+counts-next table last waits i at waited wait all w room e h =
+    let next = ap (count_by (λ w. min w last == wait)) (drop_at waits i waited w) ∙ count-cons (λ w. min w last == wait) waited (drop (i + 1) waits) ∙ ap (λ n. cond (n == wait) 1 0 + count_by (λ w. min w last == wait) (drop (i + 1) waits)) (sym e) in
+    let here = one (at == wait) refl in
+    omega arith
   where
-    go : (b : Bool) → (wait == at) ≡ b → get_or (set table at (get_or table at 0 + one)) wait 0 ≡ get_or table wait 0 + cond (waited == wait) one 0
-    go true k =
-        let here = is-equal wait at k in
-        let own = below-last at waited last e (omega arith) in
-        get_or-set_at table at wait (get_or table at 0 + one) 0 here (omega arith)
-        ∙ (ap (λ i. get_or table i 0 + one) (sym here) ∙ ap (λ b. get_or table wait 0 + cond b one 0) (sym (is-same waited wait (own ∙ sym here))))
-    go false k =
-        let other = get_or-set_other table at wait (get_or table at 0 + one) 0 (not-equal wait at k) in
-        let none = ap (λ b. cond b one 0) (is-other wait at waited last e l k) in
+    one : (b : Bool) → (at == wait) ≡ b → get_or (set table at (get_or table at 0 + 1)) wait 0 ≡ get_or table wait 0 + cond (at == wait) 1 0
+    one true k =
+        let here : wait ≡ at = sym (is-equal at wait k) in
+        get_or-set_at table at wait (get_or table at 0 + 1) 0 here (omega arith)
+        ∙ (ap (λ i. get_or table i 0 + 1) (sym here) ∙ ap (λ b. get_or table wait 0 + cond b 1 0) (sym k))
+    one false k =
+        let other = get_or-set_other table at wait (get_or table at 0 + 1) 0 (not-equal wait at k) in
+        let none = ap (λ b. cond {A = ℕ} b 1 0) k in
         omega arith
 
-none-more : (b : Bool) (one : ℕ) → one ≡ 0 → cond b one 0 ≡ 0
-none-more true one e = e
-none-more false one e = refl
+-- where no wait is greater than the last index but one, all are counted by themselves
+below : (w last wait : ℕ) → w < last → cond {A = ℕ} (min w last == wait) 1 0 ≡ cond {A = ℕ} (w == wait) 1 0
+below w last wait l = grind (arith, nat_tests)
 
-with-next : (rows : Rows) (kind : Kind) (job arrive : ℕ) (fate : Fate) (rest : List ℕ) (wait waited one : ℕ) → waited ≡ sequence_wait rows kind job arrive fate → one ≡ length (with_wait rows kind job arrive fate []) →
-    many_at wait (with_wait rows kind job arrive fate rest) ≡ cond (waited == wait) one 0 + many_at wait rest
-with-next rows kind job arrive (Departs time) rest wait waited one w e =
-    count-cons (λ x. x == wait) (sequence_wait rows kind job arrive (Departs time)) rest ∙ ap (λ n. cond (n == wait) 1 0 + many_at wait rest) (sym w) ∙ ap (λ n. cond (waited == wait) n 0 + many_at wait rest) (sym e)
-with-next rows kind job arrive Lost rest wait waited one w e = let none = none-more (waited == wait) one e in omega arith
-with-next rows kind job arrive Held rest wait waited one w e = let none = none-more (waited == wait) one e in omega arith
-
-with-length : (rows : Rows) (kind : Kind) (job arrive : ℕ) (fate : Fate) (rest : List ℕ) (one : ℕ) → one ≡ length (with_wait rows kind job arrive fate []) → length (with_wait rows kind job arrive fate rest) ≡ one + length rest
-with-length rows kind job arrive (Departs time) rest one e = omega arith
-with-length rows kind job arrive Lost rest one e = omega arith
-with-length rows kind job arrive Held rest one e = omega arith
-
--- what is counted so far, with the waits that are left, is all
-pub counts-next : (rows : Rows) (kind : Kind) (jobs arrives : List ℕ) (fates : List Fate) (i job arrive : ℕ) (fate : Fate) (table : List ℕ) (last at one waited wait all : ℕ) → slice_get jobs i ≡ Some job → slice_get arrives i ≡ Some arrive → slice_get fates i ≡ Some fate →
-    length table ≡ last + 1 → at ≡ min waited last → wait < last → waited ≡ sequence_wait rows kind job arrive fate → one ≡ length (with_wait rows kind job arrive fate []) → get_or table wait 0 + many_at wait (departed_waits rows kind (drop i jobs) (drop i arrives) (drop i fates)) ≡ all →
-    get_or (set table at (get_or table at 0 + one)) wait 0 + many_at wait (departed_waits rows kind (drop (i + 1) jobs) (drop (i + 1) arrives) (drop (i + 1) fates)) ≡ all
-counts-next rows kind jobs arrives fates i job arrive fate table last at one waited wait all j a f room e l w o h =
-    let rest = departed_waits rows kind (drop (i + 1) jobs) (drop (i + 1) arrives) (drop (i + 1) fates) in
-    let next = ap (many_at wait) (departed-at rows kind jobs arrives fates i job arrive fate j a f) ∙ with-next rows kind job arrive fate rest wait waited one w o in
-    let here = counts-one table last at one waited wait room e l in
+pub counts-own : (last wait : ℕ) (waits : List ℕ) → Each (λ w. w < last) waits → count_by (λ w. min w last == wait) waits ≡ many_at wait waits
+counts-own last wait [] h = refl
+counts-own last wait (w ∷ waits) h =
+    let all = count-cons (λ x. min x last == wait) w waits in
+    let own = count-cons (λ x. x == wait) w waits in
+    let one = below w last wait h.0 in
+    let rest = counts-own last wait waits h.1 in
     omega arith
 
-pub lengths-next : (rows : Rows) (kind : Kind) (jobs arrives : List ℕ) (fates : List Fate) (i job arrive : ℕ) (fate : Fate) (many one all : ℕ) → slice_get jobs i ≡ Some job → slice_get arrives i ≡ Some arrive → slice_get fates i ≡ Some fate →
-    one ≡ length (with_wait rows kind job arrive fate []) → many + length (departed_waits rows kind (drop i jobs) (drop i arrives) (drop i fates)) ≡ all →
-    many + one + length (departed_waits rows kind (drop (i + 1) jobs) (drop (i + 1) arrives) (drop (i + 1) fates)) ≡ all
-lengths-next rows kind jobs arrives fates i job arrive fate many one all j a f o h =
-    let rest = departed_waits rows kind (drop (i + 1) jobs) (drop (i + 1) arrives) (drop (i + 1) fates) in
-    let next = ap (λ (l : List ℕ). length l) (departed-at rows kind jobs arrives fates i job arrive fate j a f) ∙ with-length rows kind job arrive fate rest one o in
+-- and below the last index each is
+under : (w last wait : ℕ) → wait < last → cond {A = ℕ} (min w last == wait) 1 0 ≡ cond {A = ℕ} (w == wait) 1 0
+under w last wait l = grind (arith, nat_tests)
+
+pub counts-under : (last wait : ℕ) (waits : List ℕ) → wait < last → count_by (λ w. min w last == wait) waits ≡ many_at wait waits
+counts-under last wait [] l = refl
+counts-under last wait (w ∷ waits) l =
+    let all = count-cons (λ x. min x last == wait) w waits in
+    let own = count-cons (λ x. x == wait) w waits in
+    let one = under w last wait l in
+    let rest = counts-under last wait waits l in
     omega arith
-
--- an item that is put in is in its bound, and the others stay so
-pub set-small : (xs : List ℕ) (at x i most : ℕ) → at < length xs → x ≤ most → get_or xs i 0 ≤ most → get_or (set xs at x) i 0 ≤ most
-set-small xs at x i most l h k = go (i == at) refl
-  where
-    go : (b : Bool) → (i == at) ≡ b → get_or (set xs at x) i 0 ≤ most
-    go true e = let own = get_or-set_at xs at i x 0 (is-equal i at e) l in omega arith
-    go false e = let other = get_or-set_other xs at i x 0 (not-equal i at e) in omega arith
-
--- behind the last visit no wait is left
-pub none-left : (rows : Rows) (kind : Kind) (jobs arrives : List ℕ) (fates : List Fate) (i : ℕ) → length jobs ≤ i → departed_waits rows kind (drop i jobs) (drop i arrives) (drop i fates) ≡ []
-none-left rows kind jobs arrives fates i l = ap (λ js. departed_waits rows kind js (drop i arrives) (drop i fates)) (drop_all i jobs l)

@@ -1,9 +1,12 @@
 pub mod Ahead
+pub mod Bare
+pub mod Blocks
 pub mod Departures
+pub mod Exits
 pub mod Lasts
 pub mod Numbers
 pub mod Percentiles
-pub mod Tables
 pub mod RunNumbers
+pub mod Tables
 pub mod WaitCounts
 pub mod Waits

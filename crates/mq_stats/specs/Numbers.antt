@@ -2,12 +2,7 @@
 use Rattle.std.specs.Prelude.{◌≡◌, ◌+◌, ◌*◌, ◌^◌, ◌<◌, ◌≤◌, ℕ, List, All, length, max}
 use Rattle.mq_base.specs.Lists.{between}
 use Rattle.mq_core.specs.Asked.{HasDemands}
-use Rattle.mq_core.specs.Fates.{service_time}
-use Rattle.mq_core.specs.Handling.{demand_of_job}
-use Rattle.mq_core.specs.Results.{Totals, bare_time}
-use Rattle.mq_core.specs.Sequences.{sequence_totals}
-use Rattle.mq_core.specs.Told.{HasDemand}
-use Rattle.mq_core.specs.declared.model.Demand.{Demand}
+use Rattle.mq_core.specs.Results.{Totals}
 use Rattle.mq_core.specs.declared.model.Fate.{Fate}
 use Rattle.mq_core.specs.declared.model.Kind.{Kind}
 use Rattle.mq_core.specs.declared.model.Rows.{Rows}
@@ -33,12 +28,6 @@ visits_of_columns job arrive found fate = record { job = job; arrive = arrive; f
 abbrev pub visits_between : ℕ → ℕ → Visits → Visits
 visits_between from to visits =
     visits_of_columns (between from to visits.job) (between from to visits.arrive) (between from to visits.found) (between from to visits.fate)
-
--- what a job asks for at a node of this kind is this demand alone: it is both its bare time and its service
-pub record AsksOnce (kind : Kind) (demand : Demand) : Type 0 where
-  pub told : (rows : Rows) (job : ℕ) → HasDemands rows kind job → HasDemand rows demand job
-  pub bare : (rows : Rows) (job : ℕ) → bare_time rows kind job ≡ demand_of_job rows demand job
-  pub service : (rows : Rows) (job : ℕ) → service_time rows kind job ≡ demand_of_job rows demand job
 
 -- a stream of jobs of these rows, no longer than that
 pub record AreLeaving (rows : Rows) (stream : Stream) : Type 0 where
@@ -85,9 +74,3 @@ added_totals before after =
       area = before.area + after.area;
       peak = max before.peak after.peak;
     }
-
--- The totals of neighbouring visits, added up, are those of all of them; and the visits from the first to the last are all.
-pub record TotalsJoin : Type 0 where
-  pub join : (rows : Rows) (kind : Kind) (visits : Visits) → AreVisits rows kind visits → (span from middle to : ℕ) → from ≤ middle → middle ≤ to → to ≤ length visits.job →
-      added_totals (sequence_totals rows kind (visits_between from middle visits) span) (sequence_totals rows kind (visits_between middle to visits) span) ≡ sequence_totals rows kind (visits_between from to visits) span
-  pub whole : (rows : Rows) (kind : Kind) (visits : Visits) → AreVisits rows kind visits → visits_between 0 (length visits.job) visits ≡ visits

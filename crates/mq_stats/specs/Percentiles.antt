@@ -1,7 +1,7 @@
 -- The waits of the visits that depart from a node, and their percentiles.
-use Rattle.std.specs.Prelude.{◌≡◌, ℕ, ◌+◌, ◌*◌, ◌/◌, Bool, List, [], ◌∷◌, count_by, fold, length, min, nat_le}
+use Rattle.std.specs.Prelude.{◌≡◌, ℕ, ◌+◌, ◌*◌, ◌/◌, Bool, List, [], ◌∷◌, count_by, fold, length, max, min, nat_le}
 use Rattle.std.specs.List.{filter}
-use Rattle.mq_core.specs.Sequences.{sequence_wait}
+use Rattle.mq_core.specs.Sequences.{sequence_wait, sequence_waits}
 use Rattle.mq_core.specs.declared.model.Fate.{Fate}
 use Rattle.mq_core.specs.declared.model.Fate.TheVariants.{Departs, Held, Lost}
 use Rattle.mq_core.specs.declared.model.Kind.{Kind}
@@ -26,6 +26,10 @@ departed_waits rows kind (job ∷ jobs) (arrive ∷ arrives) (fate ∷ fates) =
 -- the same of all visits to a node
 abbrev pub waits_at : Rows → Kind → Visits → List ℕ
 waits_at rows kind visits = departed_waits rows kind visits.job visits.arrive visits.fate
+
+-- the longest wait of any visit to a node, or 0 where nobody came
+abbrev pub longest_wait : Rows → Kind → Visits → ℕ
+longest_wait rows kind visits = fold max 0 (sequence_waits rows kind visits.job visits.arrive visits.fate)
 
 -- so many hundredths of a number, rounded up
 abbrev pub hundredths : ℕ → ℕ → ℕ

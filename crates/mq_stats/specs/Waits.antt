@@ -1,13 +1,11 @@
--- Visits whose waits are worked out, and how their jobs ask.
-use Rattle.std.specs.Prelude.{◌≡◌, ◌≤◌, ℕ, List, All, length}
+-- Visits whose waits are worked out.
+use Rattle.std.specs.Prelude.{◌≡◌, ◌*◌, ◌^◌, ◌≤◌, ℕ, List, All, fold, length, max, sum}
+use Rattle.std.specs.List.{AllByRecursion}
 use Rattle.mq_core.specs.Asked.{HasDemands}
 use Rattle.mq_core.specs.Sequences.{sequence_services, sequence_waits}
-use Rattle.mq_core.specs.declared.model.Demand.TheVariants.{Column, Fixed}
-use Rattle.mq_core.specs.declared.model.Kind.{Kind}
-use Rattle.mq_stats.specs.Numbers.{AsksOnce}
 use Rattle.mq_stats.specs.Percentiles.{departed_waits}
-use Rattle.mq_stats.specs.declared.waits.Asks.{Asks}
-use Rattle.mq_stats.specs.declared.waits.Asks.TheVariants.{AllAlike, ByColumn, ByServers, Nothing}
+use Rattle.mq_stats.specs.declared.waits.Sums.{Sums}
+use Rattle.mq_stats.specs.declared.waits.Waited.{Waited}
 use Rattle.mq_stats.specs.declared.waits.Waiting.{Waiting}
 
 -- The columns of some visits are of one length: the rows tell what each job asks for there, and there are no more visits than
@@ -30,9 +28,19 @@ services_in waiting = sequence_services waiting.rows.now waiting.kind.now waitin
 abbrev pub departed_waits_in : Waiting → List ℕ
 departed_waits_in waiting = departed_waits waiting.rows.now waiting.kind.now waiting.job.now waiting.arrive.now waiting.fate.now
 
--- the jobs ask so at nodes of this kind
-abbrev pub AskSo : Kind → Asks → Type 0
-AskSo kind Nothing = AsksOnce kind (Fixed 0)
-AskSo kind (ByColumn asking) = AsksOnce kind (Column asking.0)
-AskSo kind (AllAlike asking) = AsksOnce kind (Fixed asking.0)
-AskSo kind (ByServers asking) = Unit {0}
+-- the waits of those of these visits that depart, none longer than the longest, which with the sum is told of all
+pub record AreWaited (waiting : Waiting) (told : Waited) : Type 0 where
+  pub waits : told.waits ≡ departed_waits_in waiting
+  pub few : length told.waits ≤ 1048576
+  pub most : AllByRecursion (λ wait. wait ≤ told.longest) told.waits
+  pub wait : told.wait ≡ sum (waits_in waiting)
+  pub longest : told.longest ≡ fold max 0 (waits_in waiting)
+  pub small : told.wait ≤ length waiting.job.now * 2 ^ 64
+
+-- the sum and the greatest of how long they waited, and the sum of how long they were served
+pub record AreSums (waiting : Waiting) (sums : Sums) : Type 0 where
+  pub wait : sums.wait ≡ sum (waits_in waiting)
+  pub longest : sums.longest ≡ fold max 0 (waits_in waiting)
+  pub busy : sums.busy ≡ sum (services_in waiting)
+  pub small : sums.wait ≤ length waiting.job.now * 2 ^ 64
+  pub small_busy : sums.busy ≤ length waiting.job.now * 2 ^ 64

@@ -1,12 +1,14 @@
 // What leaves a network by an output.
-ghost use Rattle.std.specs.Prelude.{◌≡◌};
-ghost use Rattle.mq_core.specs.Sequences.{sequence_exit};
+ghost use Rattle.std.specs.Prelude.{◌≡◌, ◌+◌, ◌*◌, ◌^◌, ◌<◌, ◌≤◌, All, length, sum};
+ghost use Rattle.mq_core.specs.Sequences.{sequence_exit, stream_sojourns};
+ghost use Rattle.mq_stats.specs.Exits.{ExitsJoin, IsExitOf, stream_between};
 ghost use Rattle.mq_stats.specs.Numbers.{AreLeaving};
 
+use crate::tallies::part;
 use mq_core::{Rows, Stream};
 
 /// What leaves a network by an output.
-#[derive(Clone, Copy, PartialEq, Eq)]
+#[derive(Clone, Copy, PartialEq, Eq, Drop)]
 pub struct Exit {
     /// How many jobs leave.
     pub count: u32,
@@ -14,18 +16,63 @@ pub struct Exit {
     pub sojourn: u128,
 }
 
+// How long these jobs, which leave at these times, were in the network, in ticks.
+fn sojourns_of(rows: &Rows, job: &[u32], time: &[u64]) -> u128
+    requires jobs { All (λ job. job < length rows.now.time) job.now }
+    requires few { length job.now ≤ 1048576 }
+    requires even { length job.now ≡ length time.now }
+    ensures sum { result ≡ sum (stream_sojourns rows.now job.now time.now) }
+    ensures small { result ≤ length job.now * 2 ^ 64 }
+{
+    let mut sojourn: u128 = 0;
+    for at in 0..job.len() {
+        let entered = *rows.time.get(job[at] as usize);
+        sojourn += time[at].saturating_sub(entered) as u128;
+    }
+    sojourn
+}
+
+/// How many jobs a stream has from one position up to another, and how long they were in the network, in ticks.
+pub fn leaving_between(rows: &Rows, stream: &Stream, from: u32, to: u32) -> Exit
+    requires leaving { AreLeaving rows.now stream.now }
+    requires order { from ≤ to }
+    requires within { to ≤ length stream.now.job }
+    ensures { IsExitOf rows.now (stream_between from to stream.now) result }
+{
+    let job = part(&stream.job, from, to);
+    let time = part(&stream.time, from, to);
+    Exit {
+        count: job.len() as u32,
+        sojourn: sojourns_of(rows, job, time),
+    }
+}
+
+/// What leaves by a stream, of what leaves by its part before a position and by that from it on. Together they have at most
+/// 1,048,576 jobs.
+pub fn exits_added(before: &Exit, after: &Exit) -> Exit
+    requires before { before.now.sojourn ≤ before.now.count * 2 ^ 64 }
+    requires after { after.now.sojourn ≤ after.now.count * 2 ^ 64 }
+    requires few { before.now.count + after.now.count ≤ 1048576 }
+    ensures count { result.count ≡ before.now.count + after.now.count }
+    ensures sojourn { result.sojourn ≡ before.now.sojourn + after.now.sojourn }
+{
+    Exit {
+        count: before.count + after.count,
+        sojourn: before.sojourn + after.sojourn,
+    }
+}
+
+/// What leaves by neighbouring parts of a stream, added up, is what leaves by both together, and the part from the first job to
+/// the last is all of it. It does nothing when it runs.
+pub fn exits_join()
+    ensures { ExitsJoin }
+{}
+
 /// How many jobs a stream has, and how long they were in the network, in ticks.
 pub fn leaving(rows: &Rows, stream: &Stream) -> Exit
     requires { AreLeaving rows.now stream.now }
     ensures { (result.count, result.sojourn) ≡ sequence_exit rows.now stream.now }
 {
-    let mut sojourn: u128 = 0;
-    for at in 0..stream.job.len() {
-        let entered = *rows.time.get(*stream.job.get(at) as usize);
-        sojourn += stream.time.get(at).saturating_sub(entered) as u128;
-    }
-    Exit {
-        count: stream.job.len() as u32,
-        sojourn,
-    }
+    exits_join();
+    leaving_between(rows, stream, 0, stream.job.len() as u32)
 }

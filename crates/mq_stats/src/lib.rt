@@ -2,6 +2,8 @@
 //! what leaves by an output, and the time span.
 #![tactic(auto)]
 
+mod bare;
+mod blocks;
 mod exits;
 mod in_order;
 mod laws;
@@ -14,7 +16,8 @@ mod tallies;
 mod wait_counts;
 mod waits;
 
-pub use exits::{Exit, leaving};
+pub use blocks::{BlockCount, blocks_added, count_block};
+pub use exits::{Exit, exits_added, exits_join, leaving, leaving_between};
 pub use laws::{lasts_are_greatest, runs_give_streams, runs_give_visits, runs_have_few_visits};
 pub use occupancy::found;
 pub use pieces::{
@@ -22,6 +25,8 @@ pub use pieces::{
 };
 pub use spans::{last_at, span};
 pub use tails::{Percentiles, tail, tail_below};
-pub use tallies::{NodeTotals, totals, totals_added, totals_between, totals_join};
-pub use wait_counts::{WaitCounts, count_between, counted_percentiles, counts_added, waits_join};
+pub use tallies::{NodeTotals, totals};
+pub use wait_counts::{
+    WaitCounts, count_between, counted_percentiles, counts_added, no_counts, waits_join,
+};
 pub use waits::wait_of;

@@ -3,9 +3,10 @@ ghost use Rattle.std.specs.Prelude.{◌≡◌, ◌+◌, ◌*◌, ◌<◌, ◌≤
 ghost use Rattle.mq_base.specs.Lists.{between};
 ghost use Rattle.mq_core.specs.Results.{is_held, is_lost, numbers_of, one_more, peak_of};
 ghost use Rattle.mq_core.specs.Sequences.{sequence_sojourn, sequence_sojourns, sequence_totals};
-ghost use Rattle.mq_stats.specs.Numbers.{AreSmall, AreVisits, TotalsJoin, added_totals, totals_from, visits_between, visits_of_columns};
+ghost use Rattle.mq_stats.specs.Numbers.{AreSmall, AreVisits, added_totals, totals_from, visits_of_columns};
+ghost use Rattle.mq_stats.specs.Waits.{AreSums};
 
-use crate::waits::{Waiting, waits_of};
+use crate::waits::{Sums, Waiting, sums_of};
 use mq_base::List;
 use mq_core::{Fate, FateSlice, Kind, Rows, Visits};
 
@@ -80,15 +81,14 @@ fn number_after(found: u32, fate: Fate) -> u32
 // What is counted, added up and greatest over visits, whatever the kind of the node and the span of
 // the run. A stay is that of a visit that departed.
 #[derive(Clone, Copy)]
-pub struct Stays {
-    pub lost: u32,
-    pub held: u32,
-    pub stay: u128,
-    pub longest: u64,
-    pub greatest: u32,
+struct Stays {
+    lost: u32,
+    held: u32,
+    stay: u128,
+    greatest: u32,
 }
 
-// The lost visits, the held ones, the sum and the greatest of the stays, and the greatest number of
+// The lost visits, the held ones, the sum of the stays, and the greatest number of
 // jobs just after a visit came. With a span of 0 a held visit doesn't stay.
 // Its loop is not inlined, so that it has the registers to itself.
 #[inline(never)]
@@ -100,11 +100,10 @@ fn stays_of(arrive: &[u64], found: &[u32], fate: &FateSlice) -> Stays
     ensures lost { result.lost ≡ count_by is_lost fate.now }
     ensures held { result.held ≡ count_by is_held fate.now }
     ensures stay { result.stay ≡ sum (sequence_sojourns 0 arrive.now fate.now) }
-    ensures longest { result.longest ≡ fold max 0 (sequence_sojourns 0 arrive.now fate.now) }
     ensures greatest { result.greatest ≡ fold max 0 (numbers_of found.now fate.now) }
     ensures small { result.stay ≤ length arrive.now * 2 ^ 64 }
 {
-    let (mut lost, mut held, mut longest, mut greatest) = (0u32, 0u32, 0u64, 0u32);
+    let (mut lost, mut held, mut greatest) = (0u32, 0u32, 0u32);
     let mut stay = 0u128;
     for at in 0..arrive.len() {
         let ending = fate.at(at);
@@ -112,14 +111,12 @@ fn stays_of(arrive: &[u64], found: &[u32], fate: &FateSlice) -> Stays
         lost += one_if_lost(ending);
         held += one_if_held(ending);
         stay += stayed as u128;
-        longest = longest.max(stayed);
         greatest = greatest.max(number_after(found[at], ending));
     }
     Stays {
         lost,
         held,
         stay,
-        longest,
         greatest,
     }
 }
@@ -172,40 +169,26 @@ fn peak_at(kind: &Kind, greatest: u32, found: &[u32], fate: &FateSlice) -> u32
     }
 }
 
-// The totals of visits to a node of this kind, which stand in these columns, in a run with this span.
-fn totals_of(
-    rows: &Rows,
-    kind: &Kind,
-    span: u64,
-    job: &[u32],
-    arrive: &[u64],
-    found: &[u32],
-    fate: &FateSlice,
-) -> NodeTotals
-    requires { AreVisits rows.now kind.now (visits_of_columns job.now arrive.now found.now fate.now) }
-    ensures totals { totals_from result ≡ sequence_totals rows.now kind.now (visits_of_columns job.now arrive.now found.now fate.now) span }
+// The totals of visits to a node of this kind, which stand in these columns and have these sums, in a run with this span.
+pub fn totals_of(waiting: &Waiting, found: &[u32], span: u64, sums: &Sums) -> NodeTotals
+    requires visits { AreVisits waiting.now.rows.now waiting.now.kind.now (visits_of_columns waiting.now.job.now waiting.now.arrive.now found.now waiting.now.fate.now) }
+    requires sums { AreSums waiting.now sums.now }
+    ensures totals { totals_from result ≡ sequence_totals waiting.now.rows.now waiting.now.kind.now (visits_of_columns waiting.now.job.now waiting.now.arrive.now found.now waiting.now.fate.now) span }
     ensures small { AreSmall result }
 {
-    let came = job.len() as u32;
+    let (arrive, fate) = (waiting.arrive, waiting.fate);
+    let came = waiting.job.len() as u32;
     let stays = stays_of(arrive, found, fate);
-    let waiting = Waiting {
-        rows,
-        kind,
-        job,
-        arrive,
-        fate,
-    };
-    let waits = waits_of(&waiting, &stays);
     NodeTotals {
         came,
         left: came - stays.lost - stays.held,
         lost: stays.lost,
         held: stays.held,
-        wait: waits.wait,
-        longest: waits.longest,
-        busy: waits.busy,
+        wait: sums.wait,
+        longest: sums.longest,
+        busy: sums.busy,
         area: area_of(span, arrive, fate, &stays),
-        peak: peak_at(kind, stays.greatest, found, fate),
+        peak: peak_at(waiting.kind, stays.greatest, found, fate),
     }
 }
 
@@ -218,31 +201,8 @@ pub fn part<T>(items: &List<T>, from: u32, to: u32) -> &[T]
     &items.as_slice()[from as usize..to as usize]
 }
 
-/// The totals of the visits to a node of this kind from one position up to another, as if no other
-/// came, in a run with this span.
-pub fn totals_between(
-    rows: &Rows,
-    kind: &Kind,
-    visits: &Visits,
-    span: u64,
-    from: u32,
-    to: u32,
-) -> NodeTotals
-    requires visits { AreVisits rows.now kind.now visits.now }
-    requires order { from ≤ to }
-    requires within { to ≤ length visits.now.job }
-    ensures totals { totals_from result ≡ sequence_totals rows.now kind.now (visits_between from to visits.now) span }
-    ensures small { AreSmall result }
-{
-    let job = part(&visits.job, from, to);
-    let arrive = part(&visits.arrive, from, to);
-    let found = part(&visits.found, from, to);
-    let fate = visits.fate.part(from as usize, to as usize);
-    totals_of(rows, kind, span, job, arrive, found, &fate)
-}
-
-/// The totals of visits to a node, of the totals of those before a position and of those from it on.
-/// Together they are at most 1,048,576 visits.
+// The totals of visits to a node, of the totals of those before a position and of those from it on.
+// Together they are at most 1,048,576 visits.
 pub fn totals_added(before: &NodeTotals, after: &NodeTotals) -> NodeTotals
     requires before { AreSmall before.now }
     requires after { AreSmall after.now }
@@ -263,14 +223,8 @@ pub fn totals_added(before: &NodeTotals, after: &NodeTotals) -> NodeTotals
     }
 }
 
-/// The totals of neighbouring visits, added up, are those of all of them, and the visits from the first
-/// to the last are all. It does nothing when it runs.
-pub fn totals_join()
-    ensures { TotalsJoin }
-{}
-
 /// The totals of a node of this kind, from its visits and the span of the run, in ticks, by which
-/// those end that are held.
+/// those end that are held. It looks at one visit after another, and takes no memory; `count_block` tells the same of a block.
 ///
 /// The busy time is below 2^100 ticks.
 pub fn totals(rows: &Rows, kind: &Kind, visits: &Visits, span: u64) -> NodeTotals
@@ -278,14 +232,13 @@ pub fn totals(rows: &Rows, kind: &Kind, visits: &Visits, span: u64) -> NodeTotal
     ensures totals { totals_from result ≡ sequence_totals rows.now kind.now visits.now span }
     ensures small { result.busy < 2 ^ 100 }
 {
-    let fate = visits.fate.as_slice();
-    totals_of(
+    let waiting = Waiting {
         rows,
         kind,
-        span,
-        visits.job.as_slice(),
-        visits.arrive.as_slice(),
-        visits.found.as_slice(),
-        &fate,
-    )
+        job: visits.job.as_slice(),
+        arrive: visits.arrive.as_slice(),
+        fate: &visits.fate.as_slice(),
+    };
+    let sums = sums_of(&waiting);
+    totals_of(&waiting, visits.found.as_slice(), span, &sums)
 }

@@ -1,63 +1,80 @@
 // How many of the waits at a node are each number of ticks, by pieces of its visits.
-ghost use Rattle.std.specs.Prelude.{◌≡◌, ◌↔◌, ◌+◌, ◌++◌, ◌<◌, ◌≤◌, ℕ, List as Items, IfOk, IfSome, IsSome, get_or, length};
+ghost use Rattle.std.specs.Prelude.{◌≡◌, ◌↔◌, ◌+◌, ◌-◌, ◌++◌, ◌==◌, ◌<◌, ◌≤◌, ℕ, List as Items, IfOk, IfSome, IsSome, [], count_by, get_or, length, min};
+ghost use Rattle.std.specs.List.{AllByRecursion};
 ghost use Rattle.mq_stats.specs.Numbers.{AreVisits, visits_between};
-ghost use Rattle.mq_stats.specs.Percentiles.{ArePercentiles, hundredths, waits_at};
+ghost use Rattle.mq_stats.specs.Percentiles.{ArePercentiles, hundredths, longest_wait, waits_at};
 ghost use Rattle.mq_stats.specs.Tables.{own_counts};
-ghost use Rattle.mq_stats.specs.WaitCounts.{AreCountsTo, WaitsJoin};
-ghost use Rattle.mq_stats.specs.Waits.{AreWaiting, departed_waits_in};
+ghost use Rattle.mq_stats.specs.WaitCounts.{AreCounts, WaitsJoin};
 
-use crate::tails::{Percentiles, count_waits, counted};
+use crate::tails::{Percentiles, counted};
 use crate::tallies::part;
-use crate::waits::{Alike, Asking, Asks, Waiting, asks_at};
+use crate::waits::{Waiting, waits_of};
 use mq_base::{List, OutOfMemory};
 use mq_core::{Kind, Rows, Visits};
 use std::alloc::Global;
 
-/// How many of some waits are each number of ticks up to a greatest one.
+/// How many of some waits are each number of ticks.
 #[derive(Drop)]
 pub struct WaitCounts {
     /// How many waits they are.
     pub many: u32,
-    /// For each number of ticks, how many of them are that long. One number more stands behind these, for the longer ones.
+    /// For each number of ticks, how many of them are that long: at least for each number up to the longest.
     pub counts: List<u32>,
 }
 
-/// The counts of the waits of these visits, whose jobs ask so.
-pub fn counts_by<A: Asking>(
-    alloc: Global,
-    asking: &A,
-    waiting: &Waiting,
-    most: u32,
-) -> Result<WaitCounts, OutOfMemory>
-    requires tells { A.tells asking.now waiting.now.kind.now }
-    requires visits { AreWaiting waiting.now }
-    requires most { most ≤ 1048576 }
-    ensures { IfOk result (AreCountsTo most (departed_waits_in waiting.now)) }
+// Counts waits in a table: each at the index that it is, and all that are as great as the last index or greater there.
+// Its loop is not inlined, so that it has the registers to itself.
+#[inline(never)]
+pub fn count_waits(table: &mut [u32], waits: &[u64])
+    requires some { 0 < length table.old }
+    requires few { length waits.now ≤ 1048576 }
+    requires empty { (wait : ℕ) → get_or table.old wait 0 ≡ 0 }
+    ensures room { length table.new ≡ length table.old }
+    ensures counts { (wait : ℕ) → get_or table.new wait 0 ≡ count_by (λ w. min w (length table.old - 1) == wait) waits.now }
 {
-    let mut table = vec![in alloc; 0u32; most as usize + 2]?;
-    let many = count_waits(asking, waiting, table.as_mut_slice());
+    let last = table.len() - 1;
+    for at in 0..waits.len() {
+        table[waits[at].min(last as u64) as usize] += 1;
+    }
+}
+
+/// The counts of no waits.
+pub fn no_counts(alloc: Global) -> Result<WaitCounts, OutOfMemory>
+    ensures { IfOk result (AreCounts []) }
+{
+    let table = vec![in alloc; 0u32; 2]?;
     Ok(WaitCounts {
-        many: many as u32,
+        many: 0,
         counts: List::from_vec(table),
     })
 }
 
-// The same, by how the jobs ask at the node.
-fn counts_of(alloc: Global, waiting: &Waiting, most: u32) -> Result<WaitCounts, OutOfMemory>
-    requires visits { AreWaiting waiting.now }
+// The counts of these waits, of which none is longer than `longest` ticks, exactly where that is no more than `most`.
+pub fn counts_of(
+    alloc: Global,
+    waits: &[u64],
+    longest: u64,
+    most: u32,
+) -> Result<Option<WaitCounts>, OutOfMemory>
+    requires few { length waits.now ≤ 1048576 }
+    requires longest { AllByRecursion (λ wait. wait ≤ longest) waits.now }
     requires most { most ≤ 1048576 }
-    ensures { IfOk result (AreCountsTo most (departed_waits_in waiting.now)) }
+    ensures told { IfOk result (λ counts. IsSome counts ↔ (longest ≤ most)) }
+    ensures counts { IfOk result (λ counts. IfSome counts (AreCounts waits.now)) }
 {
-    match asks_at(waiting.kind) {
-        Asks::Nothing => counts_by(alloc, &Alike(0), waiting, most),
-        Asks::ByColumn(asking) => counts_by(alloc, &asking, waiting, most),
-        Asks::AllAlike(asking) => counts_by(alloc, &asking, waiting, most),
-        Asks::ByServers(asking) => counts_by(alloc, &asking, waiting, most),
+    if longest > most as u64 {
+        return Ok(None);
     }
+    let mut table = vec![in alloc; 0u32; longest as usize + 2]?;
+    count_waits(table.as_mut_slice(), waits);
+    Ok(Some(WaitCounts {
+        many: waits.len() as u32,
+        counts: List::from_vec(table),
+    }))
 }
 
-/// The counts of the waits of those visits to a node of this kind that depart, from one position up to another: of each number
-/// of ticks up to `most`. It refuses for want of memory alone.
+/// The counts of the waits of those visits to a node of this kind that depart, from one position up to another, exactly where
+/// none is longer than `most` ticks. It refuses for want of memory alone.
 pub fn count_between(
     alloc: Global,
     rows: &Rows,
@@ -66,12 +83,13 @@ pub fn count_between(
     most: u32,
     from: u32,
     to: u32,
-) -> Result<WaitCounts, OutOfMemory>
+) -> Result<Option<WaitCounts>, OutOfMemory>
     requires visits { AreVisits rows.now kind.now visits.now }
     requires most { most ≤ 1048576 }
     requires order { from ≤ to }
     requires within { to ≤ length visits.now.job }
-    ensures { IfOk result (AreCountsTo most (waits_at rows.now kind.now (visits_between from to visits.now))) }
+    ensures told { IfOk result (λ counts. IsSome counts ↔ (longest_wait rows.now kind.now (visits_between from to visits.now) ≤ most)) }
+    ensures counts { IfOk result (λ counts. IfSome counts (AreCounts (waits_at rows.now kind.now (visits_between from to visits.now)))) }
 {
     let waiting = Waiting {
         rows,
@@ -80,44 +98,68 @@ pub fn count_between(
         arrive: part(&visits.arrive, from, to),
         fate: &visits.fate.part(from as usize, to as usize),
     };
-    counts_of(alloc, &waiting, most)
+    let told = waits_of(alloc, &waiting)?;
+    let counts = counts_of(alloc, told.waits.as_slice(), told.longest, most);
+    drop(told);
+    counts
 }
 
 // Adds to each count the other at its index.
 fn add_each(counts: &mut [u32], more: &[u32])
-    requires even { length more.now ≡ length counts.old }
+    requires room { length more.now ≤ length counts.old }
     requires small { (at : ℕ) → get_or counts.old at 0 + get_or more.now at 0 ≤ 1048576 }
     ensures room { length counts.new ≡ length counts.old }
     ensures sums { (at : ℕ) → get_or counts.new at 0 ≡ get_or counts.old at 0 + get_or more.now at 0 }
 {
-    for at in 0..counts.len() {
+    for at in 0..more.len() {
         counts[at] += more[at];
     }
 }
 
-/// The counts of some waits and of others, added up. Together they are at most 1,048,576 waits.
-pub fn counts_added(before: WaitCounts, after: &WaitCounts) -> WaitCounts
-    requires even { length after.now.counts ≡ length before.counts }
-    requires before { (wait : ℕ) → get_or before.counts wait 0 ≤ before.many }
-    requires after { (wait : ℕ) → get_or after.now.counts wait 0 ≤ after.now.many }
-    requires few { before.many + after.now.many ≤ 1048576 }
-    ensures { (most : ℕ) (waits more : Items ℕ) → AreCountsTo most waits before → AreCountsTo most more after.now → AreCountsTo most (waits ++ more) result }
+// The same counts, with room for so many.
+fn with_room(alloc: Global, counts: List<u32>, room: usize) -> Result<Vec<u32>, OutOfMemory>
+    requires small { (at : ℕ) → get_or counts at 0 ≤ 1048576 }
+    ensures room { IfOk result (λ longer. (length counts ≤ length longer.items) × (room ≤ length longer.items)) }
+    ensures most { IfOk result (λ longer. (most : ℕ) → length counts ≤ most → room ≤ most → length longer.items ≤ most) }
+    ensures same { IfOk result (λ longer. (at : ℕ) → get_or longer.items at 0 ≡ get_or counts at 0) }
 {
-    let mut counts = before.counts.into_vec();
-    add_each(counts.as_mut_slice(), after.counts.as_slice());
-    WaitCounts {
-        many: before.many + after.many,
-        counts: List::from_vec(counts),
+    if room <= counts.len() {
+        return Ok(counts.into_vec());
     }
+    let mut longer = vec![in alloc; 0u32; room]?;
+    add_each(longer.as_mut_slice(), counts.as_slice());
+    drop(counts);
+    Ok(longer)
 }
 
-/// The percentiles of the waits of these counts, where 99 of 100 of them are counted by themselves.
+/// The counts of some waits and of others, added up. Together they are at most 1,048,576 waits. It refuses for want of memory
+/// alone.
+pub fn counts_added(
+    alloc: Global,
+    before: WaitCounts,
+    after: &WaitCounts,
+) -> Result<WaitCounts, OutOfMemory>
+    requires before { (waits : Items ℕ) × AreCounts waits before }
+    requires after { (waits : Items ℕ) × AreCounts waits after.now }
+    requires few { before.many + after.now.many ≤ 1048576 }
+    ensures { IfOk result (λ both. (waits more : Items ℕ) → AreCounts waits before → AreCounts more after.now → AreCounts (waits ++ more) both) }
+{
+    let WaitCounts { many, counts } = before;
+    let mut counts = with_room(alloc, counts, after.counts.len())?;
+    add_each(counts.as_mut_slice(), after.counts.as_slice());
+    Ok(WaitCounts {
+        many: many + after.many,
+        counts: List::from_vec(counts),
+    })
+}
+
+/// The percentiles of the waits of these counts, where 99 of 100 of them are counted before the last number.
 pub fn counted_percentiles(counts: &WaitCounts) -> Option<Percentiles>
     requires some { 1 < length counts.now.counts }
     requires room { length counts.now.counts ≤ 1048578 }
     requires few { counts.now.many ≤ 1048576 }
     ensures told { IsSome result ↔ (hundredths 99 counts.now.many ≤ own_counts counts.now.counts) }
-    ensures percentiles { (most : ℕ) (waits : Items ℕ) → AreCountsTo most waits counts.now → IfSome result (ArePercentiles waits) }
+    ensures percentiles { (waits : Items ℕ) → AreCounts waits counts.now → IfSome result (ArePercentiles waits) }
 {
     counted(counts.counts.as_slice(), counts.many as usize)
 }

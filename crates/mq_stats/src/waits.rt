@@ -1,17 +1,19 @@
 // How long the visits to a node waited, and how long they were served.
-ghost use Rattle.std.specs.Prelude.{◌≡◌, ◌≤◌, ◌*◌, ◌^◌, ℕ, length, max, fold, sum};
+ghost use Rattle.std.specs.Prelude.{◌≡◌, ◌≤◌, ◌*◌, ◌^◌, ℕ, [], IfOk, length, max, fold, sum, take};
 ghost use Rattle.mq_core.specs.Asked.{HasDemands};
 ghost use Rattle.mq_core.specs.Fates.{service_time};
 ghost use Rattle.mq_core.specs.Results.{bare_time};
-ghost use Rattle.mq_core.specs.Sequences.{sequence_service, sequence_sojourns, sequence_wait};
-ghost use Rattle.mq_core.specs.declared.model.Demand.TheVariants.{Column, Fixed};
+ghost use Rattle.mq_core.specs.Sequences.{sequence_service, sequence_wait};
 ghost use Rattle.mq_core.specs.declared.model.Kind.{Kind as TheKind};
 ghost use Rattle.mq_core.specs.declared.model.Rows.{Rows as TheRows};
-ghost use Rattle.mq_stats.specs.Numbers.{AsksOnce};
-ghost use Rattle.mq_stats.specs.Waits.{AreWaiting, AskSo, services_in, waits_in};
+ghost use Rattle.mq_stats.specs.Bare.{AreTimes};
+ghost use Rattle.mq_stats.specs.Percentiles.{with_wait};
+ghost use Rattle.mq_stats.specs.Waits.{AreSums, AreWaited, AreWaiting, departed_waits_in, services_in, waits_in};
 
-use crate::tallies::Stays;
-use mq_core::{Demand, Fate, FateSlice, Kind, Rows, bare_of, demand_of_branches};
+use crate::bare::{bare_times, branches_times};
+use mq_base::{List, OutOfMemory};
+use mq_core::{Fate, FateSlice, Kind, Rows, bare_of, demand_of_branches};
+use std::alloc::Global;
 
 /// How long a visit waited, in ticks: its sojourn less the time that it would have stayed anyway.
 /// A visit that is lost or held waited 0.
@@ -26,7 +28,7 @@ pub fn wait_of(rows: &Rows, kind: &Kind, job: u32, arrive: u64, fate: Fate) -> u
 }
 
 // How long a visit waited whose bare time this is, in ticks.
-pub fn wait_beyond(bare: u64, arrive: u64, fate: Fate) -> u64
+fn wait_beyond(bare: u64, arrive: u64, fate: Fate) -> u64
     ensures { (rows : TheRows) (kind : TheKind) (job : ℕ) → bare ≡ bare_time rows kind job → result ≡ sequence_wait rows kind job arrive fate }
 {
     match fate {
@@ -45,114 +47,6 @@ fn served(service: u64, fate: Fate) -> u64
     }
 }
 
-// How it is told what the jobs ask for at a node. It is chosen once a node, so that a loop over its visits looks at no kind.
-pub trait Asking {
-    // It tells this of nodes of this kind.
-    ghost tells: { Self → TheKind → Type 0 };
-
-    // The bare time of a job, in ticks.
-    fn bare(&self, rows: &Rows, kind: &Kind, job: u32) -> u64
-        requires tells { tells self.now kind.now }
-        requires told { HasDemands rows.now kind.now job }
-        ensures { result ≡ bare_time rows.now kind.now job };
-
-    // How long a job is served whose bare time this is, in ticks.
-    fn service(&self, rows: &Rows, kind: &Kind, job: u32, bare: u64) -> u64
-        requires tells { tells self.now kind.now }
-        requires told { HasDemands rows.now kind.now job }
-        requires bare { bare ≡ bare_time rows.now kind.now job }
-        ensures { result ≡ service_time rows.now kind.now job };
-}
-
-// The job's value in a column is all that it asks for.
-#[derive(Clone, Copy)]
-pub struct InColumn(pub u8);
-
-impl Asking for InColumn {
-    ghost tells = { λ s kind. AsksOnce kind (Column s.0) };
-
-    fn bare(&self, rows: &Rows, _kind: &Kind, job: u32) -> u64 {
-        *rows.demands.get(self.0 as usize).get(job as usize)
-    }
-
-    fn service(&self, _rows: &Rows, _kind: &Kind, _job: u32, bare: u64) -> u64 {
-        bare
-    }
-}
-
-// Each job asks for this many ticks.
-#[derive(Clone, Copy)]
-pub struct Alike(pub u64);
-
-impl Asking for Alike {
-    ghost tells = { λ s kind. AsksOnce kind (Fixed s.0) };
-
-    fn bare(&self, _rows: &Rows, _kind: &Kind, _job: u32) -> u64 {
-        self.0
-    }
-
-    fn service(&self, _rows: &Rows, _kind: &Kind, _job: u32, bare: u64) -> u64 {
-        bare
-    }
-}
-
-// The job asks several servers, by the kind of the node.
-#[derive(Clone, Copy)]
-pub struct AtServers;
-
-impl Asking for AtServers {
-    ghost tells = { λ s kind. Unit {0} };
-
-    fn bare(&self, rows: &Rows, kind: &Kind, job: u32) -> u64 {
-        bare_of(rows, kind, job)
-    }
-
-    fn service(&self, rows: &Rows, kind: &Kind, job: u32, bare: u64) -> u64 {
-        match kind {
-            Kind::Source | Kind::Split(_) | Kind::Fork { .. } | Kind::Join => 0,
-            Kind::Server(_) | Kind::Delay(_) | Kind::Loss { .. } | Kind::Tandem(_) => bare,
-            Kind::ForkJoin(branches) => demand_of_branches(rows, branches, job),
-            Kind::Trunk { .. } => bare,
-        }
-    }
-}
-
-// How the jobs ask at a node, by its kind.
-#[derive(Clone, Copy)]
-pub enum Asks {
-    // For nothing: the node serves no job.
-    Nothing,
-    // For a value in a column.
-    ByColumn(InColumn),
-    // For as many ticks, each of them.
-    AllAlike(Alike),
-    // For what they ask of several servers.
-    ByServers(AtServers),
-}
-
-// How the jobs ask at a node where they ask for this demand alone.
-fn asks_for(demand: &Demand) -> Asks
-    ensures { (kind : TheKind) → AsksOnce kind demand.now → AskSo kind result }
-{
-    match demand {
-        Demand::Column(column) => Asks::ByColumn(InColumn(*column)),
-        Demand::Fixed(ticks) => Asks::AllAlike(Alike(*ticks)),
-    }
-}
-
-// How the jobs ask at a node of this kind.
-pub fn asks_at(kind: &Kind) -> Asks
-    ensures { AskSo kind.now result }
-{
-    match kind {
-        Kind::Source | Kind::Split(_) | Kind::Fork { .. } | Kind::Join => Asks::Nothing,
-        Kind::Server(demand) | Kind::Delay(demand) => asks_for(demand),
-        Kind::Loss { demand, .. } => asks_for(demand),
-        Kind::Tandem(_) | Kind::ForkJoin(_) => Asks::ByServers(AtServers),
-        Kind::Trunk { demand, .. } => asks_for(demand),
-    }
-}
-
 // Visits to a node of this kind, by position, whose waits are worked out: their jobs, when they came and how they ended.
 #[derive(Clone, Copy)]
 pub struct Waiting<'a> {
@@ -163,25 +57,33 @@ pub struct Waiting<'a> {
     pub fate: &'a FateSlice<'a>,
 }
 
-// The sum and the greatest of the waiting times, and the sum of the services.
+// The sum and the greatest of the waits of visits, and the sum of the services, in ticks.
 #[derive(Clone, Copy)]
-pub struct Waits {
+pub struct Sums {
     pub wait: u128,
     pub longest: u64,
     pub busy: u128,
 }
 
-// The waits of these visits, one after another.
-// Its loop is not inlined, so that it has the registers to itself.
-#[inline(never)]
-fn each_wait<A: Asking>(asking: &A, waiting: &Waiting) -> Waits
-    requires tells { A.tells asking.now waiting.now.kind.now }
+// How long a job is served at a node of this kind, in ticks.
+fn service_of(rows: &Rows, kind: &Kind, job: u32) -> u64
+    requires { HasDemands rows.now kind.now job }
+    ensures { result ≡ service_time rows.now kind.now job }
+{
+    match kind {
+        Kind::Source | Kind::Split(_) | Kind::Fork { .. } | Kind::Join => 0,
+        Kind::Server(_) | Kind::Delay(_) | Kind::Loss { .. } | Kind::Tandem(_) => {
+            bare_of(rows, kind, job)
+        }
+        Kind::ForkJoin(branches) => demand_of_branches(rows, branches, job),
+        Kind::Trunk { .. } => bare_of(rows, kind, job),
+    }
+}
+
+// Those of these visits, one visit after another.
+pub fn sums_of(waiting: &Waiting) -> Sums
     requires visits { AreWaiting waiting.now }
-    ensures wait { result.wait ≡ sum (waits_in waiting.now) }
-    ensures longest { result.longest ≡ fold max 0 (waits_in waiting.now) }
-    ensures busy { result.busy ≡ sum (services_in waiting.now) }
-    ensures small { result.wait ≤ length waiting.now.job.now * 2 ^ 64 }
-    ensures small_busy { result.busy ≤ length waiting.now.job.now * 2 ^ 64 }
+    ensures { AreSums waiting.now result }
 {
     let Waiting {
         rows,
@@ -193,40 +95,136 @@ fn each_wait<A: Asking>(asking: &A, waiting: &Waiting) -> Waits
     let (mut wait, mut longest, mut busy) = (0u128, 0u64, 0u128);
     for at in 0..job.len() {
         let ending = fate.at(at);
-        let bare = asking.bare(rows, kind, job[at]);
-        let service = asking.service(rows, kind, job[at], bare);
-        let waited = wait_beyond(bare, arrive[at], ending);
-        busy += served(service, ending) as u128;
+        let waited = wait_of(rows, kind, job[at], arrive[at], ending);
+        let service = service_of(rows, kind, job[at]);
         wait += waited as u128;
         longest = longest.max(waited);
+        busy += served(service, ending) as u128;
     }
-    Waits {
+    Sums {
         wait,
         longest,
         busy,
     }
 }
 
-// The waits of these visits. Where the node serves no job each stay there is a wait.
-pub fn waits_of(waiting: &Waiting, stays: &Stays) -> Waits
+// 1 for a visit that departs, and 0 for another.
+fn one_if_departs(fate: Fate) -> usize
+    ensures { (rows : TheRows) (kind : TheKind) (job arrive : ℕ) → result ≡ length (with_wait rows kind job arrive fate []) }
+{
+    match fate {
+        Fate::Departs(_) => 1,
+        Fate::Held | Fate::Lost => 0,
+    }
+}
+
+// How many visits depart, and the sum and the greatest of the waiting times.
+#[derive(Clone, Copy)]
+struct Waits {
+    kept: usize,
+    wait: u128,
+    longest: u64,
+}
+
+// Writes the waits of the visits that depart one after another, in the place of how long their jobs stay that never wait. A wait
+// that doesn't count is written over, so that the loop looks at no fate twice.
+// Its loop is not inlined, so that it has the registers to itself.
+#[inline(never)]
+fn put_waits(waiting: &Waiting, waits: &mut [u64]) -> Waits
     requires visits { AreWaiting waiting.now }
-    requires stay { stays.now.stay ≡ sum (sequence_sojourns 0 waiting.now.arrive.now waiting.now.fate.now) }
-    requires longest { stays.now.longest ≡ fold max 0 (sequence_sojourns 0 waiting.now.arrive.now waiting.now.fate.now) }
-    requires small { stays.now.stay ≤ length waiting.now.job.now * 2 ^ 64 }
+    requires bare { AreTimes (bare_time waiting.now.rows.now waiting.now.kind.now) waiting.now.job.now waits.old }
+    ensures room { length waits.new ≡ length waiting.now.job.now }
+    ensures within { result.kept ≤ length waiting.now.job.now }
+    ensures waits { take result.kept waits.new ≡ departed_waits_in waiting.now }
     ensures wait { result.wait ≡ sum (waits_in waiting.now) }
     ensures longest { result.longest ≡ fold max 0 (waits_in waiting.now) }
-    ensures busy { result.busy ≡ sum (services_in waiting.now) }
     ensures small { result.wait ≤ length waiting.now.job.now * 2 ^ 64 }
-    ensures small_busy { result.busy ≤ length waiting.now.job.now * 2 ^ 64 }
 {
-    match asks_at(waiting.kind) {
-        Asks::Nothing => Waits {
-            wait: stays.stay,
-            longest: stays.longest,
-            busy: 0,
-        },
-        Asks::ByColumn(asking) => each_wait(&asking, waiting),
-        Asks::AllAlike(asking) => each_wait(&asking, waiting),
-        Asks::ByServers(asking) => each_wait(&asking, waiting),
+    let (arrive, fate) = (waiting.arrive, waiting.fate);
+    let (mut kept, mut wait, mut longest) = (0, 0u128, 0u64);
+    for at in 0..arrive.len() {
+        let ending = fate.at(at);
+        let waited = wait_beyond(waits[at], arrive[at], ending);
+        waits[kept] = waited;
+        kept += one_if_departs(ending);
+        wait += waited as u128;
+        longest = longest.max(waited);
     }
+    Waits {
+        kept,
+        wait,
+        longest,
+    }
+}
+
+// How long the jobs of these visits are served together, in ticks, where each is served so long.
+// Its loop is not inlined, so that it has the registers to itself.
+#[inline(never)]
+fn served_together(waiting: &Waiting, services: &[u64]) -> u128
+    requires visits { AreWaiting waiting.now }
+    requires services { AreTimes (service_time waiting.now.rows.now waiting.now.kind.now) waiting.now.job.now services.now }
+    ensures busy { result ≡ sum (services_in waiting.now) }
+    ensures small { result ≤ length waiting.now.job.now * 2 ^ 64 }
+{
+    let fate = waiting.fate;
+    let mut busy = 0u128;
+    for at in 0..services.len() {
+        busy += served(services[at], fate.at(at)) as u128;
+    }
+    busy
+}
+
+// The same, where this is how long each job stays that never waits.
+pub fn busy_of(alloc: Global, waiting: &Waiting, bare: &[u64]) -> Result<u128, OutOfMemory>
+    requires visits { AreWaiting waiting.now }
+    requires bare { AreTimes (bare_time waiting.now.rows.now waiting.now.kind.now) waiting.now.job.now bare.now }
+    ensures busy { IfOk result (λ busy. busy ≡ sum (services_in waiting.now)) }
+    ensures small { IfOk result (λ busy. busy ≤ length waiting.now.job.now * 2 ^ 64) }
+{
+    match waiting.kind {
+        Kind::Source | Kind::Split(_) | Kind::Fork { .. } | Kind::Join => Ok(0),
+        Kind::Server(_) | Kind::Delay(_) | Kind::Loss { .. } | Kind::Tandem(_) => {
+            Ok(served_together(waiting, bare))
+        }
+        Kind::ForkJoin(branches) => {
+            let services = branches_times(alloc, waiting.rows, branches, waiting.job)?;
+            let busy = served_together(waiting, services.as_slice());
+            drop(services);
+            Ok(busy)
+        }
+        Kind::Trunk { .. } => Ok(served_together(waiting, bare)),
+    }
+}
+
+// The waits of those of some visits that depart, by position, in ticks, with the sum and the greatest of all waits.
+#[derive(Drop)]
+pub struct Waited {
+    pub waits: List<u64>,
+    pub wait: u128,
+    pub longest: u64,
+}
+
+// Those of these visits, from how long each job stays that never waits.
+pub fn waits_from(waiting: &Waiting, bare: Vec<u64>) -> Waited
+    requires visits { AreWaiting waiting.now }
+    requires bare { AreTimes (bare_time waiting.now.rows.now waiting.now.kind.now) waiting.now.job.now bare.items }
+    ensures { AreWaited waiting.now result }
+{
+    let mut waits = bare;
+    let told = put_waits(waiting, waits.as_mut_slice());
+    waits.truncate(told.kept);
+    Waited {
+        waits: List::from_vec(waits),
+        wait: told.wait,
+        longest: told.longest,
+    }
+}
+
+// Those of these visits.
+pub fn waits_of(alloc: Global, waiting: &Waiting) -> Result<Waited, OutOfMemory>
+    requires { AreWaiting waiting.now }
+    ensures { IfOk result (AreWaited waiting.now) }
+{
+    let bare = bare_times(alloc, waiting.rows, waiting.kind, waiting.job)?;
+    Ok(waits_from(waiting, bare))
 }

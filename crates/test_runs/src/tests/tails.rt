@@ -1,9 +1,10 @@
 // Worked percentiles of the waits at a node.
-ghost use Rattle.std.specs.Prelude.{◌≡◌, ◌≤◌, ℕ, get_or, length};
+ghost use Rattle.std.specs.Prelude.{◌≡◌, ◌≤◌, ℕ, List as Items, length};
 ghost use Rattle.mq_core.specs.Asked.{HasDemands};
 ghost use Rattle.mq_core.specs.Told.{IsTold};
 ghost use Rattle.mq_core.specs.declared.model.Demand.TheVariants.{Column};
 ghost use Rattle.mq_stats.specs.Numbers.{AreVisits};
+ghost use Rattle.mq_stats.specs.WaitCounts.{AreCounts};
 
 use super::stats::{Columns, HELD, SERVED, list, three_case};
 use super::totals::are_visits;
@@ -16,19 +17,24 @@ use std::alloc::Global;
 use std::test::Fail;
 
 // Whether the counts of some waits and of others, up to 10 of each, are so many and these when they are added up.
-fn sum_is(before: WaitCounts, after: &WaitCounts, many: u32, wanted: &[u32]) -> bool
-    requires even { length after.now.counts ≡ length before.counts }
-    requires before { (wait : ℕ) → get_or before.counts wait 0 ≤ before.many }
-    requires after { (wait : ℕ) → get_or after.now.counts wait 0 ≤ after.now.many }
+fn sum_is(
+    alloc: Global,
+    before: WaitCounts,
+    after: &WaitCounts,
+    many: u32,
+    wanted: &[u32],
+) -> Result<bool, OutOfMemory>
+    requires before { (waits : Items ℕ) × AreCounts waits before }
+    requires after { (waits : Items ℕ) × AreCounts waits after.now }
 {
     if before.many > 10 || after.many > 10 {
-        return false;
+        return Ok(false);
     }
-    let sum = counts_added(before, after);
-    sum.many == many && sum.counts.as_slice() == wanted
+    let sum = counts_added(alloc, before, after)?;
+    Ok(sum.many == many && sum.counts.as_slice() == wanted)
 }
 
-// Whether the waits of ten visits, up to 4 ticks by themselves, are so many and counted so: those of the visits before a
+// Whether the waits of ten visits, none of them longer than 9 ticks, are so many and counted so: those of the visits before a
 // position and those of the others, added up.
 fn parts_are(
     alloc: Global,
@@ -44,18 +50,42 @@ fn parts_are(
     if visits.job.len() != 10 || position > 10 {
         return Ok(false);
     }
-    let before = count_between(alloc, rows, kind, visits, 4, 0, position)?;
-    let after = count_between(alloc, rows, kind, visits, 4, position, 10)?;
-    Ok(sum_is(before, &after, many, wanted))
+    let Some(before) = count_between(alloc, rows, kind, visits, 9, 0, position)? else {
+        return Ok(false);
+    };
+    let Some(after) = count_between(alloc, rows, kind, visits, 9, position, 10)? else {
+        drop(before);
+        return Ok(false);
+    };
+    sum_is(alloc, before, &after, many, wanted)
 }
 
-// What is asked of visits: their percentiles, by a table for waits of up to so many ticks too, or the counts of both parts at a
-// position.
+// Whether some visit waits longer than this, so that there are no counts.
+fn is_passed(
+    alloc: Global,
+    rows: &Rows,
+    kind: &Kind,
+    visits: &Visits,
+    most: u32,
+) -> Result<bool, OutOfMemory>
+    requires { AreVisits rows.now kind.now visits.now }
+{
+    if most > 10 {
+        return Ok(false);
+    }
+    let many = visits.job.len() as u32;
+    let counts = count_between(alloc, rows, kind, visits, most, 0, many)?;
+    Ok(counts.is_none())
+}
+
+// What is asked of visits: their percentiles, by a table for waits of up to so many ticks too, the counts of both parts at a
+// position, or that there are none.
 #[derive(Clone, Copy)]
 enum Asked<'a> {
     Tail(Percentiles),
     TailBelow(u64, Percentiles),
     Parts(u32, u32, &'a [u32]),
+    Passed(u32),
 }
 
 // Whether that is so of the visits to a node of a kind that asks for the first column, or for nothing.
@@ -79,6 +109,7 @@ fn is_so(
         Asked::Parts(position, many, wanted) => {
             parts_are(alloc, rows, kind, visits, position, many, wanted)
         }
+        Asked::Passed(most) => is_passed(alloc, rows, kind, visits, most),
     }
 }
 
@@ -207,16 +238,18 @@ const TEN_LOST: Columns<'static> = Columns {
     ..TEN
 };
 
-const COUNTS: &[u32] = &[1, 1, 1, 1, 1, 5];
+const COUNTS: &[u32] = &[1, 1, 1, 1, 1, 1, 1, 1, 1, 1, 0];
 
-const NO_COUNTS: &[u32] = &[0; 6];
+const NO_COUNTS: &[u32] = &[0; 2];
 
 fn parts_add_up(alloc: Global) -> Result<bool, OutOfMemory> {
     Ok(
         join_has(alloc, &TEN_AT_A_JOIN, Asked::Parts(0, 10, COUNTS))?
             && join_has(alloc, &TEN_AT_A_JOIN, Asked::Parts(3, 10, COUNTS))?
             && join_has(alloc, &TEN_AT_A_JOIN, Asked::Parts(10, 10, COUNTS))?
-            && join_has(alloc, &TEN_LOST, Asked::Parts(3, 0, NO_COUNTS))?,
+            && join_has(alloc, &TEN_LOST, Asked::Parts(3, 0, NO_COUNTS))?
+            && join_has(alloc, &TEN_AT_A_JOIN, Asked::Passed(8))?
+            && !join_has(alloc, &TEN_AT_A_JOIN, Asked::Passed(9))?,
     )
 }
 

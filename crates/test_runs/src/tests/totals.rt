@@ -11,7 +11,7 @@ use super::stats::{
 };
 use mq_base::{List, OutOfMemory};
 use mq_core::{Demand, Fates, Kind, Rows, Visits};
-use mq_stats::{NodeTotals, totals, totals_added, totals_between};
+use mq_stats::{NodeTotals, blocks_added, count_block, totals};
 use std::alloc::Global;
 use std::test::Fail;
 
@@ -68,30 +68,43 @@ pub fn are_visits(rows: &Rows, visits: &Visits) -> bool
     is_column_small(rows)
 }
 
-// Whether a node of such a kind has these totals in a run up to 10, and so have the visits before a position and those
-// from it on when their totals are added up.
-fn totals_are(rows: &Rows, kind: &Kind, visits: &Visits, wanted: &NodeTotals, at: u32) -> bool
+// Whether a node of such a kind has these totals in a run up to 10, visit by visit and by one look, and so have the visits before a
+// position and those from it on when what is counted of them is added up. No wait is longer than 10 ticks.
+fn totals_are(
+    alloc: Global,
+    rows: &Rows,
+    kind: &Kind,
+    visits: &Visits,
+    wanted: &NodeTotals,
+    at: u32,
+) -> Result<bool, OutOfMemory>
     requires { (job : ℕ) → IsTold rows.now (Column 0) job → HasDemands rows.now kind.now job }
 {
     if !are_visits(rows, visits) {
-        return false;
+        return Ok(false);
     }
     let count = visits.job.len() as u32;
     if at > count {
-        return false;
+        return Ok(false);
     }
-    let before = totals_between(rows, kind, visits, 10, 0, at);
-    let after = totals_between(rows, kind, visits, 10, at, count);
-    if before.came != at || after.came != count - at {
-        return false;
-    }
-    totals_added(&before, &after) == *wanted && totals(rows, kind, visits, 10) == *wanted
+    let before = count_block(alloc, rows, kind, visits, 10, 10, 0, at)?;
+    let after = count_block(alloc, rows, kind, visits, 10, 10, at, count)?;
+    let both = blocks_added(alloc, before, &after)?;
+    let whole = count_block(alloc, rows, kind, visits, 10, 10, 0, count)?;
+    let plain = totals(rows, kind, visits, 10);
+    Ok(
+        plain == *wanted
+            && whole.totals == *wanted
+            && both.totals == *wanted
+            && whole.waits.is_some()
+            && both.waits.is_some(),
+    )
 }
 
 // Whether that is so of a server.
-fn is_so(case: Case, wanted: &NodeTotals, at: u32) -> bool {
+fn is_so(alloc: Global, case: Case, wanted: &NodeTotals, at: u32) -> Result<bool, OutOfMemory> {
     let kind = Kind::Server(Demand::Column(0));
-    let found = totals_are(&case.rows, &kind, &case.visits, wanted, at);
+    let found = totals_are(alloc, &case.rows, &kind, &case.visits, wanted, at);
     drop(kind);
     drop(case);
     found
@@ -104,7 +117,7 @@ fn server_has(
     wanted: &NodeTotals,
     at: u32,
 ) -> Result<bool, OutOfMemory> {
-    Ok(is_so(three_case(alloc, columns)?, wanted, at))
+    is_so(alloc, three_case(alloc, columns)?, wanted, at)
 }
 
 const SERVED_TOTALS: NodeTotals = NodeTotals {
@@ -175,7 +188,7 @@ fn totals_are_those_of_pieces_added_up(rt: HostRuntime) -> Result<(), Fail> {
 fn departures_have(alloc: Global, wanted: &NodeTotals, at: u32) -> Result<bool, OutOfMemory> {
     let fate = Fates::departures(list(alloc, &[4u64, 5, 8])?);
     let visits = visits_with(alloc, &SERVED, fate)?;
-    Ok(is_so(case_of(alloc, visits)?, wanted, at))
+    is_so(alloc, case_of(alloc, visits)?, wanted, at)
 }
 
 #[test]

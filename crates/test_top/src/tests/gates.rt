@@ -1,4 +1,4 @@
-// Two threads make the pieces of each list of a run.
+// Threads make the pieces of each list of a run: two, but where lists stand beside each other.
 use super::{MODEL, TRACE, files_with};
 use mq_base::OutOfMemory;
 use mq_chain::ChainSeat;
@@ -15,16 +15,18 @@ use std::thread::Threads;
 // Three jobs, of which each is a block.
 const JOBS: &[u8] = b"source,time,a,b,c\nsrc,0,2,3,1\nsrc,1,1,1,4\nsrc,2,2,1,1\n";
 
-// A run whose form of report is this, with the lines of the jobs or without them, and how many pieces each list of it has, in the
-// order in which they are made. A list of no piece or of one enters no gate, and isn't told. Without those lines nothing is worked
-// out of a source, and behind each wave come the totals of its nodes, a piece for each. With them the 4 last pieces of the source
-// come first (when its jobs leave, how many each found, the jobs, and when each departs), and the totals of all nodes at the end.
+// A run by so many workers whose form of report is this, with the lines of the jobs or without them, and how many pieces each list of
+// it has, in the order in which they are made. A list of no piece or of one enters no gate, and isn't told. Without those lines nothing is worked
+// out of a source, and behind each wave come the totals of its nodes, a piece for each, and what leaves by the outputs that nobody
+// reads, a piece for each node that has one. With them the 4 last pieces of the source come first (when its jobs leave, how many each
+// found, the jobs, and when each departs), and the totals of all nodes, and what leaves, at the end.
 #[derive(Clone, Copy)]
 struct Case<'a> {
     model: &'a [u8],
     trace: &'a [u8],
     form: &'a str,
     jobs: bool,
+    workers: &'a str,
     lists: &'a [usize],
     // How many blocks each single pass has.
     passes: &'a [usize],
@@ -37,6 +39,7 @@ const SERVER: Case = Case {
     trace: TRACE,
     form: "2",
     jobs: false,
+    workers: "2",
     lists: &[5],
     passes: &[3],
 };
@@ -60,6 +63,7 @@ const TANDEM: Case = Case {
     trace: JOBS,
     form: "2",
     jobs: false,
+    workers: "2",
     lists: &[3, 3, 5],
     passes: &[],
 };
@@ -87,10 +91,11 @@ const SPLIT: Case = Case {
     ..TANDEM
 };
 
-// Two forks that are ready at one time, and are a list of two pieces, as are their totals, behind another, which is alone.
+// Two forks that are ready at one time, and are a list of two pieces, as are their totals and what leaves them, behind another, which
+// is alone.
 const FORKS: Case = Case {
     model: b"model 2\nsource src\nfork f 2 from src\nfork a 2 from f\nfork b 2 from f.1\n",
-    lists: &[2, 2],
+    lists: &[2, 2, 2],
     ..TANDEM
 };
 
@@ -110,7 +115,7 @@ const MERGE: Case = Case {
 };
 
 // Two tandems of one wave, at which jobs wait: the rows of both sources, how each tandem is worked out, their summaries, applied
-// blocks and last pieces, their totals, and behind these the waits of both, counted.
+// blocks and last pieces, their totals, with which the waits are counted, and what leaves each.
 const WAITS: Case = Case {
     model: b"model 1\nsource src\nsource web\ntandem left =1 / 1 =2 from src\ntandem right =1 / 1 =3 from web\n",
     trace: b"source,time\nsrc,0\nweb,0\nsrc,0\nweb,0\nsrc,0\nweb,0\n",
@@ -118,24 +123,59 @@ const WAITS: Case = Case {
     ..TANDEM
 };
 
-// The same with waits too long to be counted: the percentiles are a piece for each node.
+// The same with waits too long to be counted: behind the totals the percentiles are a piece for each node, and then comes what leaves each.
 const LONG_WAITS: Case = Case {
     model: b"model 1\nsource src\nsource web\ntandem left =1 / 1 =20000 from src\ntandem right =1 / 1 =30000 from web\n",
+    lists: &[2, 2, 6, 6, 10, 2, 2, 2],
     ..WAITS
 };
 
 // In the first form of the report there are no percentiles.
 const UNTOLD_WAITS: Case = Case {
     form: "1",
-    lists: &[2, 2, 6, 6, 10, 2],
+    lists: &[2, 2, 6, 6, 10, 2, 2],
     ..LONG_WAITS
 };
 
-// Two tandems of two waves, with the lines of the jobs: behind the totals of all nodes the waits of both are counted.
-const WAITS_OF_A_KEPT_RUN: Case = Case {
-    model: b"model 1\nsource src\ntandem first =1 / 1 =2 from src\ntandem then =1 / 1 =3 from first\n",
+// Two tandems of two waves, with the lines of the jobs: behind the totals of all nodes the percentiles of all nodes.
+const LONG_WAITS_OF_A_KEPT_RUN: Case = Case {
+    model: b"model 1\nsource src\ntandem first =1 / 1 =20000 from src\ntandem then =1 / 1 =30000 from first\n",
     jobs: true,
-    lists: &[4, 3, 3, 5, 3, 3, 5, 3, 2],
+    lists: &[4, 3, 3, 5, 3, 3, 5, 3, 3],
+    ..TANDEM
+};
+
+// A loss station with two ports beside three tandems: the rows of all sources. To the station come 6 jobs of 15, more than a third, so
+// it has a worker of its own, who merges what comes and settles it alone, and enters no gate. The two others have the tandems, of
+// which no list has a piece of the station: how each is worked out, their summaries, applied blocks and last pieces. The totals
+// of all four, and what leaves them, are made by all workers.
+const LOSS_BESIDE_TANDEMS: Case = Case {
+    model: b"model 1\nsource src\nsource web\nsource a\nsource b\nsource c\nloss l 1 =2 from src web\n\
+        tandem one =1 / 1 =2 from a\ntandem two =1 / 1 =2 from b\ntandem three =1 / 1 =2 from c\n",
+    trace: b"source,time\nsrc,0\nweb,0\na,0\nb,0\nc,0\nsrc,1\nweb,1\na,1\nb,1\nc,1\nsrc,2\nweb,2\na,2\nb,2\nc,2\n",
+    form: "1",
+    workers: "3",
+    lists: &[5, 3, 9, 9, 15, 4, 4],
+    ..TANDEM
+};
+
+// The same where fewer jobs come to the loss station than a third: one list has its piece and what the blocks of the tandems do.
+const SHORT_LOSS_AMONG_TANDEMS: Case = Case {
+    trace: b"source,time\nsrc,0\nweb,0\na,0\nb,0\nc,0\na,1\nb,1\nc,1\na,2\nb,2\nc,2\n",
+    lists: &[5, 2, 4, 10, 9, 15, 4, 4],
+    ..LOSS_BESIDE_TANDEMS
+};
+
+// Two loss stations, to each of which come 5 jobs of 15, beside a tandem, by four workers: the rows of all sources; of the stations how
+// each is worked out, both, and the copies of what came; of the tandem its summaries, applied blocks and last pieces; and
+// all totals, and what leaves all three.
+const LOSSES_BESIDE_A_TANDEM: Case = Case {
+    model: b"model 1\nsource a\nsource b\nsource c\nloss one 1 =2 from a\nloss two 1 =2 from b\n\
+        tandem line =1 / 1 =2 from c\n",
+    trace: b"source,time\na,0\nb,0\nc,0\na,1\nb,1\nc,1\na,2\nb,2\nc,2\na,3\nb,3\nc,3\na,4\nb,4\nc,4\n",
+    form: "1",
+    workers: "4",
+    lists: &[3, 2, 2, 4, 5, 5, 5, 3, 3],
     ..TANDEM
 };
 
@@ -146,7 +186,7 @@ const TURNS: u64 = 2_000_000_000;
 // own: so none of the two goes on before the other has come, and each of them needs a thread.
 #[derive(Drop)]
 struct Entries {
-    came: [AtomicU64; 10],
+    came: [AtomicU64; 15],
     above: AtomicU64,
     zero: usize,
     one: usize,
@@ -157,6 +197,11 @@ impl Entries {
     fn held(zero: usize, one: usize) -> Entries {
         Entries {
             came: [
+                AtomicU64::new(0),
+                AtomicU64::new(0),
+                AtomicU64::new(0),
+                AtomicU64::new(0),
+                AtomicU64::new(0),
                 AtomicU64::new(0),
                 AtomicU64::new(0),
                 AtomicU64::new(0),
@@ -193,12 +238,9 @@ impl Entries {
 
     // Until another number has come more often than so.
     fn hold(&self, other: &AtomicU64, before: u64) {
-        for _ in 0..TURNS {
-            if other.load(SeqCst) > before {
-                return;
-            }
+        if !comes(other, before) {
+            self.run_out.fetch_add(1, SeqCst);
         }
-        self.run_out.fetch_add(1, SeqCst);
     }
 
     // Whether each number of lists of so many pieces came once, nothing else came, and no hold ran out.
@@ -211,6 +253,16 @@ impl Entries {
         }
         right
     }
+}
+
+// Whether a number comes more often than so, before the turns run out.
+fn comes(number: &AtomicU64, before: u64) -> bool {
+    for _ in 0..TURNS {
+        if number.load(SeqCst) > before {
+            return true;
+        }
+    }
+    false
 }
 
 // How many lists have more pieces than so.
@@ -252,12 +304,33 @@ fn without_carries() -> Held {
     }
 }
 
-// Whether a run by two workers, who enter this gate, is done, and has these lists.
-fn has_lists<R: Threads + Sync>(
+// Holds the second entry with 1, which is the first behind the rows of the sources, until some list has a fifth piece.
+#[derive(Drop)]
+struct Ahead {
+    ones: AtomicU64,
+    fours: AtomicU64,
+    run_out: AtomicU64,
+}
+
+impl Gate for Ahead {
+    fn enter(&self, _seat: &ClaimSeat, _worker: u32, piece: u32) {
+        if piece == 4 {
+            self.fours.fetch_add(1, SeqCst);
+        }
+        if piece == 1 && self.ones.fetch_add(1, SeqCst) == 1 && !comes(&self.fours, 0) {
+            self.run_out.fetch_add(1, SeqCst);
+        }
+    }
+
+    fn enter_block(&self, _seat: &ChainSeat, _worker: u32, _block: u32) {}
+}
+
+// Whether a run, whose workers enter this gate, is done.
+fn is_done<R: Threads + Sync, G: Gate>(
     rt: &R,
     alloc: Global,
     case: Case<'_>,
-    gate: &Held,
+    gate: &G,
 ) -> Result<bool, OutOfMemory> {
     let mut files = files_with(alloc, case.model, case.trace, 0)?;
     let mut out = MemSink::new(alloc, 1024, Vec::new(alloc));
@@ -266,7 +339,7 @@ fn has_lists<R: Threads + Sync>(
         "m",
         "t",
         "--workers",
-        "2",
+        case.workers,
         "--block",
         "1",
         "--report",
@@ -276,7 +349,18 @@ fn has_lists<R: Threads + Sync>(
     let count = if case.jobs { 9 } else { 8 };
     let words = &words[..count];
     let outcome = simulate_gated(rt, alloc, words, &mut files, &mut out, &mut err, gate);
-    Ok(outcome == Outcome::Done && gate.pieces.are(case.lists) && gate.blocks.are(case.passes))
+    Ok(outcome == Outcome::Done)
+}
+
+// Whether a run, whose workers enter this gate, is done, and has these lists.
+fn has_lists<R: Threads + Sync>(
+    rt: &R,
+    alloc: Global,
+    case: Case<'_>,
+    gate: &Held,
+) -> Result<bool, OutOfMemory> {
+    let done = is_done(rt, alloc, case, gate)?;
+    Ok(done && gate.pieces.are(case.lists) && gate.blocks.are(case.passes))
 }
 
 #[test]
@@ -340,7 +424,7 @@ fn two_threads_enter_the_gate_at_a_merge(rt: HostRuntime) -> Result<(), Fail> {
 }
 
 #[test]
-fn two_threads_enter_the_gate_at_percentiles(rt: HostRuntime) -> Result<(), Fail> {
+fn two_threads_enter_the_gate_at_totals_with_waits(rt: HostRuntime) -> Result<(), Fail> {
     assert!(rt; has_lists(&rt, rt.alloc(), WAITS, &with_carries())?);
     Ok(())
 }
@@ -359,6 +443,36 @@ fn nobody_enters_the_gate_at_percentiles_that_are_not_told(rt: HostRuntime) -> R
 
 #[test]
 fn two_threads_enter_the_gate_at_percentiles_of_a_kept_run(rt: HostRuntime) -> Result<(), Fail> {
-    assert!(rt; has_lists(&rt, rt.alloc(), WAITS_OF_A_KEPT_RUN, &with_carries())?);
+    assert!(rt; has_lists(&rt, rt.alloc(), LONG_WAITS_OF_A_KEPT_RUN, &with_carries())?);
+    Ok(())
+}
+
+#[test]
+fn a_loss_station_is_in_no_list_of_tandems_beside_it(rt: HostRuntime) -> Result<(), Fail> {
+    assert!(rt; has_lists(&rt, rt.alloc(), LOSS_BESIDE_TANDEMS, &with_carries())?);
+    Ok(())
+}
+
+#[test]
+fn a_short_loss_station_is_in_the_lists_of_tandems(rt: HostRuntime) -> Result<(), Fail> {
+    assert!(rt; has_lists(&rt, rt.alloc(), SHORT_LOSS_AMONG_TANDEMS, &with_carries())?);
+    Ok(())
+}
+
+#[test]
+fn two_loss_stations_have_lists_of_their_own_beside_a_tandem(rt: HostRuntime) -> Result<(), Fail> {
+    assert!(rt; has_lists(&rt, rt.alloc(), LOSSES_BESIDE_A_TANDEM, &with_carries())?);
+    Ok(())
+}
+
+#[test]
+fn a_tandem_goes_on_while_a_list_of_loss_stations_is_held(rt: HostRuntime) -> Result<(), Fail> {
+    let gate = Ahead {
+        ones: AtomicU64::new(0),
+        fours: AtomicU64::new(0),
+        run_out: AtomicU64::new(0),
+    };
+    assert!(rt; is_done(&rt, rt.alloc(), LOSSES_BESIDE_A_TANDEM, &gate)?);
+    assert!(rt; gate.run_out.load(SeqCst) == 0);
     Ok(())
 }

@@ -9,7 +9,7 @@ pub loop-node-preserved : goal.loop-node-preserved
 loop-node-preserved c = record {
   room = omega (arith, c.loop-node.invariant.room, c.push_reserved.ensures.capacity);
   so_far = waits-more c.args.known.now.nodes.now c.loop-node.node c.loop-node.all.items _ c.waits_of_node.result c.loop-node.invariant.so_far c.waits_of_node.ensures.waited
-      (waits-of c.args.known.now.nodes.now c.loop-node.node c.get-in-loop-node.result.now c.waits_of_node.result c.get-in-loop-node.ensures c.waits_of_node.ensures.waits) c.push_reserved.ensures.items;
+      (waits-of c.args.known.now.nodes.now c.loop-node.node c.get.result.now c.waits_of_node.result c.get.ensures c.waits_of_node.ensures.waits) c.push_reserved.ensures.items;
 }
 
 pub loop-node-init : goal.loop-node-init

@@ -1,4 +1,5 @@
 use Rattle.std.proofs.Common.{ℕ, ◌≡◌, arith, length, subst, sym}
+use Rattle.std.specs.Prelude.{IfSome}
 use Rattle.mq_crew.specs.Crew.{AreAll}
 use Rattle.mq_counts.proofs.Lists.{all-more, all-none}
 use Rattle.mq_counts.specs.Tails.{IsTailIn}
@@ -10,7 +11,7 @@ push_reserved-requires c = omega (arith, c.loop-node.invariant.so_far.len, c.loo
 pub loop-node-preserved : goal.loop-node-preserved
 loop-node-preserved c = record {
   room = omega (arith, c.loop-node.invariant.room, c.push_reserved.ensures.capacity);
-  so_far = all-more (IsTailIn c.args.of.now.known.nodes.now) c.loop-node.node c.loop-node.tails.items _ c.in-Some.tail c.loop-node.invariant.so_far c.in-Some.ensures c.push_reserved.ensures.items;
+  so_far = all-more (IsTailIn c.args.of.now.known.nodes.now) c.loop-node.node c.loop-node.tails.items _ c.in-Some.tail c.loop-node.invariant.so_far (subst (λ known. IfSome known (IsTailIn c.args.of.now.known.nodes.now c.loop-node.node)) c.in-Some.is (c.requires.counted.each c.loop-node.node _ c.get.ensures)) c.push_reserved.ensures.items;
 }
 
 pub returns : goal.returns
@@ -28,6 +29,3 @@ loop-node-init c = record {
 
 pub get-requires : goal.get-requires
 get-requires c = let len = c.requires.counted.len in omega (arith, len, c.loop-node-test.true, c.len-count.ensures)
-
-pub known_tail-requires-clause-counted : goal.known_tail-requires-clause-counted
-known_tail-requires-clause-counted c = c.requires.counted.each c.loop-node.node _ c.get.ensures

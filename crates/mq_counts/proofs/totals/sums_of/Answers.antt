@@ -1,8 +1,8 @@
 use Rattle.std.proofs.Common.{ℕ, ◌≡◌, arith, length, subst}
 use Rattle.mq_crew.specs.Crew.{AreAll}
 use Rattle.mq_counts.proofs.Lists.{all-more, all-none, each-has}
-use Rattle.mq_counts.proofs.NodeTotals.{totals-in}
-use Rattle.mq_counts.specs.Totals.{IsTotalsIn, IsVisited}
+use Rattle.mq_counts.proofs.NodeTotals.{sum-in}
+use Rattle.mq_counts.specs.Totals.{IsSumIn, IsVisited}
 use Rattle.mq_counts.proofs.totals.sums_of.Goals as goal
 
 pub sum_of-requires-clause-visited : goal.sum_of-requires-clause-visited
@@ -10,14 +10,14 @@ sum_of-requires-clause-visited c = each-has IsVisited c.args.nodes.now c.loop-no
 
 pub loop-node-preserved : goal.loop-node-preserved
 loop-node-preserved c =
-    all-more (IsTotalsIn c.args.nodes.now) c.loop-node.node c.loop-node.totals _ c.sum_of.result c.loop-node.invariant
-    (totals-in c.args.nodes.now c.loop-node.node c.get.result.now c.sum_of.result c.get.ensures (c.sum_of.ensures.totals, c.sum_of.ensures.small))
-    c.in_ok-push.ensures.ok
+    all-more (IsSumIn c.args.nodes.now) c.loop-node.node c.loop-node.sums _ c.in-Ok.sum c.loop-node.invariant
+    (sum-in c.args.nodes.now c.loop-node.node c.get.result.now c.in-Ok.sum c.get.ensures c.in-Ok.ensures)
+    c.in_ok-push-in-Ok.ensures.ok
 
 pub returns : goal.returns
 returns c =
     let end : c.loop-node.node ≡ length c.args.nodes.now = omega arith in
-    subst (λ (n : ℕ). AreAll (IsTotalsIn c.args.nodes.now) n c.loop-node.totals) end c.loop-node.invariant
+    subst (λ (n : ℕ). AreAll (IsSumIn c.args.nodes.now) n c.loop-node.sums) end c.loop-node.invariant
 
 pub loop-node-init : goal.loop-node-init
-loop-node-init c = all-none (IsTotalsIn c.args.nodes.now) _ c.new-totals.ensures
+loop-node-init c = all-none (IsSumIn c.args.nodes.now) _ c.new-sums.ensures

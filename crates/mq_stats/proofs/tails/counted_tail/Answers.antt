@@ -1,13 +1,14 @@
-use Rattle.std.proofs.Common.{arith}
-use Rattle.mq_stats.specs.Waits.{departed_waits_in}
-use Rattle.mq_stats.proofs.WaitsJoin.{departed-few}
+use Rattle.std.proofs.Common.{◌≡◌, ◌-◌, ◌∙◌, arith, length, refl, subst, sym}
+use Rattle.mq_stats.specs.Tables.{IsTableOf}
+use Rattle.mq_stats.proofs.Backs.{written_back}
+use Rattle.mq_stats.proofs.Tables.{counts-under}
 use Rattle.mq_stats.proofs.tails.counted_tail.Goals as goal
 
-pub counted_percentiles-requires-clause-few : goal.counted_percentiles-requires-clause-few
-counted_percentiles-requires-clause-few g c =
-    let waiting = c.args.waiting.now in
-    let waits = departed-few waiting.rows.now waiting.kind.now waiting.job.now waiting.arrive.now waiting.fate.now in
-    omega (arith, waits, c.in_ok-counts.ensures.many, c.requires.visits.few)
-
 pub returns : goal.returns
-returns g c = c.counted_percentiles.ensures.percentiles _ (departed_waits_in c.args.waiting.now) c.in_ok-counts.ensures
+returns c =
+    let waits = c.args.waits.now in
+    let new = c.count_waits.new.table in
+    let is : c.as_slice.result.now ≡ new = written_back new _ _ _ c.as_slice.ensures.value (c.count_waits.ensures.room ∙ c.as_mut_slice.ensures.len) in
+    c.counted-tail.ensures.percentiles waits refl
+    (subst (IsTableOf waits) (sym is)
+    (record { counts = λ wait l. c.count_waits.ensures.counts wait ∙ counts-under (length c.as_mut_slice.result.now - 1) wait waits (omega (arith, c.count_waits.ensures.room)) }))

@@ -21,7 +21,6 @@ loop-at-preserved c =
       lost = counts is_lost c.loop-at.lost _ _ fates at _ c.one_if_lost-lost.ensures.value fate c.loop-at.invariant.lost;
       held = counts is_held c.loop-at.held _ _ fates at _ c.one_if_held-held.ensures.value fate c.loop-at.invariant.held;
       stay = adds c.loop-at.stay _ _ _ _ _ stayed sojourns c.loop-at.invariant.stay;
-      longest = grows c.loop-at.longest c.max-longest.result c.sojourn_of-stayed.result _ _ _ _ c.max-longest.ensures stayed sojourns c.loop-at.invariant.longest;
       greatest = grows c.loop-at.greatest c.max-greatest.result c.number_after.result _ _ _ _ c.max-greatest.ensures seen numbers c.loop-at.invariant.greatest;
       few = omega arith;
       few_held = omega arith;
@@ -30,9 +29,6 @@ loop-at-preserved c =
 
 pub returns-clause-stay : goal.returns-clause-stay
 returns-clause-stay c = sym (ap (fold (λ a y. a + y) c.loop-at.stay) (sojourns-end 0 c.args.arrive.now c.args.fate.now c.loop-at.at c.loop-at-test.false)) ∙ c.loop-at.invariant.stay
-
-pub returns-clause-longest : goal.returns-clause-longest
-returns-clause-longest c = sym (ap (fold max c.loop-at.longest) (sojourns-end 0 c.args.arrive.now c.args.fate.now c.loop-at.at c.loop-at-test.false)) ∙ c.loop-at.invariant.longest
 
 pub returns-clause-greatest : goal.returns-clause-greatest
 returns-clause-greatest c =

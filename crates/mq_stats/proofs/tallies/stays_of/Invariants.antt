@@ -10,7 +10,6 @@ invariant-loop-at l = record {
   lost : l.lost + count_by is_lost (drop l.at l.fate) ≡ count_by is_lost l.fate;
   held : l.held + count_by is_held (drop l.at l.fate) ≡ count_by is_held l.fate;
   stay : fold (λ a y. a + y) l.stay (sequence_sojourns 0 (drop l.at l.arrive) (drop l.at l.fate)) ≡ sum (sequence_sojourns 0 l.arrive l.fate);
-  longest : fold max l.longest (sequence_sojourns 0 (drop l.at l.arrive) (drop l.at l.fate)) ≡ fold max 0 (sequence_sojourns 0 l.arrive l.fate);
   greatest : fold max l.greatest (numbers_of (drop l.at l.found) (drop l.at l.fate)) ≡ fold max 0 (numbers_of l.found l.fate);
   few : l.lost ≤ l.at;
   few_held : l.held ≤ l.at;

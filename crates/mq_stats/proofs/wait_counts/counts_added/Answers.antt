@@ -1,33 +1,47 @@
-use Rattle.std.proofs.Common.{◌≡◌, ℕ, ◌+◌, List, ◌++◌, cond, get_or, length, length-append, ap, refl, ◌∙◌, arith}
+use Rattle.std.proofs.Common.{◌≡◌, ℕ, ◌+◌, ◌<◌, ◌≤◌, List, ◌++◌, cond, get_or, length, length-append, ap, refl, ◌∙◌, arith}
 use Rattle.std.specs.Prelude.{◌==◌}
-use Rattle.std.proofs.lemmas.List.Sums.{sum_by-append}
-use Rattle.mq_stats.specs.WaitCounts.{AreCountsTo}
+use Rattle.std.proofs.lemmas.List.Sums.{count_by-le-length, sum_by-append}
+use Rattle.mq_stats.specs.WaitCounts.{AreCounts}
 use Rattle.mq_stats.specs.declared.wait_counts.WaitCounts.{WaitCounts}
 use Rattle.mq_stats.proofs.Backs.{written_back}
 use Rattle.mq_stats.proofs.wait_counts.counts_added.Goals as goal
 
+-- no count is more than all
+few : (waits : List ℕ) (counts : WaitCounts) → AreCounts waits counts → (at : ℕ) → get_or counts.counts at 0 ≤ counts.many
+few waits counts h at = omega (arith, h.many, h.each at, count_by-le-length (λ w. w == at) waits)
+
 -- the counts of both, where each is a sum
-sums : (most : ℕ) (waits more : List ℕ) (before after both : WaitCounts) → both.many ≡ before.many + after.many → length both.counts ≡ length before.counts
-    → ((at : ℕ) → get_or both.counts at 0 ≡ get_or before.counts at 0 + get_or after.counts at 0) → AreCountsTo most waits before → AreCountsTo most more after
-    → AreCountsTo most (waits ++ more) both
-sums most waits more before after both many room each h k =
+sums : (waits more : List ℕ) (before after both : WaitCounts) → before.many + after.many ≤ 1048576 → both.many ≡ before.many + after.many → 1 < length both.counts → length both.counts ≤ 1048578
+    → ((at : ℕ) → get_or both.counts at 0 ≡ get_or before.counts at 0 + get_or after.counts at 0) → AreCounts waits before → AreCounts more after
+    → AreCounts (waits ++ more) both
+sums waits more before after both small many some room each h k =
     let first : before.many ≡ length waits = h.many in
     let second : after.many ≡ length more = k.many in
-    let long : length before.counts ≡ most + 2 = h.room in
-    let also : length after.counts ≡ most + 2 = k.room in
     record {
       many = omega (arith, length-append waits more);
-      room = room ∙ long;
-      table = record {
-        counts = λ wait within. omega (arith, each wait, h.table.counts wait (omega arith), k.table.counts wait (omega arith), sum_by-append (λ w. cond (w == wait) 1 0) waits more);
-      };
-      small = λ wait. omega (arith, each wait, h.small wait, k.small wait);
+      few = omega arith;
+      some = some;
+      room = room;
+      each = λ wait. omega (arith, each wait, h.each wait, k.each wait, sum_by-append (λ w. cond (w == wait) 1 0) waits more);
     }
 
+pub with_room-requires : goal.with_room-requires
+with_room-requires c = record { small = λ at. omega (arith, few c.requires.before.0 c.args.before c.requires.before.1 at, c.requires.few) }
+
+pub add_each-requires-clause-room : goal.add_each-requires-clause-room
+add_each-requires-clause-room c = omega (arith, c.in_ok-counts.ensures.room.1, c.len.ensures, ap length c.as_slice.ensures, ap length c.as_mut_slice.ensures.value)
+
+pub add_each-requires-clause-small : goal.add_each-requires-clause-small
+add_each-requires-clause-small c = λ at.
+    omega (arith, few c.requires.before.0 c.args.before c.requires.before.1 at, few c.requires.after.0 c.args.after.now c.requires.after.1 at, c.requires.few, c.in_ok-counts.ensures.same at, ap (λ l. get_or l at 0) c.as_slice.ensures, ap (λ l. get_or l at 0) c.as_mut_slice.ensures.value)
+
 pub returns : goal.returns
-returns c most waits more h k =
+returns c waits more h k =
     let new = c.add_each.new.counts in
-    let had : c.as_mut_slice.result.now ≡ c.args.before.counts = c.as_mut_slice.ensures.value ∙ c.into_vec-counts.ensures in
     let is : c.from_vec.result ≡ new = written_back new _ _ _ c.from_vec.ensures (c.add_each.ensures.room ∙ c.as_mut_slice.ensures.len) in
-    sums most waits more c.args.before c.args.after.now _ refl (ap length is ∙ c.add_each.ensures.room ∙ ap length had)
-    (λ at. ap (λ l. get_or l at 0) is ∙ c.add_each.ensures.sums at ∙ ap (λ l. get_or l at 0 + get_or c.as_slice.result.now at 0) had ∙ ap (λ l. get_or c.args.before.counts at 0 + get_or l at 0) c.as_slice.ensures) h k
+    let long = ap length is ∙ c.add_each.ensures.room ∙ ap length c.as_mut_slice.ensures.value in
+    let least = c.in_ok-counts.ensures.room.0 in
+    let most = c.in_ok-counts.ensures.most 1048578 h.room (omega (arith, k.room, c.len.ensures)) in
+    let some = h.some in
+    sums waits more c.args.before c.args.after.now _ c.requires.few refl (omega arith) (omega arith)
+    (λ at. ap (λ l. get_or l at 0) is ∙ c.add_each.ensures.sums at ∙ ap (λ l. get_or l at 0 + get_or c.as_slice.result.now at 0) c.as_mut_slice.ensures.value ∙ ap (λ n. n + get_or c.as_slice.result.now at 0) (c.in_ok-counts.ensures.same at) ∙ ap (λ l. get_or c.args.before.counts at 0 + get_or l at 0) c.as_slice.ensures) h k

@@ -1,0 +1,6 @@
+use Rattle.mq_counts.proofs.Exits.{streams-more}
+use Rattle.mq_counts.proofs.leaving.all_streams.Goals as goal
+
+pub loop-at-preserved : goal.loop-at-preserved
+loop-at-preserved c =
+    streams-more c.args.nodes.now c.args.rows.now c.args.all.now c.loop-at.at c.loop-at.streams _ c.get.result.now c.in-Ok.its c.loop-at.invariant c.get.ensures c.in-Ok.ensures.fit c.in-Ok.ensures.its c.in_ok-push-in-Ok.ensures.ok

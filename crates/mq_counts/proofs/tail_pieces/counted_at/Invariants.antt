@@ -1,6 +1,0 @@
-use Rattle.mq_counts.proofs.CountedTails.{AreCountsBefore}
-use Rattle.mq_counts.proofs.tail_pieces.counted_at.Given as goal
-
--- the counts of the waits before the next piece
-abbrev pub invariant-loop-b : goal.invariant-loop-b
-invariant-loop-b l = AreCountsBefore l.node l.b l.sum

@@ -1,0 +1,231 @@
+// What leaves nodes by the outputs that no input reads, by pieces of their streams.
+ghost use Rattle.std.specs.Prelude.{◌≡◌, ◌<◌, ◌≤◌, ◌^◌, false, length, slice_get, IfOk, Some};
+ghost use Rattle.std.specs.List.{AllByRecursion};
+ghost use Rattle.mq_core.specs.declared.model.Rows.{Rows as TheRows};
+ghost use Rattle.mq_crew.specs.Crew.{AreAll};
+ghost use Rattle.mq_counts.specs.Counts.{AreCountable};
+ghost use Rattle.mq_counts.specs.Leaving.{AreExitsAt, AreExitsIn, AreNodeStreams, AreParted, AreStreams, AreStreamsIn, IsExitAt, IsExitIn, exit_pieces};
+ghost use Rattle.mq_counts.specs.declared.leaving.NodeStreams.{NodeStreams as TheStreams};
+ghost use Rattle.mq_stats.specs.Numbers.{AreLeaving};
+
+use crate::counts::{NodeSequences, is_read};
+use crate::totals::{PIECE, piece_count};
+use mq_base::{List, OutOfMemory};
+use mq_core::{Node, Rows, Stream};
+use mq_crew::{Gate, Pieces, run_parts};
+use mq_stats::{Exit, exits_added, exits_join, leaving_between};
+use std::alloc::Global;
+use std::thread::Threads;
+
+// What is told of an output that some input reads, and of no job.
+const NOTHING: Exit = Exit {
+    count: 0,
+    sojourn: 0,
+};
+
+/// What leaves a node, by output. A piece of it is what leaves by so many neighbours of each stream that no input reads.
+#[derive(Drop)]
+pub struct NodeStreams<'a> {
+    pub rows: &'a Rows,
+    pub streams: &'a List<Stream>,
+    /// Whether some input reads it, by output.
+    pub read: List<bool>,
+    /// How many jobs the longest of the others has.
+    pub most: u32,
+}
+
+/// What leaves nodes, with its pieces.
+#[derive(Drop)]
+pub struct PartedExits<'a> {
+    pub nodes: List<NodeStreams<'a>>,
+    /// The pieces of each node.
+    pub parts: List<List<List<Exit>>>,
+}
+
+impl<'a> Pieces for NodeStreams<'a> {
+    type Piece = List<Exit>;
+
+    ghost fit = { AreStreams };
+
+    ghost size = { exit_pieces };
+
+    ghost is_piece = { AreExitsIn };
+
+    fn count(&self) -> u32 {
+        piece_count(self.most, PIECE)
+    }
+
+    fn piece(&self, alloc: Global, b: u32) -> Result<List<Exit>, OutOfMemory> {
+        let mut exits = Vec::with_capacity(alloc, self.streams.len())?;
+        for output in 0..self.streams.len() {
+            exits.push_reserved(exit_in(self, b, output));
+        }
+        Ok(List::from_vec(exits))
+    }
+}
+
+// What leaves by an output in the piece at an index. Where another stream is longer it may have none.
+fn exit_in(node: &NodeStreams, b: u32, output: usize) -> Exit
+    requires fit { AreStreams node.now }
+    requires piece { b < exit_pieces node.now }
+    requires inside { output < length node.now.streams.now }
+    ensures { IsExitIn node.now b output result }
+{
+    if *node.read.get(output) {
+        return NOTHING;
+    }
+    let stream = node.streams.get(output);
+    let count = stream.job.len() as u32;
+    let from = count.min(b * PIECE);
+    let to = count.min((b + 1) * PIECE);
+    leaving_between(node.rows, stream, from, to)
+}
+
+// How many jobs of a stream are looked at: none where some input reads it.
+fn told_of(stream: &Stream, read: bool) -> u32
+    requires { (rows : TheRows) × AreLeaving rows stream.now }
+    ensures all { read ≡ false → result ≡ length stream.now.job }
+    ensures few { result ≤ 1048576 }
+{
+    if read {
+        return 0;
+    }
+    stream.job.len() as u32
+}
+
+// What leaves a node.
+fn streams_in<'a>(
+    alloc: Global,
+    nodes: &[Node],
+    rows: &'a Rows,
+    sequences: &NodeSequences<'a>,
+) -> Result<NodeStreams<'a>, OutOfMemory>
+    requires { AreCountable rows.now sequences.now }
+    ensures fit { IfOk result AreStreams }
+    ensures its { IfOk result (AreStreamsIn nodes.now rows.now sequences.now) }
+{
+    let streams = sequences.streams;
+    let mut all_read = Vec::with_capacity(alloc, streams.len())?;
+    let mut most = 0u32;
+    for output in 0..streams.len() {
+        let read = is_read(nodes, sequences.number, output);
+        most = most.max(told_of(streams.get(output), read));
+        all_read.push_reserved(read);
+    }
+    Ok(NodeStreams {
+        rows,
+        streams,
+        read: List::from_vec(all_read),
+        most,
+    })
+}
+
+// The same of each node.
+fn all_streams<'a>(
+    alloc: Global,
+    nodes: &[Node],
+    rows: &'a Rows,
+    all: &List<NodeSequences<'a>>,
+) -> Result<List<NodeStreams<'a>>, OutOfMemory>
+    requires { AllByRecursion (AreCountable rows.now) all.now }
+    ensures { IfOk result (AreNodeStreams nodes.now rows.now all.now (length all.now)) }
+{
+    let mut streams = List::new(alloc);
+    for at in 0..all.len() {
+        match streams_in(alloc, nodes, rows, all.get(at)) {
+            Ok(its) => streams.push(its)?,
+            Err(fault) => {
+                drop(streams);
+                return Err(fault);
+            }
+        }
+    }
+    Ok(streams)
+}
+
+/// What leaves each of these nodes of a network, at most 65,535, by the outputs that no input of the network reads. The streams of
+/// a node are cut into pieces of 16,384 positions, and the pieces of all nodes are a list that 1 to 64 workers make, who enter the
+/// gate. It refuses for want of memory alone.
+pub fn parted_exits<'a, R: Threads + Sync, G: Gate>(
+    rt: &R,
+    alloc: Global,
+    workers: u32,
+    nodes: &[Node],
+    rows: &'a Rows,
+    all: &List<NodeSequences<'a>>,
+    gate: &G,
+) -> Result<PartedExits<'a>, OutOfMemory>
+    requires some { 1 ≤ workers }
+    requires most { workers ≤ 64 }
+    requires few { length all.now < 2 ^ 16 }
+    requires countable { AllByRecursion (AreCountable rows.now) all.now }
+    ensures parted { IfOk result AreParted }
+    ensures streams { IfOk result (λ parted. AreNodeStreams nodes.now rows.now all.now (length all.now) parted.nodes) }
+{
+    let streams = all_streams(alloc, nodes, rows, all)?;
+    match run_parts(rt, alloc, workers, streams.as_slice(), gate) {
+        Ok(parts) => Ok(PartedExits {
+            nodes: streams,
+            parts,
+        }),
+        Err(fault) => {
+            drop(streams);
+            Err(fault)
+        }
+    }
+}
+
+// What leaves by an output, of its pieces one after another.
+fn exit_of(node: &NodeStreams, parts: &List<List<Exit>>, output: usize) -> Exit
+    requires fit { AreStreams node.now }
+    requires parts { AreAll (AreExitsIn node.now) (exit_pieces node.now) parts.now }
+    requires inside { output < length node.now.streams.now }
+    requires told { slice_get node.now.read output ≡ Some false }
+    ensures { IsExitAt node.now output result }
+{
+    exits_join();
+    let mut sum = NOTHING;
+    for b in 0..parts.len() {
+        sum = exits_added(&sum, parts.get(b).get(output));
+    }
+    sum
+}
+
+// The same, unless some input reads it.
+fn exit_at(node: &NodeStreams, parts: &List<List<Exit>>, output: usize) -> Exit
+    requires fit { AreStreams node.now }
+    requires parts { AreAll (AreExitsIn node.now) (exit_pieces node.now) parts.now }
+    requires inside { output < length node.now.streams.now }
+    ensures { IsExitAt node.now output result }
+{
+    if *node.read.get(output) {
+        return NOTHING;
+    }
+    exit_of(node, parts, output)
+}
+
+// The same of each output.
+fn exits_of(
+    alloc: Global,
+    node: &NodeStreams,
+    parts: &List<List<Exit>>,
+) -> Result<List<Exit>, OutOfMemory>
+    requires fit { AreStreams node.now }
+    requires parts { AreAll (AreExitsIn node.now) (exit_pieces node.now) parts.now }
+    ensures { IfOk result (AreExitsAt node.now) }
+{
+    let mut exits = List::new(alloc);
+    for output in 0..node.streams.len() {
+        exits.push(exit_at(node, parts, output))?;
+    }
+    Ok(exits)
+}
+
+/// What leaves the node at an index by each output that no input reads.
+pub fn exits_at(alloc: Global, parted: &PartedExits, at: usize) -> Result<List<Exit>, OutOfMemory>
+    requires parted { AreParted parted.now }
+    requires inside { at < length parted.now.nodes }
+    ensures { (node : TheStreams) → slice_get parted.now.nodes at ≡ Some node → IfOk result (AreExitsAt node) }
+{
+    exits_of(alloc, parted.nodes.get(at), parted.parts.get(at))
+}

@@ -1,0 +1,121 @@
+// The totals of a block of visits, and how many of their waits are each number of ticks, by one look at them.
+ghost use Rattle.std.specs.Prelude.{◌≡◌, ◌↔◌, ◌+◌, ◌++◌, ◌≤◌, ℕ, List as Items, IfOk, IfSome, IsSome, length};
+ghost use Rattle.mq_stats.specs.Blocks.{AreNeighbours, IsBlock, IsBlockOf};
+ghost use Rattle.mq_stats.specs.Numbers.{AreVisits, visits_of_columns};
+ghost use Rattle.mq_stats.specs.WaitCounts.{AreCounts};
+
+use crate::bare::bare_times;
+use crate::tallies::{NodeTotals, part, totals_added, totals_of};
+use crate::wait_counts::{WaitCounts, counts_added, counts_of};
+use crate::waits::{Sums, Waiting, busy_of, waits_from};
+use mq_base::OutOfMemory;
+use mq_core::{Kind, Rows, Visits};
+use std::alloc::Global;
+
+/// What is counted of a block of visits.
+#[derive(Drop)]
+pub struct BlockCount {
+    /// The totals, as if no other visit came.
+    pub totals: NodeTotals,
+    /// The counts of the waits of those that depart: there exactly where no wait is longer than is counted.
+    pub waits: Option<WaitCounts>,
+}
+
+// What is counted of visits to a node of this kind, which stand in these columns.
+fn count_columns(
+    alloc: Global,
+    waiting: &Waiting,
+    found: &[u32],
+    span: u64,
+    most: u32,
+) -> Result<BlockCount, OutOfMemory>
+    requires visits { AreVisits waiting.now.rows.now waiting.now.kind.now (visits_of_columns waiting.now.job.now waiting.now.arrive.now found.now waiting.now.fate.now) }
+    requires most { most ≤ 1048576 }
+    ensures { IfOk result (IsBlockOf waiting.now.rows.now waiting.now.kind.now (visits_of_columns waiting.now.job.now waiting.now.arrive.now found.now waiting.now.fate.now) span most) }
+{
+    let bare = bare_times(alloc, waiting.rows, waiting.kind, waiting.job)?;
+    let busy = busy_of(alloc, waiting, bare.as_slice())?;
+    let told = waits_from(waiting, bare);
+    let sums = Sums {
+        wait: told.wait,
+        longest: told.longest,
+        busy,
+    };
+    let waits = counts_of(alloc, told.waits.as_slice(), told.longest, most)?;
+    Ok(BlockCount {
+        totals: totals_of(waiting, found, span, &sums),
+        waits,
+    })
+}
+
+/// What is counted of the visits to a node of this kind from one position up to another, as if no other
+/// came, in a run with this span, in ticks, by which those end that are held: their totals, and the counts of their waits exactly where
+/// none is longer than `most` ticks.
+///
+/// The busy time is below 2^100 ticks. It refuses for want of memory alone.
+pub fn count_block(
+    alloc: Global,
+    rows: &Rows,
+    kind: &Kind,
+    visits: &Visits,
+    span: u64,
+    most: u32,
+    from: u32,
+    to: u32,
+) -> Result<BlockCount, OutOfMemory>
+    requires visits { AreVisits rows.now kind.now visits.now }
+    requires most { most ≤ 1048576 }
+    requires order { from ≤ to }
+    requires within { to ≤ length visits.now.job }
+    ensures { IfOk result (IsBlock rows.now kind.now visits.now span most from to) }
+{
+    let waiting = Waiting {
+        rows,
+        kind,
+        job: part(&visits.job, from, to),
+        arrive: part(&visits.arrive, from, to),
+        fate: &visits.fate.part(from as usize, to as usize),
+    };
+    count_columns(alloc, &waiting, part(&visits.found, from, to), span, most)
+}
+
+// The counts of waits and of others, added up, where there are both.
+fn waits_added(
+    alloc: Global,
+    before: Option<WaitCounts>,
+    after: &Option<WaitCounts>,
+) -> Result<Option<WaitCounts>, OutOfMemory>
+    requires { (waits : Items ℕ) × (more : Items ℕ) × (length waits + length more ≤ 1048576) × IfSome before (AreCounts waits) × IfSome after.now (AreCounts more) }
+    ensures told { IfOk result (λ both. IsSome both ↔ (IsSome before × IsSome after.now)) }
+    ensures counts { IfOk result (λ both. (waits more : Items ℕ) → IfSome before (AreCounts waits) → IfSome after.now (AreCounts more) → IfSome both (AreCounts (waits ++ more))) }
+{
+    let Some(before) = before else {
+        return Ok(None);
+    };
+    let Some(after) = after else {
+        drop(before);
+        return Ok(None);
+    };
+    let both = counts_added(alloc, before, after)?;
+    Ok(Some(both))
+}
+
+/// What is counted of two neighbouring blocks together, with the counts of their waits exactly where there are those of both. It
+/// refuses for want of memory alone.
+pub fn blocks_added(
+    alloc: Global,
+    before: BlockCount,
+    after: &BlockCount,
+) -> Result<BlockCount, OutOfMemory>
+    requires { AreNeighbours before after.now }
+    ensures told { IfOk result (λ both. IsSome both.waits ↔ (IsSome before.waits × IsSome after.now.waits)) }
+    ensures block { IfOk result (λ both. (blocks : AreNeighbours before after.now) → IsBlock blocks.rows blocks.kind blocks.visits blocks.span blocks.most blocks.from blocks.to both) }
+{
+    let BlockCount { totals, waits } = before;
+    let both = totals_added(&totals, &after.totals);
+    let waits = waits_added(alloc, waits, &after.waits)?;
+    Ok(BlockCount {
+        totals: both,
+        waits,
+    })
+}
