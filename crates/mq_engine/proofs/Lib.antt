@@ -9,5 +9,6 @@ pub mod Gathers
 pub mod Telling
 pub mod Kept
 pub mod Numbers
+pub mod Parting
 pub mod Sent
 pub mod Sending

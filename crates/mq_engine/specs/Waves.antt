@@ -1,5 +1,5 @@
 -- The nodes of a wave, by how they are worked out.
-use Rattle.std.specs.Prelude.{◌≡◌, ◌<◌, ◌≤◌, ℕ, Contains, length}
+use Rattle.std.specs.Prelude.{◌≡◌, ◌<◌, ◌≤◌, ℕ, Contains, List, length}
 use Rattle.std.specs.List.{AllByRecursion}
 use Rattle.mq_core.specs.StandardTable.{run_of}
 use Rattle.mq_core.specs.Theorems.{IsReadFor}
@@ -8,6 +8,7 @@ use Rattle.mq_core.specs.declared.model.Rows.{Rows}
 use Rattle.mq_engine.specs.Apart.{CanGather}
 use Rattle.mq_arrivals.specs.declared.nodes.Arriving.{Arriving}
 use Rattle.mq_exits.specs.Results.{IsResultOf}
+use Rattle.mq_exits.specs.declared.working.NodeResult.{NodeResult}
 use Rattle.mq_engine.specs.Progress.{AreEarly, CanWork, HaveAll}
 use Rattle.mq_engine.specs.declared.wave.Way.{Way}
 use Rattle.mq_engine.specs.declared.wave.Way.TheVariants.{Crowded, Apart, Station}
@@ -19,6 +20,18 @@ pub record IsWave (s : Arriving) : Type 0 where
   pub early : AreEarly s.outputs.now
   pub all : HaveAll s.plan.now s.rows.now s.outputs.now s.ready.now
   pub block : 1 ≤ s.block
+
+-- the nodes of one side of a wave, or of all of it, and who works them out
+pub record IsSide (s : Arriving) : Type 0 where
+  pub wave : IsWave s
+  pub few : length s.ready.now ≤ 64
+  pub some : 1 ≤ s.workers
+  pub most : s.workers ≤ 64
+
+-- what each of these nodes gives
+pub record AreGiven (s : Arriving) (results : List NodeResult) : Type 0 where
+  pub len : length results ≡ length s.ready.now
+  pub known : AllByRecursion (IsResultOf s.plan.now s.rows.now s.ready.now) results
 
 -- a node has so many visits, more than it may
 abbrev pub IsCrowded : Plan → Rows → ℕ → ℕ → Type 0

@@ -21,6 +21,7 @@ mod loads;
 mod middles;
 mod progress;
 mod ready;
+mod sides;
 mod sources;
 mod told;
 mod wave;
@@ -49,7 +50,8 @@ pub use wave::{Way, wave_of, way_of};
 /// block is cut into blocks of at least that many jobs, at most 16,384 and for a tandem 1,024 of them, and
 /// scanned (Greenberg, Lubachevsky and Mitrani 1991): a server in a single pass (`chain_departures`), a fork-join
 /// server after server of its branches. A split is cut likewise, and what leaves its blocks put one behind the
-/// other. A block is also the first window of a loss station and of a trunk group. The gate is entered with each
+/// other. A block is also the first window of a loss station and of a trunk group; one to which more than a worker's
+/// share of the jobs comes has a worker of its own, beside the lists of all others. The gate is entered with each
 /// piece and each block that is drawn. A fork and a join are one piece each. The run is the same for all workers,
 /// blocks and gates.
 ///

@@ -6,12 +6,13 @@ ghost use Rattle.mq_core.specs.SequenceLaws.{sends_once};
 ghost use Rattle.mq_core.specs.declared.model.Node.{Node as TheNode};
 ghost use Rattle.mq_arrivals.specs.Arrivals.{pairs_read};
 ghost use Rattle.mq_exits.specs.Results.{IsResultOf};
-ghost use Rattle.mq_engine.specs.Waves.{AreSorted, IsWave, IsWay};
+ghost use Rattle.mq_engine.specs.Waves.{AreGiven, AreSorted, IsSide, IsWave, IsWay};
 ghost use Rattle.mq_exits.specs.declared.working.Ending.TheVariants.{TooMany};
 
 use crate::gathering::apart_results;
 use crate::laws::core_laws;
 use crate::ready::results_of;
+use crate::sides::{appended, shares, side_by_side, sides_of};
 use mq_arrivals::{Arriving, stream_of};
 use mq_base::{List, OutOfMemory};
 use mq_core::{Kind, OverFault, is_source};
@@ -45,7 +46,7 @@ pub struct Wave {
 }
 
 // How many jobs come to a node by its ports: 8 times as many at most as a node may let out.
-fn coming_by_ports(arriving: &Arriving, number: u32) -> u32
+pub fn coming_by_ports(arriving: &Arriving, number: u32) -> u32
     requires wave { IsWave arriving.now }
     requires ready { Contains arriving.now.ready.now number }
     ensures { (node : TheNode) → slice_get arriving.now.plan.now.net.nodes number ≡ Some node → result ≡ length (flat_map (pairs_read arriving.now.outputs.now) node.inputs) }
@@ -151,19 +152,15 @@ fn all_results(
     Ok(List::from_vec(results))
 }
 
-/// What the nodes that are ready give.
-pub fn wave_of<R: Threads + Sync, G: Gate>(
+// What these nodes give, by all workers together.
+pub fn side_of<R: Threads + Sync, G: Gate>(
     rt: &R,
     alloc: Global,
     arriving: &Arriving,
     gate: &G,
 ) -> Result<List<NodeResult>, OutOfMemory>
-    requires wave { IsWave arriving.now }
-    requires few { length arriving.now.ready.now ≤ 64 }
-    requires some { 1 ≤ arriving.now.workers }
-    requires most { arriving.now.workers ≤ 64 }
-    ensures len { IfOk result (λ results. length results ≡ length arriving.now.ready.now) }
-    ensures known { IfOk result (λ results. AllByRecursion (IsResultOf arriving.now.plan.now arriving.now.rows.now arriving.now.ready.now) results) }
+    requires { IsSide arriving.now }
+    ensures { IfOk result (AreGiven arriving.now) }
 {
     let wave = sorted_out(alloc, arriving)?;
     let gathering = Arriving {
@@ -184,4 +181,39 @@ pub fn wave_of<R: Threads + Sync, G: Gate>(
         return Err(OutOfMemory);
     };
     all_results(wave, gathered, served)
+}
+
+/// What the nodes that are ready give: stations of one long piece beside all others, where there are both.
+pub fn wave_of<R: Threads + Sync, G: Gate>(
+    rt: &R,
+    alloc: Global,
+    arriving: &Arriving,
+    gate: &G,
+) -> Result<List<NodeResult>, OutOfMemory>
+    requires wave { IsWave arriving.now }
+    requires few { length arriving.now.ready.now ≤ 64 }
+    requires some { 1 ≤ arriving.now.workers }
+    requires most { arriving.now.workers ≤ 64 }
+    ensures len { IfOk result (λ results. length results ≡ length arriving.now.ready.now) }
+    ensures known { IfOk result (λ results. AllByRecursion (IsResultOf arriving.now.plan.now arriving.now.rows.now arriving.now.ready.now) results) }
+{
+    let sides = sides_of(alloc, arriving)?;
+    if arriving.workers == 1 || sides.long.is_empty() || sides.others.is_empty() {
+        drop(sides);
+        return side_of(rt, alloc, arriving, gate);
+    }
+    let (few, many) = shares(arriving.workers, sides.long.len() as u32);
+    let long = Arriving {
+        ready: &sides.long,
+        workers: few,
+        ..*arriving
+    };
+    let others = Arriving {
+        ready: &sides.others,
+        workers: many,
+        ..*arriving
+    };
+    let (first, second) = side_by_side(rt, alloc, &long, &others, gate);
+    drop(sides);
+    appended(first, second)
 }

@@ -1,67 +1,52 @@
-use Rattle.std.proofs.Common.{◌++◌, length, ap, sym, subst, arith, length-append}
+use Rattle.std.proofs.Common.{ℕ, List, ◌++◌, length, ap, subst, sym, arith}
 use Rattle.std.specs.Prelude.{Contains}
-use Rattle.std.specs.List.{AllByRecursion as Each}
+use Rattle.std.specs.List.Sorted.{IsPermutation}
 use Rattle.std.proofs.lemmas.Result.{IfOk-weaker}
-use Rattle.mq_base.proofs.lemmas.Each.{Each-append}
-use Rattle.mq_exits.specs.Results.{IsResultOf}
-use Rattle.mq_engine.specs.Waves.{IsApartOf, IsStationOf}
-use Rattle.mq_engine.specs.Progress.{CanWorkAll}
-use Rattle.mq_engine.proofs.Telling.{can-all, each-contained, results-among, serves}
+use Rattle.mq_engine.proofs.Parting.{appended-given, is-side, long-ready, other-ready, sides-few}
 use Rattle.mq_engine.proofs.wave.wave_of.Goals as goal
+
+pub overflow_cast-len : goal.overflow_cast-len
+overflow_cast-len g c =
+    let sides = c.in_ok-sides.sides in
+    let few = sides-few sides.long.items sides.others.items c.args.arriving.now.ready.now c.in_ok-sides.ensures c.requires.few in
+    let many = few.0 in
+    let len = c.len.ensures in
+    omega arith
+
+pub side_by_side-first-requires-clause-long : goal.side_by_side-first-requires-clause-long
+side_by_side-first-requires-clause-long g c κs within =
+    let s = c.args.arriving.now in
+    let sides = c.in_ok-sides.sides in
+    let few = sides-few sides.long.items sides.others.items s.ready.now c.in_ok-sides.ensures c.requires.few in
+    let many = few.0 in
+    let same = ap length c.deref.ensures.value in
+    let all = c.shares-few.ensures.all in
+    let most = c.requires.most in
+    is-side s c.deref.result c.shares-few.result.0 c.requires.wave
+    (λ v h. long-ready sides.long.items sides.others.items s.ready.now c.in_ok-sides.ensures v (subst (λ l. Contains l v) c.deref.ensures.value h)) (omega arith) c.shares-few.ensures.some.0 (omega arith)
+
+pub side_by_side-first-requires-clause-others : goal.side_by_side-first-requires-clause-others
+side_by_side-first-requires-clause-others g c κs within =
+    let s = c.args.arriving.now in
+    let sides = c.in_ok-sides.sides in
+    let few = sides-few sides.long.items sides.others.items s.ready.now c.in_ok-sides.ensures c.requires.few in
+    let many = few.1 in
+    let same = ap length c.deref-2.ensures.value in
+    let all = c.shares-few.ensures.all in
+    let most = c.requires.most in
+    is-side s c.deref-2.result c.shares-few.result.1 c.requires.wave
+    (λ v h. other-ready sides.long.items sides.others.items s.ready.now c.in_ok-sides.ensures v (subst (λ l. Contains l v) c.deref-2.ensures.value h)) (omega arith) c.shares-few.ensures.some.1 (omega arith)
+
+pub returns-clause-len : goal.returns-clause-len
+returns-clause-len g c =
+    let s = c.args.arriving.now in
+    let parted = subst (λ (z : List ℕ × List ℕ). IsPermutation (z.0 ++ z.1) s.ready.now) (λ k. (sym c.deref.ensures.value k, sym c.deref-2.ensures.value k)) c.in_ok-sides.ensures in
+    IfOk-weaker c.appended.result _ _ (λ results given. given.len)
+    (appended-given s c.deref.result c.deref-2.result c.shares-few.result.0 c.shares-few.result.1 c.side_by_side-first.result.0 c.side_by_side-first.result.1 c.appended.result parted c.side_by_side-first.ensures.long c.side_by_side-first.ensures.others c.appended.ensures)
 
 pub returns-clause-known : goal.returns-clause-known
 returns-clause-known g c =
     let s = c.args.arriving.now in
-    let sorted = c.in_ok-wave.ensures.sorted in
-    let is = IsResultOf s.plan.now s.rows.now s.ready.now in
-    let gathered = results-among s.plan.now s.rows.now c.deref.result.now s.ready.now c.in-Ok.gathered
-    (λ v h. (each-contained (IsApartOf s) c.in_ok-wave.wave.apart.items sorted.apart v (subst (λ l. Contains l v) c.deref.ensures.value h)).0) c.in-Ok.ensures.known in
-    let served = results-among s.plan.now s.rows.now c.deref-2.result.now s.ready.now c.in-Ok-results_of.served
-    (λ v h. (each-contained (IsStationOf s) c.in_ok-wave.wave.stations.items sorted.stations v (subst (λ l. Contains l v) c.deref-2.ensures.value h)).0) c.in-Ok-results_of.ensures.known in
-    let both = Each-append is c.in_ok-wave.wave.crowded c.in-Ok.gathered sorted.crowded gathered in
-    IfOk-weaker c.all_results.result _ _ (λ all e. subst (Each is) (sym e) (Each-append is (c.in_ok-wave.wave.crowded ++ c.in-Ok.gathered) c.in-Ok-results_of.served both served)) c.all_results.ensures
-
-pub results_of-requires-clause-can : goal.results_of-requires-clause-can
-results_of-requires-clause-can g c κs inside =
-    let s = c.args.arriving.now in
-    subst (CanWorkAll s.plan.now s.rows.now s.outputs.now) (sym c.deref-2.ensures.value) (can-all s c.in_ok-wave.wave.stations.items c.in_ok-wave.ensures.sorted.stations)
-
-pub results_of-requires-clause-arriving : goal.results_of-requires-clause-arriving
-results_of-requires-clause-arriving g c κs inside =
-    let s = c.args.arriving.now in
-    let same = ap length c.deref-2.ensures.value in
-    let len = c.in_ok-wave.ensures.len in
-    let few = c.requires.few in
-    serves (record { plan = s.plan; rows = s.rows; outputs = s.outputs; ready = c.deref-2.result; workers = s.workers; block = s.block }) c.requires.wave.read c.requires.wave.early
-    (subst (CanWorkAll s.plan.now s.rows.now s.outputs.now) (sym c.deref-2.ensures.value) (can-all s c.in_ok-wave.wave.stations.items c.in_ok-wave.ensures.sorted.stations)) (omega arith) c.requires.some c.requires.most c.requires.wave.block
-
-pub results_of-requires-clause-early : goal.results_of-requires-clause-early
-results_of-requires-clause-early g c κs inside = c.requires.wave.early
-
-pub apart_results-requires-clause-gathering : goal.apart_results-requires-clause-gathering
-apart_results-requires-clause-gathering g c κs inside =
-    let s = c.args.arriving.now in
-    record {
-      read = c.requires.wave.read;
-      early = c.requires.wave.early;
-      can = λ v h. (each-contained (IsApartOf s) c.in_ok-wave.wave.apart.items c.in_ok-wave.ensures.sorted.apart v (subst (λ l. Contains l v) c.deref.ensures.value h)).1;
-    }
-
-pub apart_results-requires-clause-few : goal.apart_results-requires-clause-few
-apart_results-requires-clause-few g c κs inside =
-    let same = ap length c.deref.ensures.value in
-    let len = c.in_ok-wave.ensures.len in
-    let few = c.requires.few in
-    omega arith
-
-pub returns-clause-len : goal.returns-clause-len
-returns-clause-len g c =
-    let wave = c.in_ok-wave.wave in
-    let count = c.in_ok-wave.ensures.len in
-    let apart = ap length c.deref.ensures.value in
-    let gathered = c.in-Ok.ensures.len in
-    let stations = ap length c.deref-2.ensures.value in
-    let served = c.in-Ok-results_of.ensures.len in
-    let both = length-append wave.crowded c.in-Ok.gathered in
-    let more = length-append (wave.crowded ++ c.in-Ok.gathered) c.in-Ok-results_of.served in
-    IfOk-weaker c.all_results.result _ _ (λ all e. let many = ap length e in omega arith) c.all_results.ensures
+    let parted = subst (λ (z : List ℕ × List ℕ). IsPermutation (z.0 ++ z.1) s.ready.now) (λ k. (sym c.deref.ensures.value k, sym c.deref-2.ensures.value k)) c.in_ok-sides.ensures in
+    IfOk-weaker c.appended.result _ _ (λ results given. given.known)
+    (appended-given s c.deref.result c.deref-2.result c.shares-few.result.0 c.shares-few.result.1 c.side_by_side-first.result.0 c.side_by_side-first.result.1 c.appended.result parted c.side_by_side-first.ensures.long c.side_by_side-first.ensures.others c.appended.ensures)
