@@ -4,6 +4,7 @@ behind."""
 import contextlib
 import os
 import pathlib
+import signal
 import sys
 import threading
 import unittest
@@ -75,6 +76,11 @@ def stand_in(folder, name, script):
     path.write_text(f"#!/bin/sh\n{script}\n")
     path.chmod(0o755)
     return path
+
+
+def heeds_signals():
+    """Between fork and exec: has Ctrl-C end the program, which one that a shell started behind its back ignores."""
+    signal.signal(signal.SIGINT, signal.default_int_handler)
 
 
 def children_of(process):

@@ -113,6 +113,17 @@ class Figures(Test):
         with self.assertRaises(TypeError):
             iter(report)
 
+    def test_figures_by_their_names(self):
+        """Each word of a line, and the means."""
+        report = mpsim.Report.parse(CALLS)
+        for it in nodes_of(CALLS):
+            figures = {name: value for name, value in it.items() if name not in ("name", "kind")}
+            told = {name: report[it["name"]].figure(name) for name in figures}
+            self.assertEqual({name: "-" if it is None else f"{it:.4f}" if name == "util" else str(it) for name, it in told.items()}, figures)
+        self.assertEqual([report["expert"].figure(it) for it in ("mean_wait", "mean_time", "share_lost")], [9 / 3, 22 / 3, 0.5])
+        for name in "name", "kind", "in_", "count", "line", "p95":
+            self.assertRaises(AttributeError, report["expert"].figure, name)
+
     def test_an_edited_report(self):
         text = text_of(EXAMPLES, "edits", "late-caller", "report.txt")
         report = mpsim.Report.parse(text)

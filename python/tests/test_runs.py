@@ -11,7 +11,7 @@ import tempfile
 import time
 import unittest
 
-from ground import DESK, EXAMPLES, MODEL, SOURCES, TRACE, Test, children_of, folders, programs_in, stand_in, text_of
+from ground import DESK, EXAMPLES, MODEL, SOURCES, TRACE, Test, children_of, folders, heeds_signals, programs_in, stand_in, text_of
 
 import mpsim
 from mpsim import programs
@@ -240,7 +240,8 @@ class Ends(Test):
             fault = self.ends(mpsim.ProgramError, begin + "kill -KILL $$")
             self.assertEqual((fault.status, "SIGKILL" in str(fault)), (-9, True))
         self.assertIn("x86-64-v2", str(self.ends(mpsim.ProgramError, "kill -ILL $$")))
-        self.ends(KeyboardInterrupt, f"head -c 300 {STORED}; kill -INT $$")
+        # A shell that a shell started behind its back ignores this signal: it is another's.
+        self.ends(KeyboardInterrupt, f"head -c 300 {STORED}; exec env --default-signal=INT sh -c 'kill -INT $$'")
 
     def test_a_program_that_writes_no_report(self):
         self.assertEqual(self.ends(mpsim.ReportError, "true").line, 1)
@@ -277,7 +278,8 @@ class Ends(Test):
         for whole_group in False, True:
             with self.subTest(whole_group=whole_group):
                 script = f"import sys; sys.path.insert(0, {str(SOURCES)!r}); import mpsim; mpsim.run({str(MODEL)!r}, {pipe!r})"
-                process = subprocess.Popen([sys.executable, "-B", "-c", script], stderr=subprocess.PIPE, start_new_session=True)
+                words = [sys.executable, "-B", "-c", script]
+                process = subprocess.Popen(words, stderr=subprocess.PIPE, start_new_session=True, preexec_fn=heeds_signals)
                 end = time.monotonic() + 20
                 while not (children := children_of(process.pid)) and time.monotonic() < end:
                     time.sleep(0.01)

@@ -1,5 +1,6 @@
 """Sweeps: each scenario is the single run of its model, however many there are; what is cut or altered is refused."""
 
+import os
 import pathlib
 import tempfile
 import unittest
@@ -87,6 +88,38 @@ class Texts(Test):
         self.assertEqual([(it.label, it.status) for it in sweep.values()], [(1, 0), (2, 3), (3, 0)])
         self.assertEqual((sweep[2].refusal.told, sweep[2].report, str(sweep[3].report)), ("mpsim: model: no source", None, desk))
         self.assertEqual(sweep.curve("desk", "p90"), [(1, 3), (3, 3)])
+
+    def test_files(self):
+        """`load` has a report or a sweep by how it begins, also of a pipe; a fault names the file."""
+        self.assertEqual(mpsim.load(DAY / "report.txt").curve("agents", "lost"), mpsim.Sweep.parse(STORED).curve("agents", "lost"))
+        report = EXAMPLES / "callcentre" / "jobs.txt"
+        self.assertEqual("".join(mpsim.load(report).lines()), text_of(report))
+        ways = mpsim.load, mpsim.Sweep.read
+        whole = text_of(report)
+        last, cut = STORED.count("\n"), whole.count("\n")
+        texts = (STORED[:-1], last, ways), ("source,time\n", 1, ways), ("scenario", 1, ways), ("", 1, ways), (whole[:-1], cut, ways[:1])
+        for text, line, kinds in texts:
+            with tempfile.TemporaryDirectory() as folder:
+                path = pathlib.Path(folder, "text")
+                path.write_text(text)
+                for read in kinds:
+                    with self.subTest(text=text[-20:], read=read), self.assertRaises(mpsim.ReportError) as caught:
+                        read(path)
+                    fault = caught.exception
+                    self.assertEqual((fault.file, fault.line, str(fault).startswith(f"{path}: report line {line}: ")), (path, line, True))
+        reader, writer = os.pipe()
+        with open(writer, "w") as file:
+            file.write(STORED)
+        self.assertEqual(len(mpsim.load(f"/dev/fd/{reader}")), 8)
+        os.close(reader)
+        self.assertRaises(OSError, mpsim.load, "/absent")
+
+    def test_labels(self):
+        sweep = mpsim.Sweep.read(DAY / "report.txt", [f"{it} agents" for it in range(8, 16)])
+        self.assertEqual(sweep.curve("agents", "in"), [(f"{it} agents", 1138) for it in range(8, 16)])
+        self.assertEqual([it.label for it in sweep.values()], list(sweep))
+        for count in 0, 7, 9:
+            self.assertRaisesRegex(ValueError, f"{count} labels for 8 scenarios", mpsim.Sweep.parse, STORED, list(range(count)))
 
     def test_sweeps_that_are_altered(self):
         lines = STORED.splitlines(keepends=True)

@@ -1,4 +1,4 @@
-"""What the package says of itself: the examples of each call and of docs/PYTHON.md are run; and what is asked of its files."""
+"""What the package says of itself: the examples of each call, of docs/PYTHON.md and of docs/PLANNER.md are run; and what is asked of its files."""
 
 import ast
 import doctest
@@ -12,14 +12,26 @@ from ground import PYTHON, ROOT, SOURCES, Test
 
 import mpsim
 
-MODULES = sorted(it.stem for it in (SOURCES / "mpsim").glob("*.py"))
+MODULES = sorted(".".join(it.relative_to(SOURCES / "mpsim").with_suffix("").parts) for it in (SOURCES / "mpsim").rglob("*.py"))
 PAGE = ROOT / "docs" / "PYTHON.md"
 STANDARD = {"array", "bisect", "collections", "contextlib", "csv", "fractions", "importlib", "io", "itertools", "os", "re", "shutil", "signal"}
+STANDARD |= {"resource"}
 STANDARD |= {"subprocess", "sys", "threading", "time", "typing"}
+# What the planner's commands and the pages take besides.
+STANDARD |= {"argparse", "base64", "codecs", "datetime", "errno", "functools", "gc", "glob", "hashlib", "heapq", "html", "json", "locale", "math"}
+STANDARD |= {"operator", "secrets", "shlex", "socket", "stat", "string", "unicodedata", "zoneinfo"}
 
 
 def module_of(name):
-    return mpsim if name == "__init__" else importlib.import_module(f"mpsim.{name}")
+    """The module of a name; the files `__main__` are no modules to be read."""
+    return importlib.import_module(f"mpsim.{name}".replace(".__init__", ""))
+
+
+def blocks_of(page):
+    """The blocks of code of a page, as lists of lines."""
+    lines = page.read_text().splitlines()
+    marks = [at for at, it in enumerate(lines) if it.startswith("```")]
+    return [lines[begin + 1 : end] for begin, end in zip(marks[::2], marks[1::2])]
 
 
 class Examples(Test):
@@ -43,6 +55,8 @@ class Examples(Test):
     def test_examples_are_run(self):
         count = 0
         for name in MODULES:
+            if name.endswith("__main__"):
+                continue
             for test in doctest.DocTestFinder().find(module_of(name)):
                 if test.examples:
                     with self.subTest(test.name):
@@ -51,17 +65,24 @@ class Examples(Test):
 
     def test_page(self):
         """All blocks of docs/PYTHON.md, one behind the other, in a folder with the examples."""
-        lines = PAGE.read_text().splitlines()
-        marks = [at for at, it in enumerate(lines) if it.startswith("```")]
-        blocks = [lines[begin + 1 : end] for begin, end in zip(marks[::2], marks[1::2])]
+        blocks = blocks_of(PAGE)
         self.assertTrue(len(blocks) > 8 and all(it[0].startswith(">>> ") for it in blocks), blocks)
+        self.assertGreater(self.runs_blocks(PAGE, blocks), 20)
+
+    def test_planner_page(self):
+        """The sessions of docs/PLANNER.md; its other blocks are commands, which `check/run documents` runs."""
+        page = ROOT / "docs" / "PLANNER.md"
+        blocks = [it for it in blocks_of(page) if it[0].startswith(">>> ")]
+        self.assertGreater(self.runs_blocks(page, blocks), 5)
+
+    def runs_blocks(self, page, blocks):
         before = os.getcwd()
         with tempfile.TemporaryDirectory() as folder:
             os.symlink(ROOT / "examples", os.path.join(folder, "examples"))
             os.chdir(folder)
             try:
-                examples = doctest.DocTestParser().get_doctest("".join(f"{line}\n" for it in blocks for line in [*it, ""]), {}, str(PAGE), None, 0)
-                self.assertGreater(self.runs(examples), 20)
+                examples = doctest.DocTestParser().get_doctest("".join(f"{line}\n" for it in blocks for line in [*it, ""]), {}, str(page), None, 0)
+                return self.runs(examples)
             finally:
                 os.chdir(before)
 
@@ -101,7 +122,7 @@ class Sources(Test):
     def test_modules(self):
         """The package stands on Python's own library; what makes a frame is looked for in few files."""
         for name in MODULES:
-            found = set(modules_of(ast.parse((SOURCES / "mpsim" / f"{name}.py").read_text())))
+            found = set(modules_of(ast.parse((SOURCES / "mpsim" / f"{name.replace('.', '/')}.py").read_text())))
             with self.subTest(name):
                 self.assertEqual(found - STANDARD - ({"pandas", "numpy"} if name in ("report", "node_visits", "sweeps") else set()), set())
 

@@ -1,6 +1,10 @@
-"""The wheel: its tag is what its programs ask for; the same bytes from two folders; it installs and runs without a network."""
+"""The wheel: its tag is what its programs ask for; what goes into it; the same bytes from two folders; it installs and runs without a network.
+
+Where hatchling isn't there, no wheel is built: then its hook is called as hatchling would call it, the names of its commands are looked up, and a
+folder is laid out as the wheel would be."""
 
 import hashlib
+import importlib
 import os
 import pathlib
 import re
@@ -8,11 +12,13 @@ import shutil
 import subprocess
 import sys
 import tempfile
+import types
 import unittest
 import venv
 import zipfile
+from unittest import mock
 
-from ground import EXAMPLES, MODEL, PYTHON, SOURCES, TRACE, Test, text_of
+from ground import EXAMPLES, MODEL, PYTHON, ROOT, SOURCES, TRACE, Test, text_of
 
 from mpsim import programs
 
@@ -49,6 +55,87 @@ class Tag(Test):
         self.assertEqual(max(needed), tuple(map(int, tag.groups())))
 
 
+    @unittest.skipUnless(shutil.which("readelf"), "readelf isn't there")
+    def test_machine_of_the_programs(self):
+        """That of the tag."""
+        for name in NAMES:
+            told = subprocess.run(["readelf", "-h", programs.find(name)], stdout=subprocess.PIPE, text=True, check=True).stdout
+            self.assertRegex(told, r"Class: +ELF64\n")
+            self.assertRegex(told, r"Machine: +Advanced Micro Devices X86-64\n")
+
+
+class Hook(Test):
+    """hatch_build.py, called as hatchling calls it, with a stand-in for the one class of hatchling that it takes."""
+
+    def hooked(self, root, folder=None):
+        """What the hook adds to a build in a folder `root`, with programs in another."""
+        stand_ins, interface = {}, "hatchling.builders.hooks.plugin.interface"
+        for at in range(len(interface.split("."))):
+            name = ".".join(interface.split(".")[: at + 1])
+            stand_ins[name] = types.ModuleType(name)
+        stand_ins[interface].BuildHookInterface = type("BuildHookInterface", (), {})
+        surroundings = {it: os.environ[it] for it in os.environ if it != "MPSIM_PROGRAMS"}
+        surroundings.update({"MPSIM_PROGRAMS": folder} if folder else {})
+        with mock.patch.dict(sys.modules, stand_ins), mock.patch.dict(os.environ, surroundings, clear=True):
+            names = {}
+            exec(compile(text_of(PYTHON, "hatch_build.py"), "hatch_build.py", "exec"), names)
+            hook, data = names["ProgramsHook"](), {"force_include": {}}
+            hook.root = str(root)
+            hook.initialize("standard", data)
+        return data
+
+    def test_programs_go_in(self):
+        """From a folder that is named, or as a clone has them; with the tag of a platform."""
+        with tempfile.TemporaryDirectory() as folder:
+            folder = os.path.realpath(folder)
+            clone = pathlib.Path(folder, "clone")
+            (clone / "python").mkdir(parents=True)
+            for name in NAMES:
+                for place in pathlib.Path(folder, "named"), clone / "crates" / name / "out":
+                    place.mkdir(parents=True, exist_ok=True)
+                    shutil.copy(programs.find(name), place / name)
+            tag = {"tag": "py3-none-manylinux_2_34_x86_64", "pure_python": False}
+            want = {f"{folder}/named/{name}": f"mpsim/bin/{name}" for name in NAMES}
+            self.assertEqual(self.hooked(clone / "python", f"{folder}/named"), {"force_include": want, **tag})
+            want = {f"{clone}/crates/{name}/out/{name}": f"mpsim/bin/{name}" for name in NAMES}
+            self.assertEqual(self.hooked(clone / "python"), {"force_include": want, **tag})
+            (clone / "crates" / "mpedit" / "out" / "mpedit").chmod(0o644)
+            with self.assertRaisesRegex(SystemExit, "there is no program .*/mpedit: build it, or name a folder by MPSIM_PROGRAMS"):
+                self.hooked(clone / "python")
+
+
+class Project(Test):
+    """pyproject.toml."""
+
+    TEXT = text_of(PYTHON, "pyproject.toml")
+
+    def section(self, name):
+        text = re.search(rf"^\[{re.escape(name)}\]\n(.*?)(?=^\[|\Z)", self.TEXT, flags=re.MULTILINE | re.DOTALL)[1]
+        return dict(re.findall(r"^([\w-]+) = (.*)$", text, flags=re.MULTILINE))
+
+    def test_commands(self):
+        """Each is a function that is there."""
+        commands = {name: it.strip('"').split(":") for name, it in self.section("project.scripts").items()}
+        self.assertEqual(sorted(commands), [*NAMES, "planner"])
+        for module, function in commands.values():
+            self.assertTrue(callable(getattr(importlib.import_module(module), function)))
+
+    def test_what_is_packed(self):
+        """All files of the package, of which git ignores none, as hatchling leaves out what git ignores; the version is that of the package."""
+        self.assertEqual(self.section("tool.hatch.build.targets.wheel"), {"packages": '["src/mpsim"]'})
+        version = self.section("tool.hatch.version")
+        found = re.search(version["pattern"].strip('"'), text_of(PYTHON, version["path"].strip('"')))
+        self.assertEqual(found["version"], importlib.import_module("mpsim").__version__)
+        found = [it for it in (SOURCES / "mpsim").rglob("*") if it.is_file() and it.suffix != ".pyc" and it.parent.name != "bin"]
+        data = sorted(it.name for it in found if it.suffix != ".py")
+        named = ["VERSION", "compared.html", "figures.js", "network.html", "page.css", "page.html", "page.js", "pictures.js", "piece.css"]
+        self.assertEqual(data, named)
+        if not (ROOT / ".git").exists() or not shutil.which("git"):
+            self.skipTest("it is no clone of git, or git isn't there")
+        ignored = subprocess.run(["git", "check-ignore", "--no-index", *map(str, found)], cwd=ROOT, stdout=subprocess.PIPE, text=True).stdout
+        self.assertEqual(ignored, "")
+
+
 class Layout(Test):
     def test_programs_beside_the_package(self):
         """As a wheel lays them out: the package finds its own programs, and no others."""
@@ -61,6 +148,8 @@ class Layout(Test):
             for script, wanted in (
                 (f"import mpsim; print(mpsim.run({str(MODEL)!r}, {str(TRACE)!r}), end='')", text_of(EXAMPLES, "callcentre", "report.txt")),
                 ("from mpsim import programs; print(programs.find('mpedit'))", f"{os.path.realpath(folder)}/mpsim/bin/mpedit\n"),
+                (f"import mpsim; print(len(mpsim.run({str(MODEL)!r}, {str(TRACE)!r})._repr_html_()) > 9000)", "True\n"),
+                ("import mpsim.planner; mpsim.planner.main(['--version'])", f"planner {importlib.import_module('mpsim').__version__}\n"),
             ):
                 ran = subprocess.run([sys.executable, "-B", "-c", script], stdout=subprocess.PIPE, text=True, env=surroundings, cwd=folder)
                 self.assertEqual((ran.returncode, ran.stdout), (0, wanted))
@@ -79,6 +168,8 @@ class Wheel(Test):
         with zipfile.ZipFile(self.wheel) as archive:
             names = sorted(it for it in archive.namelist() if it.startswith("mpsim/bin/"))
             self.assertEqual(names, [f"mpsim/bin/{name}" for name in NAMES])
+            sources = {f"mpsim/{it.relative_to(SOURCES / 'mpsim')}" for it in (SOURCES / "mpsim").rglob("*") if it.is_file() and it.suffix != ".pyc"}
+            self.assertEqual({it for it in archive.namelist() if it.startswith("mpsim/")}, sources | set(names))
             for name, path in zip(NAMES, names):
                 self.assertEqual(archive.getinfo(path).external_attr >> 16 & 0o777, 0o755)
                 self.assertEqual(archive.read(path), pathlib.Path(programs.find(name)).read_bytes())
@@ -102,6 +193,8 @@ class Wheel(Test):
             return subprocess.run(words, stdout=subprocess.PIPE, stderr=subprocess.DEVNULL, text=True, env=surroundings, cwd=home)
 
         report = text_of(EXAMPLES, "callcentre", "report.txt")
+        self.assertEqual(told("planner", "run", MODEL, TRACE, "--page", "page.html").stdout, report)
+        self.assertTrue(text_of(home, "page.html").startswith("<!doctype html>"))
         self.assertEqual(told("mpsim", MODEL, TRACE).stdout, report)
         self.assertEqual(told("mpsim").returncode, 2)
         self.assertEqual(told("mpsweep", TRACE, MODEL).stdout, "scenario 1 status 0\n" + report)

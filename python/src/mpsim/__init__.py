@@ -12,7 +12,22 @@ takes and raises stands in its own text; `docs/PYTHON.md` begins with tasks.
 Times are whole ticks, from 0; what a tick is, is up to who writes the trace.
 """
 
-__version__ = "0.1.0"
+import os as _os
+
+
+
+def _version():
+    """What VERSION says: beside the package where it is installed, at the top of a clone."""
+    here = _os.path.dirname(_os.path.abspath(__file__))
+    for folder in here, _os.path.join(here, "..", "..", ".."):
+        file = _os.path.join(folder, "VERSION")
+        if _os.path.exists(file):
+            with open(file) as text:
+                return text.read().strip()
+    return "unknown"
+
+
+__version__ = _version()
 
 # The module of each name. (No module is called as one of them: reading it would put it in that place.) It is read when one of its names is first
 # asked for, so that the commands of the wheel start without the rest.
@@ -28,11 +43,12 @@ _MODULES = {
     "Model": "model",
     "variants": "model",
     "Report": "report",
-    "Node": "report",
-    "Exit": "report",
-    "Again": "report",
+    "Node": "lines",
+    "Exit": "lines",
+    "Again": "lines",
     "Sweep": "sweeps",
     "Scenario": "sweeps",
+    "load": "sweeps",
     "Visits": "node_visits",
     "NodeVisits": "node_visits",
     "Visit": "node_visits",

@@ -1,5 +1,7 @@
 """How a program ended that wrote no report, as exceptions: a class a status. docs/ERRORS.md has every line with its cause."""
 
+import contextlib
+import os
 import re
 import signal
 
@@ -104,14 +106,25 @@ class TimedOut(Error, TimeoutError):
 
 
 class ReportError(ValueError):
-    """A text is no report: it is cut, altered, or of another form. `line` (int, from 1) is where, `found` (str) what stands there."""
+    """A text is no report: it is cut, altered, or of another form. `line` (int, from 1) is where, `found` (str) what stands there, `file` the path,
+    where one was read, else None."""
 
-    def __init__(self, line, found, why="is no line of a report"):
-        super().__init__(line, found, why)
-        self.line, self.found, self.why = line, found, why
+    def __init__(self, line, found, why="is no line of a report", file=None):
+        super().__init__(line, found, why, file)
+        self.line, self.found, self.why, self.file = line, found, why, file
 
     def __str__(self):
-        return f"report line {self.line}: {self.found[:80]!r} {self.why}"
+        where = f"{os.fsdecode(self.file)}: " if self.file is not None else ""
+        return f"{where}report line {self.line}: {self.found[:80]!r} {self.why}"
+
+
+@contextlib.contextmanager
+def read_from(path):
+    """Has a ReportError of the block name the file that is read."""
+    try:
+        yield
+    except ReportError as fault:
+        raise ReportError(fault.line, fault.found, fault.why, path) from None
 
 
 KINDS = {

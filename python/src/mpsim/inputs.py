@@ -146,6 +146,15 @@ def model_input(value):
     return _given(str(value) if isinstance(value, Model) else value)
 
 
+def model_text(value):
+    """The text (str) of a Model, a text, bytes, or the path of a file. Raises OSError where the file can't be read."""
+    with contextlib.closing(model_input(value)) as given:
+        if given.path is not None:
+            with open(given.path, encoding="utf-8", errors="surrogateescape", newline="\n") as file:
+                return file.read().removeprefix("\ufeff")
+        return given.text()
+
+
 def trace_input(value, model):
     """A trace: a path, a text, a data frame, or rows; the model is an input too. Raises TypeError or ValueError where it is none of these."""
     if _is_given(value):

@@ -1,6 +1,7 @@
-"""Models: a builder that writes the text, texts that differ in a value, and which columns a text names. The program judges them."""
+"""Models: a builder that writes the text, texts that differ in a value, and which nodes and columns a text names. The program judges them."""
 
 import itertools
+from typing import NamedTuple, Tuple
 
 
 class Output:
@@ -170,3 +171,48 @@ def columns(text):
             asked = asked[_COLUMNS.get(words[0] if words else "", slice(0, 0))]
         found.update({it: None for it in asked if it[0].isalpha()})
     return list(found)
+
+
+class ModelNode(NamedTuple):
+    """A node as a model's text has it: its name and kind (str), the words between its name and its inputs (str), how many outputs it has (int), and
+    its inputs, each the name of a node and the number of an output (tuples of str and int)."""
+
+    name: str
+    kind: str
+    asked: str
+    outputs: int
+    inputs: Tuple[Tuple[str, int], ...]
+
+
+def nodes_of(text):
+    """The nodes of a model's text that mpsim accepts (list of ModelNode), in the order of its lines. Of another text it may tell anything, or raise
+    ValueError."""
+    nodes = []
+    for line in text.split("\n"):
+        words = line.split()
+        if not words or words[0].startswith("#") or words[0] in ("model", "bound"):
+            continue
+        if len(words) == 1:
+            raise ValueError(f"{line.strip()!r} is no line of a model")
+        begin = words.index("from") if "from" in words else len(words)
+        kind, asked = words[0], words[2:begin]
+        inputs = [it.partition(".") for it in words[begin + 1 :]]
+        nodes.append(ModelNode(words[1], kind, " ".join(asked), _outputs(kind, asked), tuple((it, int(number or 0)) for it, _, number in inputs)))
+    return nodes
+
+
+def _outputs(kind, asked):
+    if kind in ("loss", "trunk"):
+        return 2
+    if kind in ("fork", "split") and asked:
+        return len(asked) - 1 if asked[0] == "cut" else int(asked[0])
+    return 1
+
+
+def sources(text):
+    """The sources that a model's text declares (list of str), in the order of their lines, which is the one in which their records go at one time.
+
+    >>> sources("model 1\\nsource phone\\nserver desk talk from phone web\\nsource web\\n")
+    ['phone', 'web']
+    """
+    return [words[1] for words in map(str.split, text.split("\n")) if words[:1] == ["source"] and len(words) > 1]

@@ -1,13 +1,14 @@
 """Where the three programs are, what they are run with, and the commands of the wheel that become them."""
 
 import os
+import resource
 import shutil
 import sys
 
 from .errors import ProgramError
 
 HERE = os.path.dirname(os.path.abspath(__file__))
-# As tools/run.sh has them: the C library takes memory in large pieces, on huge pages where the system gives them, which spares a quarter of the
+# As tools/memory.sh has them: the C library takes memory in large pieces, on huge pages where the system gives them, which spares a quarter of the
 # time of a million records. They change no byte of a report.
 TUNABLES = ":".join(
     f"glibc.malloc.{it}" for it in ("hugetlb=1", "mmap_threshold=1073741824", "trim_threshold=1073741824", "top_pad=67108864", "arena_max=1")
@@ -31,8 +32,10 @@ def find(name):
 
 
 def surroundings():
-    """The environment of a program: this one's, with settings of memory where it has none."""
-    return {"GLIBC_TUNABLES": TUNABLES, **os.environ}
+    """The environment of a program: this one's, with settings of memory where it has none, and where the address space has no limit, since they take
+    64 MB at once."""
+    settings = {"GLIBC_TUNABLES": TUNABLES} if resource.getrlimit(resource.RLIMIT_AS)[0] == resource.RLIM_INFINITY else {}
+    return {**settings, **os.environ}
 
 
 def _become(name):

@@ -1,10 +1,13 @@
 """Reports: the one reader of their text, which refuses what is cut or altered, and what is asked of them. docs/REPORT.md has every word."""
 
+import contextlib
 import io
 import re
-from typing import NamedTuple, Optional
 
-from .errors import ReportError
+from .errors import ReportError, read_from
+from .inputs import model_text
+from .lines import NUMBERS, Again, Exit, Node
+from .model import nodes_of
 from .node_visits import FIELDS, HELD, LOST, NodeVisits, Visits
 
 # Bytes of job lines that are read at a time.
@@ -28,75 +31,6 @@ STAND_INS = (b" lost\n", b" wait -1 depart -1\n"), (b" held\n", b" wait -2 depar
 SHAPE, DIGITS, LETTERS = b"job   wait  depart \n", b"0123456789-", b"abdeijoprtw"
 
 
-class Node(NamedTuple):
-    """A line `node`: its name and kind (str), and numbers (int). Times are in ticks: `wait` is the sum of the waits, `max` the greatest, `p50`,
-    `p90` and `p99` percentiles of them; `busy` and `area` are sums over time. `in_` (the word `in`) counts the visits, `util` is a float, or None
-    for a node without servers. Form 1 has no percentiles, and of a model of version 1 no `held`: they are None there.
-
-    >>> import mpsim
-    >>> desk = mpsim.run("model 1\\nsource door\\nserver desk =4 from door\\n", [("door", 0), ("door", 1)])["desk"]
-    >>> desk.in_, desk.wait, desk.max, desk.p50, desk.mean_wait, desk.mean_time, desk.util
-    (2, 3, 3, 0, 1.5, 5.5, 1.0)
-    """
-
-    name: str
-    kind: str
-    in_: int
-    out: int
-    lost: int
-    held: Optional[int]
-    wait: int
-    max: int
-    p50: Optional[int]
-    p90: Optional[int]
-    p99: Optional[int]
-    busy: int
-    area: int
-    peak: int
-    util: Optional[float]
-
-    @property
-    def mean_wait(self):
-        """The mean wait of the visits that departed (float, ticks), the field's Wq; None where none departed."""
-        return self.wait / self.out if self.out else None
-
-    @property
-    def mean_time(self):
-        """The mean time in the node of the visits that departed (float, ticks), the field's W; None where none departed or some are held."""
-        return self.area / self.out if self.out and not self.held else None
-
-    @property
-    def share_lost(self):
-        """The share of the visits that were lost (float); None where nobody came."""
-        return self.lost / self.in_ if self.in_ else None
-
-    def line(self):
-        """The line of the report (str), without its line feed."""
-        words = (f"{word} {value}" for word, value in zip(NUMBERS, self[2:-1]) if value is not None)
-        return f"node {self.name} {self.kind} {' '.join(words)} util {'-' if self.util is None else f'{self.util:.4f}'}"
-
-
-# The words of a node's numbers, as the line and frames have them.
-NUMBERS = [it.rstrip("_") for it in Node._fields[2:]]
-
-
-class Exit(NamedTuple):
-    """A line `exit`: the node (str) and its output (int) that nobody reads, how many jobs left there (int), and the sum of their times in the
-    network (int, ticks)."""
-
-    name: str
-    output: int
-    jobs: int
-    sojourn: int
-
-
-class Again(NamedTuple):
-    """The last line of an edited report: so many of all blocks are done again (int)."""
-
-    done: int
-    blocks: int
-
-
 class Report:
     """What a run tells.
 
@@ -104,6 +38,9 @@ class Report:
     in the order of the lines. `report["desk"]` is the node of a name, KeyError where there is none, and `"desk" in report` whether there is one.
     `visits` (Visits) is None unless the lines of the jobs are there. `again` (Again) is None but for an edit. `str(report)` is the text without the
     lines of the jobs; `lines()` has all.
+
+    `model` is the model's text (str), of which a page has the network: a report doesn't say who reads whom. A run knows it; one that is read has it
+    where it is given, and else None. Where its nodes aren't those of the report, setting it raises ValueError.
 
     >>> import mpsim
     >>> report = mpsim.run("model 1\\nsource door\\nserver desk =4 from door\\n", [("door", 0), ("door", 1)])
@@ -121,6 +58,17 @@ class Report:
         self.form, self.jobs, self.span = form, jobs, span
         self.nodes, self.exits, self.visits, self.again = tuple(nodes), tuple(exits), visits, again
         self._by_name = {it.name: it for it in self.nodes}
+        self._model = None
+
+    @property
+    def model(self):
+        return self._model
+
+    @model.setter
+    def model(self, text):
+        if text is not None and sorted((it.name, it.kind) for it in nodes_of(text)) != sorted((it.name, it.kind) for it in self.nodes):
+            raise ValueError("the model isn't that of the report: its nodes are others")
+        self._model = text
 
     def __getitem__(self, name):
         return self._by_name[name]
@@ -165,21 +113,51 @@ class Report:
         return frame.set_index("name").convert_dtypes(convert_string=False)
 
     @classmethod
-    def read(cls, path):
-        """The report in a file. Raises OSError where it can't be read, and ReportError where it is no report, is cut, or contradicts itself."""
-        with open(path, "rb") as stream:
-            return cls.parse(stream)
+    def read(cls, path, model=None):
+        """The report in a file, with its model (a Model, a text, or a path) where that is given. Raises OSError where a file can't be read,
+        ReportError where it is no report, is cut, or contradicts itself, and ValueError where the model is another's."""
+        with open(path, "rb") as stream, read_from(path):
+            return cls.parse(stream, model)
 
     @classmethod
-    def parse(cls, text):
-        """The report of a text (str), of bytes, or of an open file of bytes. Raises ReportError as `read` does.
+    def parse(cls, text, model=None):
+        """The report of a text (str), of bytes, or of an open file of bytes. It takes a model and raises exceptions as `read` does.
 
         >>> import mpsim
         >>> mpsim.Report.parse("mpsim report 2\\njobs 3 span")
         Traceback (most recent call last):
         mpsim.errors.ReportError: report line 2: 'jobs 3 span' is no line of a report
         """
-        return Reading(text).report()
+        report = Reading(text).report()
+        report.model = None if model is None else model_text(model)
+        return report
+
+    def save(self, path, title=None, **options):
+        """Writes the page of this run: one HTML file, which asks nothing of any network. It is there as a whole, or not at all; OSError is raised
+        where it can't be written. Options are those of `mpsim.page.page`: `tick`, `start` and `within`.
+
+        >>> import mpsim, os, tempfile
+        >>> report = mpsim.run("model 1\\nsource door\\nserver desk =4 from door\\n", [("door", 0), ("door", 1)], jobs=True)
+        >>> with tempfile.TemporaryDirectory() as folder:
+        ...     report.save(os.path.join(folder, "run.html"), title="Two at the desk")
+        ...     os.listdir(folder)
+        ['run.html']
+        """
+        from .page import save
+
+        save(path, [self], title=title, **options)
+
+    def _repr_html_(self):
+        from .page import piece
+
+        return piece(self)
+
+
+def with_model(report, given):
+    """A report with the text of the model that was given (Input); without it where the file is another one by now, or can't be read again."""
+    with contextlib.suppress(ValueError):
+        report.model = given.text()
+    return report
 
 
 def stream_of(text):
@@ -197,6 +175,8 @@ class Reading:
         self._stream, self._number = stream_of(text), first - 1
         self.again = None
         self._next()
+        if re.fullmatch(rb"mpsim report ([03-9]|[1-9]\d+)\n", self._line):
+            raise self._fault(self._line, "begins a report of a form that isn't known here: 1 and 2 are")
         self.form = int(self._line_of("form")[1])
         self.jobs, self.span = map(int, self._line_of("jobs").groups())
         self.nodes, self.exits, self._node_lines = [], [], self._number

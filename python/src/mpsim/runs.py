@@ -22,7 +22,7 @@ from .errors import BoundError, ModelError, TraceError, VisitsError
 from .inputs import edits_input, model_input, trace_input
 from .model import Model
 from .processes import Running
-from .report import Reading
+from .report import Reading, with_model
 from .sweeps import Scenario, Sweep, scenarios_of
 
 # mpsweep takes so many models.
@@ -53,7 +53,8 @@ def _options(jobs=False, workers=None, block=None, form=None):
 
 def _report(program, words, inputs, jobs, timeout):
     with Running(program, words, inputs, timeout=timeout) as running:
-        return Reading(running.stream).report(jobs)
+        report = Reading(running.stream).report(jobs)
+    return with_model(report, inputs[0]) if inputs else report
 
 
 def run(model, trace, *, jobs=False, workers=None, block=None, form=None, timeout=None):
@@ -160,6 +161,17 @@ def _scenarios(trace, labelled, jobs, timeout):
             with _inputs(*[lambda _, it=it: model_input(it) for _, it in some]) as texts:
                 left = None if end is None else max(end - time.monotonic(), 0)
                 yield from run_some(rows, texts, [label for label, _ in some], left)
+
+
+@contextlib.contextmanager
+def sweep_text(trace, models):
+    """What mpsweep writes of a trace and of 1 to 64 models (a list): a block with an open file of bytes. It raises what `run` does but for what a
+    scenario is refused for, at the end of the block at the latest; whoever leaves the block early ends the program."""
+    with _inputs(lambda _: model_input(models[0]), lambda made: trace_input(trace, made[0])) as (_, rows):
+        with _inputs(*[lambda _, it=it: model_input(it) for it in models]) as texts:
+            inputs = [rows, *texts]
+            with Running("mpsweep", [it.word for it in inputs], inputs, fine=(0, 11)) as running:
+                yield running.stream
 
 
 def _by_mpsweep(rows, models, labels, timeout):

@@ -1,0 +1,32 @@
+#!/usr/bin/env python3
+"""A month of calls, each day a run of its own that begins at 8 o'clock, so that nights and weekends don't spoil what a day tells. The calls are drawn
+here, more of them on Mondays; those of a log would come by `planner prepare`."""
+
+import random
+
+from mpsim.planner.calendar import Calendar
+from mpsim.planner.days import by_calendar, days
+from mpsim.planner.traces import Trace
+
+MODEL = "model 1\nsource calls\nserver desk talk from calls\n"
+DAY, HOUR, SECOND = 86400, 3600, 10**6
+
+
+def drawn():
+    """The records of March 2026, from Monday to Friday."""
+    draw = random.Random(1)
+    for day in range(31):
+        weekday = (day + 6) % 7
+        now = day * DAY + 8 * HOUR
+        while weekday < 5 and now < day * DAY + 18 * HOUR:
+            yield ["calls", str(now), str(1 + round(draw.expovariate(1 / 150)))]
+            now += round(draw.expovariate(1 / (200 if weekday == 0 else 300)))
+
+
+trace = Trace("calls", ["source", "time", "talk"], list(drawn()))
+pieces, _ = by_calendar(trace.times(), Calendar(SECOND, "2026-03-01T00:00"), "8:00")
+month, over = days(MODEL, trace, pieces)
+print("day         calls  wait  p90   util")
+for day, report in month.reports().items():
+    desk = report["desk"]
+    print(f"{day} {desk.in_:6} {desk.mean_wait:5.0f} {desk.p90:4} {desk.util:6.2f}")

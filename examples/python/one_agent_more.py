@@ -1,0 +1,15 @@
+#!/usr/bin/env python3
+"""One agent more at a desk with one queue: what it changes for who calls, in a week of calls."""
+
+import pathlib
+
+from mpsim.planner.pool import Queue
+from mpsim.planner.traces import Trace
+
+WEEK = pathlib.Path(__file__).resolve().parent.parent / "week"
+
+queue = Queue(WEEK / "model.txt", Trace.read(WEEK / "trace.csv"), "desk")
+for agents in 1, 2:
+    calls = queue.visits(agents)
+    told = f"{calls.share_within(20):.1%} answered within 20 s, nine of ten within {calls.percentile(90)} s"
+    print(f"{agents} agents: {told}, the last after {max(calls.wait)} s")

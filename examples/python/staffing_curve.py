@@ -1,0 +1,15 @@
+#!/usr/bin/env python3
+"""How many agents for 95 % of the calls of a week within 20 s? The share for each number of agents, as a curve of text."""
+
+import pathlib
+
+from mpsim.planner.pool import Queue
+from mpsim.planner.traces import Trace
+
+WEEK, GOAL = pathlib.Path(__file__).resolve().parent.parent / "week", 0.95
+
+queue = Queue(WEEK / "model.txt", Trace.read(WEEK / "trace.csv"), "desk")
+shares = {agents: queue.visits(agents).share_within(20) for agents in range(1, 6)}
+for agents, share in shares.items():
+    print(f"{agents} {share:6.1%} {'#' * round(50 * share)}")
+print(f"for {GOAL:.0%} it takes {min(agents for agents, share in shares.items() if share >= GOAL)}")

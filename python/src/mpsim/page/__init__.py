@@ -1,0 +1,141 @@
+"""The page of a run, or of several side by side: one HTML file, which asks nothing of any network; and the piece of it that a notebook shows."""
+
+import base64
+import hashlib
+import json
+import os
+from html import escape
+from string import Template
+
+from ..planner.files import written
+from ..planner.pooled import pool_lines
+from .colours import in_light, style
+from .flows import flows
+from .network import asked_of, network, nodes_that_are_drawn
+from .pictures import NUMBERS, pictures_of
+from .tables import columns_of, exits_table, facts, legend, nodes_table
+
+HERE = os.path.dirname(os.path.abspath(__file__))
+SCRIPTS = "figures.js", "pictures.js", "page.js"
+
+
+def _part(name):
+    with open(os.path.join(HERE, name), encoding="utf-8") as file:
+        return file.read()
+
+
+def _policy(script):
+    """What the browser lets the page do: nothing by a network, and no script but this one."""
+    digest = base64.b64encode(hashlib.sha256(script.encode()).digest()).decode()
+    return f"default-src 'none'; style-src 'unsafe-inline'; script-src 'sha256-{digest}'; base-uri 'none'; form-action 'none'"
+
+
+def _first_node(report):
+    """The node to begin with: where somebody waits that with the longest p90, else the busiest one, or one that has servers."""
+    return max(report.nodes, key=lambda it: (it.p90 or 0, it.max, it.lost, it.util or 0, it.util is not None)).name
+
+
+def _exact(value):
+    """A figure for the script. One that no double holds goes as a text."""
+    if isinstance(value, list):
+        return [_exact(it) for it in value]
+    return str(value) if isinstance(value, int) and value >= 1 << 53 else value
+
+
+def _data(reports, labels, columns, tick, start):
+    """What the script works on: the figures and pictures of each run, in the order of the columns."""
+    runs = []
+    for label, report in zip(labels, reports):
+        nodes = nodes_that_are_drawn(report)
+        runs.append(
+            {
+                "label": label,
+                "facts": facts(report),
+                "span": report.span,
+                "nodes": {it.name: _exact([column.of(report, it) for column in columns]) for it in report.nodes},
+                "pictures": {
+                    node: {picture: {name: _exact(it) for name, it in parts.items()} for picture, parts in both.items()}
+                    for node, both in pictures_of(report, NUMBERS // len(reports), tick).items()
+                },
+                "asked": {it.name: asked_of(it) for it in nodes},
+                "flows": {f"{name}.{output}": count for (name, output), count in flows(nodes, report).items()},
+            }
+        )
+    return {
+        "columns": [it.name for it in columns],
+        "kinds": {it.name: it.kind for it in reports[0].nodes},
+        "runs": runs,
+        "node": _first_node(reports[0]),
+        "tick": None if tick is None else float(tick),
+        "date": start and start.date().isoformat(),
+        "start": start.hour * 3600 + start.minute * 60 + start.second if start else 0,
+    }
+
+
+def _options(names, chosen=None):
+    return "".join(f'<option{" selected" if it == chosen else ""}>{escape(it)}</option>' for it in names)
+
+
+def page(reports, labels=None, title=None, tick=None, start=None, within=None):
+    """The page (str) of a report, or of several side by side, under their labels (1, 2 and so on where none are given). The network and the rows of
+    the tables are those of the first one; figures follow the run that is chosen.
+
+    With `tick`, the seconds of a tick (a number), axes have times of the day, with `start`, the datetime of time 0 on the clock of the place, dates
+    too. With `within` (int, ticks) the share of all that came who are served within that time is a figure as others are: for that each report needs
+    its visits. Raises ValueError where there is no report.
+    """
+    reports = list(reports)
+    if not reports:
+        raise ValueError("a page wants a report: none is there, or each model was refused")
+    # A name of a file that isn't UTF-8 can't stand in a page.
+    labels = [str(it).encode(errors="surrogateescape").decode(errors="replace") for it in labels or range(1, len(reports) + 1)]
+    first, is_several = reports[0], len(reports) > 1
+    title = (title or (f"{len(reports)} runs" if is_several else "Run")).encode(errors="surrogateescape").decode(errors="replace")
+    columns = columns_of(reports, within)
+    data = _data(reports, labels, columns, tick, start)
+    script = "(() => {\n'use strict';\n" + "".join(map(_part, SCRIPTS)) + "})();\n"
+    svg = network(first, data["node"])
+    return Template(_part("page.html")).substitute(
+        policy=escape(_policy(script)),
+        title=escape(title),
+        style=style() + _part("piece.css") + _part("page.css"),
+        facts=facts(first),
+        pools="".join(f"\n<p>{escape(it)}</p>" for it in pool_lines(reports, verb="are in")),
+        runs=f'<label>Run <select id="run">{_options(labels)}</select></label>' if is_several else "",
+        network=Template(_part("network.html")).substitute(legend=legend(), svg=svg) if svg else "",
+        compared=_part("compared.html") if is_several else "",
+        nodes=_options([it.name for it in first.nodes], data["node"]),
+        tables=nodes_table(first, columns),
+        exits="" if is_several else exits_table(first),
+        # Nothing in a text may end the element that it stands in.
+        data=json.dumps(data, separators=(",", ":"), allow_nan=False).replace("<", "\\u003c"),
+        script=script,
+    )
+
+
+def save(path, reports, labels=None, title=None, **options):
+    """Writes a page, whole or not at all. It takes what `page` takes, and raises OSError besides."""
+    text = page(reports, labels, title, **options)
+    with written(os.fspath(path)) as file:
+        file.write(text)
+
+
+def drawing(report):
+    """The network alone (str), as an SVG file for documents: in light colours. Raises ValueError where the report's model isn't known."""
+    svg = network(report, is_still=True)
+    if not svg:
+        raise ValueError("the network wants the model of the report")
+    head, body = svg.split(">", 1)
+    head = head.replace("<svg ", '<svg xmlns="http://www.w3.org/2000/svg" ', 1)
+    rules = in_light(_part("piece.css"))
+    ground = in_light('<rect width="100%" height="100%" fill="var(--paper)"/>')
+    return f'{head}><style>{rules}</style>{ground}<g class="mpsim">{body.removesuffix("</svg>")}</g></svg>\n'
+
+
+def piece(report):
+    """What a notebook shows (str): the network and the tables, without a script."""
+    svg = network(report, is_still=True)
+    drawn = f'{legend()}<div class="scroll">{svg}</div>' if svg else ""
+    tables = nodes_table(report, columns_of([report]), is_still=True) + exits_table(report, is_still=True)
+    text = f'<p>{facts(report)}</p>{drawn}<div class="scroll">{tables}</div>'
+    return f'<div class="mpsim piece"><style>{style()}{_part("piece.css")}</style>{text}</div>'

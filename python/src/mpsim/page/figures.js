@@ -1,0 +1,68 @@
+// Numbers, times and shares, as they are shown and worked out. A number that a double can't hold comes as a text.
+const shown = value => value === null || value === undefined ? '–'
+  : typeof value === 'string' ? BigInt(value).toLocaleString('en') : value.toLocaleString('en', { maximumFractionDigits: 4 });
+const percent = share => `${(100 * share).toFixed(1)} %`;
+
+// The place of a tick on the clock, where the page knows how long a tick is, with the date where it knows that too, or the day's number.
+const DAY = 86400;
+const twoDigits = value => String(value).padStart(2, '0');
+function dateOf(day, calendar) {
+  return calendar.date ? new Date(Date.parse(calendar.date + 'T00:00Z') + day * DAY * 1000).toISOString().slice(0, 10) : `day ${day + 1}`;
+}
+function clock(ticks, calendar, parts) {
+  if (!calendar.tick) return shown(ticks);
+  const seconds = Math.round(calendar.start + ticks * calendar.tick), day = Math.floor(seconds / DAY), left = seconds - day * DAY;
+  const time = [Math.floor(left / 3600), Math.floor(left / 60) % 60, ...(left % 60 ? [left % 60] : [])].map(twoDigits).join(':');
+  return { date: dateOf(day, calendar), time, both: `${dateOf(day, calendar)} ${time}` }[parts];
+}
+
+// Places on an axis, some `count` of them: at 1, 2 or 5 with zeros, and on an axis of times at minutes, hours and days of the clock.
+const CLOCK_STEPS = [60, 120, 300, 600, 900, 1800, 3600, 7200, 10800, 14400, 21600, 43200, ...[1, 2, 7, 14, 28, 91, 182, 364].map(it => it * DAY)];
+function stepsOf(low, high, count, calendar) {
+  const rough = (high - low) / count || 1, power = 10 ** Math.floor(Math.log10(rough));
+  let step = [1, 2, 5, 10].find(it => it * power >= rough) * power, offset = 0;
+  if (calendar && calendar.tick) {
+    step = (CLOCK_STEPS.find(it => it / calendar.tick >= rough) || step * calendar.tick) / calendar.tick;
+    offset = calendar.start / calendar.tick;
+  }
+  if (calendar) step = Math.max(step, 1);
+  const found = [];
+  for (let at = Math.ceil((low + offset) / step) * step - offset; at <= high + step * 1e-9; at += step) found.push(at);
+  return found;
+}
+
+// How many of those that departed waited for so many ticks at most: the least and the greatest count that the waits which are kept allow.
+function countsWithin(waits, ticks) {
+  const { wait, count } = waits;
+  let at = -1;
+  while (at + 1 < wait.length && wait[at + 1] <= ticks) at++;
+  const low = at < 0 ? 0 : count[at];
+  const isExact = at < 0 || at === wait.length - 1 || Number(wait[at]) === ticks;
+  return [low, isExact ? low : count[at + 1] - 1];
+}
+// The share of `whole` as a text; between two bounds where they differ.
+function shareOf([low, high], whole) {
+  const texts = [percent(low / whole), percent(high / whole)];
+  return texts[0] === texts[1] ? texts[0] : texts.join(' to ');
+}
+
+// The step of the scale of loads, and the lines of a node's box: as network.py writes them for the first run.
+const TOLD_BY_IN = ['source', 'split', 'fork', 'delay', 'trunk'];
+const stepOf = util => util === null || util === undefined ? 0 : Math.min(Math.floor(util * 5), 4) + 1;
+function figuresOf(kind, figure) {
+  const name = TOLD_BY_IN.includes(kind) ? 'in' : figure('p90') === null ? 'max' : 'p90';
+  const text = name === 'in' ? `${shown(figure('in'))} in` : `${name} ${shown(figure(name))}`;
+  return text + (figure('lost') ? `, lost ${shown(figure('lost'))}` : figure('held') ? `, held ${shown(figure('held'))}` : '');
+}
+function saidOf(name, kind, figure) {
+  const util = figure('util');
+  return `${name}, ${kind}, ${util === null ? 'no servers' : `util ${util.toFixed(4)}`}, ${figuresOf(kind, figure)}`;
+}
+
+// Rows in the order of their values: numbers where all are, else texts; what is missing goes last either way, and equals stay as they stand.
+function sorted(rows, valueOf, isUp) {
+  const pairs = rows.map(row => [valueOf(row), row]), isNumber = pairs.every(([value]) => value === '' || !isNaN(value));
+  const compare = (one, other) => isNumber ? one - other : one < other ? -1 : one > other ? 1 : 0;
+  pairs.sort(([one], [other]) => one === '' || other === '' ? (one === '') - (other === '') : compare(one, other) * (isUp ? 1 : -1));
+  return pairs.map(([, row]) => row);
+}

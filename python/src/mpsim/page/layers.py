@@ -1,0 +1,105 @@
+"""Where the nodes of a network stand: in layers from the sources to the right, with the lines between them."""
+
+from typing import NamedTuple, Tuple
+
+# The box of a node, and the gaps between boxes.
+WIDE, HIGH, GAP_X, GAP_Y = 150, 62, 64, 20
+# How high a line is that passes a layer, and the end of one that leaves; how wide the words behind that are; the gap around all.
+PASSING, LEAVING, LEAVES, AROUND = 12, 20, 70, 12
+
+
+class Line(NamedTuple):
+    """A line from an output (its node's name and number): the names of the places by which it goes, its node's first, and whether somebody reads it
+    (else it ends by leaving)."""
+
+    output: Tuple[str, int]
+    path: Tuple[str, ...]
+    is_read: bool
+
+
+class Layout:
+    """The left side and the middle of each place, by name (`places`); the lines; and how wide and high all is."""
+
+    def __init__(self, nodes):
+        columns, self.lines = _columns(nodes, _layers(nodes))
+        high = {name: height for column in columns for name, height in column.items()}
+        middle = _middles(columns, self.lines, high)
+        top = min(middle[name] - high[name] / 2 for name in middle) - AROUND
+        left = {name: AROUND + at * (WIDE + GAP_X) for at, column in enumerate(columns) for name in column}
+        self.places = {name: (left[name], middle[name] - top) for name in middle}
+        self.height = max(y + high[name] / 2 for name, (_, y) in self.places.items()) + AROUND
+        last = LEAVES if all(name not in {it.name for it in nodes} for name in columns[-1]) else WIDE
+        self.width = 2 * AROUND + (len(columns) - 1) * (WIDE + GAP_X) + last
+
+
+def _layers(nodes):
+    """The number of each node's layer: behind all that it reads; that of a source is just before who reads it."""
+    layers, left = {}, list(nodes)
+    while left:
+        for it in left:
+            if all(name in layers for name, _ in it.inputs):
+                layers[it.name] = max((layers[name] + 1 for name, _ in it.inputs), default=0)
+        if len(before := left) == len(left := [it for it in left if it.name not in layers]):
+            raise ValueError(f"node {before[0].name} of the model reads what isn't there, or itself")
+    for node in nodes:
+        near = [layers[it.name] for it in nodes if any(name == node.name for name, _ in it.inputs)]
+        if not node.inputs and near:
+            layers[node.name] = min(near) - 1
+    return layers
+
+
+def _columns(nodes, layers):
+    """For each layer a dict from the names of the places in it to their heights; and the lines. Where a line passes a layer, it has a place there."""
+    readers = {it: node.name for node in nodes for it in node.inputs}
+    columns = [{} for _ in range(max(layers.values()) + 2)]
+    for it in nodes:
+        columns[layers[it.name]][it.name] = HIGH
+    lines = []
+    for node in nodes:
+        for number in range(node.outputs):
+            reader, name = readers.get((node.name, number)), f"{node.name}.{number}"
+            last = layers[reader] if reader else layers[node.name] + 1
+            passed = [(f"{name}>{at}", at) for at in range(layers[node.name] + 1, last)]
+            for place, at in passed:
+                columns[at][place] = PASSING
+            if not reader:
+                columns[last][name] = LEAVING
+            lines.append(Line((node.name, number), (node.name, *(it for it, _ in passed), reader or name), reader is not None))
+    return [it for it in columns if it], lines
+
+
+def _middles(columns, lines, high):
+    """How far down the middle of each place is: as near to those that it is joined to as the others of its layer let it be."""
+    beside = {name: [] for name in high}
+    for line in lines:
+        for one, other in zip(line.path, line.path[1:]):
+            beside[one].append(other)
+            beside[other].append(one)
+    middle = {}
+    for column in columns:
+        _spread(column, {name: at for at, name in enumerate(column)}, middle)
+    # There and back, by those before and those behind; then by both.
+    for turn in range(10):
+        order = range(len(columns)) if turn % 2 == 0 else range(len(columns) - 1, -1, -1)
+        for at in order:
+            near = set()
+            if turn > 5 or turn % 2 == 0:
+                near.update(*columns[max(at - 1, 0) : at])
+            if turn > 5 or turn % 2 == 1:
+                near.update(*columns[at + 1 : at + 2])
+            wanted = {}
+            for name in columns[at]:
+                found = [middle[it] for it in beside[name] if it in near]
+                wanted[name] = sum(found) / len(found) if found else middle[name]
+            _spread(columns[at], wanted, middle)
+    return middle
+
+
+def _spread(column, wanted, middle):
+    """Places those of a layer in the order of what they want, no nearer than the gap, and on the whole where they want to be."""
+    end, moved = None, {}
+    for name in sorted(column, key=wanted.get):
+        moved[name] = wanted[name] if end is None else max(wanted[name], end + GAP_Y + column[name] / 2)
+        end = moved[name] + column[name] / 2
+    shift = sum(wanted[name] - moved[name] for name in moved) / len(moved)
+    middle.update({name: at + shift for name, at in moved.items()})

@@ -1,0 +1,103 @@
+"""The network as SVG: loads as colours and as figures, flows as the width of the lines."""
+
+from html import escape
+
+from ..model import nodes_of
+from .flows import flows
+from .layers import HIGH, WIDE, Layout
+
+# The steps of the scale of loads.
+STEPS = 5
+# How round a box is, by kind, and where its letters begin.
+ROUND, INDENT = {"source": 31, "delay": 31, "split": 2, "fork": 2, "join": 2}, {"source": 14, "delay": 14}
+# Nobody waits at these, so that the line of figures tells how many came.
+TOLD_BY_IN = "source", "split", "fork", "delay", "trunk"
+
+
+def nodes_that_are_drawn(report):
+    """The nodes of the report's model (list of ModelNode), none where that isn't known."""
+    return nodes_of(report.model) if report.model else []
+
+
+def step(util):
+    """The step of the scale: 1 to 5 by fifths, 0 for a node without servers."""
+    return 0 if util is None else min(int(util * STEPS), STEPS - 1) + 1
+
+
+def _shortened(text, most):
+    return text if len(text) <= most else text[: most - 1] + "…"
+
+
+def asked_of(node):
+    """The second line of a box: the kind and what the model asks of it."""
+    return _shortened(f"{node.kind} {node.asked}".strip(), 22)
+
+
+def figures_of(line):
+    """The third line of a box, of a line of the report."""
+    if line.kind in TOLD_BY_IN:
+        text = f"{line.in_:,} in"
+    else:
+        text = f"max {line.max:,}" if line.p90 is None else f"p90 {line.p90:,}"
+    return text + (f", lost {line.lost:,}" if line.lost else f", held {line.held:,}" if line.held else "")
+
+
+def said_of(line):
+    """What is read out of a box."""
+    return f"{line.name}, {line.kind}, {'no servers' if line.util is None else f'util {line.util:.4f}'}, {figures_of(line)}"
+
+
+def network(report, chosen=None, is_still=False):
+    """The SVG (str), with the chosen node marked; "" where the report's model isn't known. In one that is still no node is a button."""
+    nodes = nodes_that_are_drawn(report)
+    if not nodes:
+        return ""
+    layout, counts, outputs = Layout(nodes), flows(nodes, report), {it.name: it.outputs for it in nodes}
+    most = max([*counts.values(), 1])
+    # A wide network shrinks to the page, down to letters that can still be read, and then scrolls.
+    size = f'viewBox="0 0 {layout.width:.0f} {layout.height:.0f}" width="{layout.width:.0f}" style="min-width:{0.72 * layout.width:.0f}px"'
+    parts = [f'<svg class="network" {size} role="group" aria-label="Network of {len(nodes)} nodes">']
+    parts += [_line(it, [layout.places[name] for name in it.path], counts.get(it.output), most, outputs[it.output[0]]) for it in layout.lines]
+    parts += [_box(report[it.name], it, layout.places[it.name], it.name == chosen, is_still) for it in nodes]
+    return "".join(parts) + "</svg>"
+
+
+def _line(line, places, count, most, outputs):
+    name, number = line.output
+    (x, y), last = places[0], places[-1]
+    x += WIDE
+    path = f"M{x} {y:.1f}"
+    for to_x, to_y in places[1:]:
+        is_last = (to_x, to_y) == last
+        end = to_x - (7 if is_last and line.is_read else 0)
+        middle = (x + end) / 2
+        path += f"C{middle:.0f} {y:.1f} {middle:.0f} {to_y:.1f} {end} {to_y:.1f}" + ("" if is_last else f"h{WIDE}")
+        x, y = to_x + WIDE, to_y
+    to_x, to_y = last
+    text = "unknown" if count is None else f"{count:,}"
+    if line.is_read:
+        tip = f'<path class="tip" d="M{to_x - 8} {to_y - 5:.1f}l8 5l-8 5z"/>'
+    else:
+        tip = f'<circle class="tip" cx="{to_x + 3}" cy="{to_y:.1f}" r="4"/>'
+        tip += f'<text class="flow leave" x="{to_x + 11}" y="{to_y + 4:.1f}">{text} leave</text>'
+    # The number of the output stands near the next layer, where the lines of a split have parted.
+    near_x, near_y = places[1]
+    port = f'<text class="flow" x="{near_x - 12}" y="{near_y - 7:.1f}" text-anchor="end">.{number}</text>' if outputs > 1 and number else ""
+    told = f"<title>output {number}: {text} jobs</title>"
+    drawn = f'<path d="{path}" stroke-width="{1 + 5 * (count or 0) / most:.1f}"/>'
+    return f'<g class="edge{" none" if count == 0 else ""}" data-flow="{name}.{number}">{told}{drawn}{tip}{port}</g>'
+
+
+def _box(line, node, place, is_chosen, is_still):
+    x, middle = place
+    top, said, left = middle - HIGH / 2, escape(said_of(line)), x + INDENT.get(node.kind, 10)
+    parts = [f'<title>{said}</title><rect class="box" x="{x}" y="{top:.1f}" width="{WIDE}" height="{HIGH}" rx="{ROUND.get(node.kind, 8)}"/>']
+    rows = ("name", 18, _shortened(node.name, 14)), ("kind", 33, asked_of(node)), ("figures", 46, figures_of(line))
+    parts += [f'<text class="{kind}" x="{left}" y="{top + down:.1f}">{escape(text)}</text>' for kind, down, text in rows]
+    if line.util is not None:
+        parts.append(f'<text class="load" x="{x + WIDE - 10}" y="{top + 18:.1f}" text-anchor="end">{int(100 * line.util + 0.5)} %</text>')
+        bar = f'x="{x + 10}" y="{top + 51:.1f}" height="5" rx="2.5"'
+        parts.append(f'<rect class="rail" {bar} width="{WIDE - 20}"/><rect class="meter" {bar} width="{(WIDE - 20) * min(line.util, 1):.1f}"/>')
+    button = "" if is_still else f' tabindex="0" role="button" aria-pressed="{str(is_chosen).lower()}" aria-label="{said}"'
+    kinds = f"node load{step(line.util)}{' marked' if is_chosen else ''}"
+    return f'<g class="{kinds}" data-node="{node.name}"{button}>{"".join(parts)}</g>'

@@ -1,0 +1,152 @@
+// Elements, of a page and of pictures.
+const fill = (element, attributes, children) => {
+  for (const [name, value] of Object.entries(attributes)) element.setAttribute(name, value);
+  element.append(...children);
+  return element;
+};
+const html = (name, attributes = {}, ...children) => fill(document.createElement(name), attributes, children);
+const svg = (name, attributes = {}, ...children) => fill(document.createElementNS('http://www.w3.org/2000/svg', name), attributes, children);
+
+const WIDE = 560, HIGH = 250, LEFT = 56, RIGHT = 46, TOP = 12, BOTTOM = 40, FLOOR = HIGH - BOTTOM;
+
+// A picture with two axes: x has low, high, its name, and the text of a place; y has high, and a text. Its places are read out by the pointer and by
+// the arrow keys: `read` tells of each.
+function picture(name, says, x, y, places, read) {
+  const across = value => LEFT + (WIDE - LEFT - RIGHT) * (value - x.low) / (x.high - x.low || 1);
+  const up = value => FLOOR - (FLOOR - TOP) * value / (y.high || 1);
+  const label = `${says}. Arrow keys read it out.`;
+  const root = svg('svg', { viewBox: `0 0 ${WIDE} ${HIGH}`, role: 'img', tabindex: 0, 'aria-label': label, 'data-picture': name });
+  const grid = svg('g', { class: 'grid' }), axis = svg('g', { class: 'axis' });
+  for (const value of stepsOf(0, y.high, 5)) {
+    grid.append(svg('line', { x1: LEFT, x2: WIDE - RIGHT, y1: up(value), y2: up(value) }));
+    axis.append(svg('text', { x: LEFT - 6, y: up(value) + 4, 'text-anchor': 'end' }, y.text(value)));
+  }
+  for (const value of x.marks || stepsOf(x.low, x.high, 6, x.calendar)) {
+    axis.append(svg('line', { x1: across(value), x2: across(value), y1: FLOOR, y2: FLOOR + 5 }),
+      svg('text', { x: across(value), y: FLOOR + 17, 'text-anchor': 'middle' }, x.text(value)));
+  }
+  axis.append(svg('line', { x1: LEFT, x2: WIDE - RIGHT, y1: FLOOR, y2: FLOOR }),
+    svg('text', { x: (LEFT + WIDE - RIGHT) / 2, y: HIGH - 6, 'text-anchor': 'middle' }, x.name));
+  const cross = svg('line', { class: 'cross', y1: TOP, y2: FLOOR, visibility: 'hidden' });
+  root.append(grid, axis, cross);
+  const told = html('output', { 'data-told': name, 'aria-live': 'polite' });
+  let at = -1;
+  const go = to => {
+    at = Math.max(0, Math.min(places.length - 1, to));
+    fill(cross, { x1: across(places[at]), x2: across(places[at]), visibility: 'visible' }, []);
+    told.textContent = read(at);
+  };
+  root.addEventListener('pointermove', event => {
+    const box = root.getBoundingClientRect(), pointed = (event.clientX - box.left) * WIDE / box.width;
+    go(places.reduce((near, it, index) => Math.abs(across(it) - pointed) < Math.abs(across(places[near]) - pointed) ? index : near, 0));
+  });
+  root.addEventListener('keydown', event => {
+    const to = { ArrowLeft: at - 1, ArrowRight: at + 1, Home: 0, End: places.length - 1, PageDown: at + 10, PageUp: at - 10 }[event.key];
+    if (to === undefined) return;
+    event.preventDefault();
+    go(to);
+  });
+  return { root, told, across, up };
+}
+
+// Waits over time: a step a piece, a gap where nobody departed; below them bars of who came, and of these who was lost or held.
+function pieceTold({ width, came, lost, p50, p90, max }, at, calendar, isLong) {
+  const time = tick => clock(tick, calendar, isLong ? 'both' : 'time');
+  const gone = lost[at] ? `, ${shown(lost[at])} lost or held` : '';
+  const text = `${time(at * width)} to ${time((at + 1) * width)}: ${shown(came[at])} came${gone}`;
+  if (p50[at] === null) return text;
+  return `${text}; half waited for ${shown(p50[at])} or less, 9 of 10 for ${shown(p90[at])}, the longest for ${shown(max[at])}`;
+}
+function stairs(values, width, across, up) {
+  let path = '', isOpen = false, end = null;
+  values.forEach((value, at) => {
+    if (value !== null) {
+      const y = up(Number(value)), to = across((at + 1) * width);
+      path += `${isOpen ? 'L' : 'M'}${across(at * width).toFixed(1)} ${y.toFixed(1)}H${to.toFixed(1)}`;
+      end = [to, y];
+    }
+    isOpen = value !== null;
+  });
+  return { path, end };
+}
+function overTime(series, span, calendar) {
+  const { width, came, lost } = series, end = came.length * width, isLong = span * calendar.tick > DAY;
+  const top = Math.max(1, ...series.max.map(Number)), most = Math.max(1, ...came);
+  const axis = { low: 0, high: end, calendar, name: calendar.tick ? 'time of arrival' : 'arrival, ticks',
+    text: value => clock(value, calendar, end * calendar.tick < 4 * DAY ? 'time' : 'date') };
+  const p = picture('time', 'Waits by the time at which jobs came', axis, { high: top, text: shown }, came.map((_, at) => (at + .5) * width),
+    at => pieceTold(series, at, calendar, isLong));
+  const bar = (value, kind, at) => {
+    const high = 46 * value / most, wide = Math.max(p.across(width) - p.across(0) - .4, .6);
+    if (value) p.root.append(svg('rect', { class: kind, x: p.across(at * width), y: FLOOR - high, width: wide, height: high }));
+  };
+  came.forEach((value, at) => { bar(value, 'came', at); bar(lost[at], 'lost', at); });
+  const ends = [];
+  for (const kind of ['max', 'p90', 'p50']) {
+    const line = stairs(series[kind], width, p.across, p.up);
+    p.root.append(svg('path', { class: kind, d: line.path }));
+    if (line.end) ends.push([kind, line.end[1]]);
+  }
+  // Names of lines that end near one another stand one below the other.
+  ends.sort(([, one], [, other]) => one - other);
+  ends.forEach((it, at) => { if (at) it[1] = Math.max(it[1], ends[at - 1][1] + 12); });
+  const past = Math.max(0, ...ends.map(([, y]) => y - FLOOR));
+  for (const [kind, y] of ends) p.root.append(svg('text', { class: kind, x: WIDE - RIGHT + 4, y: y - past + 4 }, kind));
+  const bars = `Bars: how many came${lost.some(it => it) ? ', and in the darker colour how many of them were lost or held' : ''}.`;
+  return html('figure', {}, html('h3', {}, 'Waits over time'), p.root, p.told, html('figcaption', {}, `Pieces of ${shown(width)} ticks. ${bars}`));
+}
+
+// The share by wait, of those that departed; and a field that tells the share served within a time, of all that came as well.
+function byWait(waits, figure) {
+  const { came, wait, count } = waits, departed = count[count.length - 1], high = Number(wait[wait.length - 1]) || 1;
+  const p = picture('waits', 'Share of those that departed, by how long they waited', { low: 0, high, name: 'wait, ticks', text: shown },
+    { high: 1, text: it => `${Math.round(100 * it)} %` }, wait.map(Number),
+    at => `${percent(count[at] / departed)} waited for ${shown(wait[at])} or less`);
+  const isStep = wait.length < 60;
+  const path = wait.map((it, at) => {
+    const x = p.across(Number(it)).toFixed(1), y = p.up(count[at] / departed).toFixed(1);
+    return isStep ? `H${x}V${y}` : `L${x} ${y}`;
+  });
+  p.root.append(svg('path', { class: 'share', d: `M${p.across(0)} ${p.up(0)}${path.join('')}` }));
+  ['p50', 'p90', 'p99'].forEach((name, at) => {
+    const value = figure(name);
+    if (value === null) return;
+    // Each on a line of its own, so that none covers another.
+    const x = p.across(Number(value)), isLast = x > WIDE - RIGHT - 60, y = FLOOR - 44 + 17 * at;
+    p.root.append(svg('g', { class: 'mark' }, svg('line', { x1: x, x2: x, y1: TOP, y2: FLOOR }),
+      svg('text', { x: isLast ? x - 4 : x + 4, y, 'text-anchor': isLast ? 'end' : 'start' }, `${name} ${shown(value)}`)));
+  });
+  const field = html('input', { type: 'number', min: 0, step: 1, id: 'ticks', size: 8, value: figure('p50') ?? Math.round(high / 2) });
+  const ofAll = html('b', { id: 'of-all' }), ofDeparted = html('b', { id: 'of-departed' });
+  const tell = () => {
+    const counts = countsWithin(waits, Number(field.value || 0));
+    ofAll.textContent = shareOf(counts, came);
+    ofDeparted.textContent = shareOf(counts, departed);
+  };
+  field.addEventListener('input', tell);
+  tell();
+  const told = html('p', {}, html('label', {}, 'Served within ', field, ' ticks: '), ofAll, ` of the ${shown(came)} that came, `, ofDeparted,
+    ` of the ${shown(departed)} that departed.`);
+  return html('figure', {}, html('h3', {}, 'How long they waited'), p.root, p.told, told,
+    html('figcaption', {}, `The curve is of those that departed. It is exact at ${shown(wait.length)} waits.`));
+}
+
+// Of several runs a figure of a node, over their labels where these are numbers, else side by side.
+function curveOf(labels, values, chosen, says, choose) {
+  const isPlain = labels.every(it => it.trim() !== '' && Number.isFinite(Number(it)));
+  const xs = isPlain ? labels.map(Number) : labels.map((_, at) => at);
+  const low = Math.min(...xs), high = Math.max(...xs), margin = (high - low || 1) * .04;
+  const numbers = values.map(it => it === null ? null : Number(it));
+  const axis = { low: low - margin, high: high + margin, name: 'run', marks: isPlain ? undefined : xs, text: it => isPlain ? shown(it) : labels[it] };
+  const p = picture('curve', says, axis, { high: Math.max(...numbers, 0), text: shown }, xs, at => `${labels[at]}: ${shown(values[at])}`);
+  const order = xs.map((_, at) => at).filter(at => numbers[at] !== null).sort((one, other) => xs[one] - xs[other]);
+  const path = order.map((at, index) => `${index ? 'L' : 'M'}${p.across(xs[at])} ${p.up(numbers[at])}`).join('');
+  p.root.append(svg('path', { class: 'share', d: path }));
+  for (const at of order) {
+    const dot = svg('circle', { class: at === chosen ? 'dot marked' : 'dot', cx: p.across(xs[at]), cy: p.up(numbers[at]), r: at === chosen ? 7 : 5,
+      'data-v': values[at], 'data-label': labels[at] });
+    dot.addEventListener('click', () => choose(at));
+    p.root.append(dot);
+  }
+  return html('figure', {}, p.root, p.told);
+}

@@ -1,0 +1,101 @@
+"""Runs side by side."""
+
+import csv
+
+from ..lines import FIGURES
+from ..sweeps import Sweep, load
+from .files import say, written
+from .pooled import pool_lines, pools, with_pools
+
+EXAMPLE = """planner compare today.txt tomorrow.txt --figure p90
+         planner compare sweep.txt --figure lost --node desk --csv >lost.csv"""
+
+
+def words(parser):
+    parser.add_argument("reports", nargs="+", metavar="report", help="reports, or sweeps, each scenario of which is one")
+    parser.add_argument("--figure", choices=FIGURES, default="p90", metavar="FIGURE", help=f"one of {', '.join(FIGURES)}")
+    parser.add_argument("--node", action="append", default=[], metavar="NAME", help="this node alone; may be repeated")
+    parser.add_argument("--csv", action="store_true", help="as CSV, differences in columns of their own")
+
+
+def compare(reports, figure="p90", nodes=()):
+    """Pairs of a node's name and its figure in each of some reports (a list of int, float or None, which stands where a report has no such node or
+    figure), for each node of the reports, in the order in which they have them; a pool stands in place of its queue and its trunk group
+    (`pooled.with_pools`). Raises AttributeError for a figure that no node has, ValueError for a node that no report has.
+
+    >>> import mpsim
+    >>> from mpsim.planner.compare import compare
+    >>> runs = [mpsim.run(f"model 1\\nsource door\\nserver desk ={it} from door\\n", [("door", 0), ("door", 1)]) for it in (4, 3)]
+    >>> compare(runs, "max", ["desk"])
+    [('desk', [3, 2])]
+    """
+    held = [with_pools(it) for it in reports]
+    names = list(dict.fromkeys(name for it in held for name in it))
+    if nodes:
+        # The queue of a pool can be asked for by its name.
+        held = [{**{it.name: it for it in report.nodes}, **mine} for report, mine in zip(reports, held)]
+        every = list(dict.fromkeys(name for it in held for name in it))
+        for name in nodes:
+            if name not in every:
+                raise ValueError(f"no report has a node {name!r}; they have {', '.join(names)}")
+        names = [name for name in every if name in nodes]
+    return [(name, [it[name].figure(figure) if name in it else None for it in held]) for name in names]
+
+
+def _number(value):
+    """A figure as it is shown."""
+    return "-" if value is None else f"{value:.6g}" if isinstance(value, float) else str(value)
+
+
+def _difference(value, first):
+    if value is None or first is None:
+        return None
+    return round(value - first, 6) if isinstance(value - first, float) else value - first
+
+
+def _aligned(labels, found):
+    """The lines of a table to look at: behind each figure but the first its difference to it."""
+    rows = [["", *labels]]
+    for name, values in found:
+        shown = [_number(values[0])]
+        for value in values[1:]:
+            more = _difference(value, values[0])
+            shown.append(_number(value) + ("" if more is None else f" ({'+' if more >= 0 else ''}{_number(more)})"))
+        rows.append([name, *shown])
+    widths = [max(map(len, column)) for column in zip(*rows)]
+    for name, *rest in rows:
+        yield "  ".join([name.ljust(widths[0]), *(it.rjust(width) for it, width in zip(rest, widths[1:]))]).rstrip() + "\n"
+
+
+def _table(labels, found):
+    """The header and the rows of a table for a spreadsheet."""
+    yield ["node", *labels, *(f"{it} less {labels[0]}" for it in labels[1:])]
+    for name, values in found:
+        yield [name, *values, *(_difference(it, values[0]) for it in values[1:])]
+
+
+def _labelled(paths):
+    """Pairs of a label and a report: of a report its path, of the scenarios of one sweep their numbers."""
+    for path in paths:
+        told = load(path)
+        if isinstance(told, Sweep):
+            yield from ((f"{path} {label}" if len(paths) > 1 else str(label), it) for label, it in told.reports().items())
+        else:
+            yield path, told
+
+
+def main(asked):
+    labelled = list(_labelled(asked.reports))
+    if not labelled:
+        raise ValueError(f"{asked.reports[0]}: each scenario is refused")
+    labels, reports = zip(*labelled)
+    found = compare(reports, asked.figure, asked.node)
+    for line in pool_lines(reports, asked.node):
+        say(line)
+    if asked.figure in ("max", "p50", "p90", "p99") and any(pools(it) and it.visits is None for it in reports):
+        say(f"of a pool {asked.figure} wants the lines of jobs: mpsim writes them with --jobs")
+    with written() as file:
+        if asked.csv:
+            csv.writer(file, lineterminator="\n").writerows(_table(labels, found))
+        else:
+            file.writelines(_aligned(labels, found))

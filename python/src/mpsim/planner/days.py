@@ -1,0 +1,125 @@
+"""Day by day: each a run of its own, so that nights and the days before don't count in it."""
+
+import csv
+from bisect import bisect_right
+from typing import NamedTuple, Tuple
+
+from ..errors import BoundError, VisitsError
+from ..runs import run
+from ..sweeps import Scenario, Sweep
+from . import calendar
+from .files import say, text_of, written
+from .hours import days_until
+from .pooled import pool_lines
+from .progress import Progress
+from .table import table
+from .times import DAY, clock
+from .traces import Trace, told_of
+
+EXAMPLE = "planner days model.txt trace.csv --open 8:00 >days.csv"
+
+
+class Day(NamedTuple):
+    """A piece of a trace: its name (str), the tick that is time 0 of its run and the one at which the next piece begins (int), and its records (a
+    tuple of int, from 0)."""
+
+    name: str
+    zero: int
+    end: int
+    records: Tuple[int, ...]
+
+
+def words(parser):
+    parser.add_argument("model")
+    parser.add_argument("trace")
+    parser.add_argument("--node", action="append", default=[], metavar="NAME", help="rows of this node alone; may be repeated")
+    parser.add_argument("--open", metavar="H:MM", help="time 0 of each day; else it is the first record of the day")
+    parser.add_argument("--close", metavar="H:MM", help="records of this time and later are left out, and counted")
+    parser.add_argument("--every", type=int, metavar="TICKS", help="no days, but pieces of so many ticks from time 0 on")
+    calendar.words(parser)
+
+
+def cut(times, begins, names, opens=None, closes=None):
+    """The pieces (a list of Day) of times (a list of int), and how many records are left out. `begins` are the ticks at which pieces begin, rising,
+    and the end of the last one; `names` their names. With `opens` and `closes`, a tick for each piece, what comes earlier, or no earlier, is left
+    out. Without `opens` the time 0 of a piece is its first record. Pieces without a record are left out.
+
+    >>> from mpsim.planner.days import cut
+    >>> cut([5, 12, 99, 13], [0, 10, 20], ["one", "two"])
+    ([Day(name='one', zero=5, end=10, records=(0,)), Day(name='two', zero=12, end=20, records=(1, 3))], 1)
+    """
+    found = [[] for _ in names]
+    for at, time in enumerate(times):
+        piece = bisect_right(begins, time) - 1
+        is_in = 0 <= piece < len(names) and (not opens or time >= opens[piece]) and (not closes or time < closes[piece])
+        if is_in:
+            found[piece].append(at)
+    zeros = [opens[piece] if opens else min((times[at] for at in records), default=0) for piece, records in enumerate(found)]
+    days = [Day(*it[:3], tuple(it[3])) for it in zip(names, zeros, begins[1:], found) if it[3]]
+    return days, len(times) - sum(len(it.records) for it in days)
+
+
+def by_calendar(times, days, opens=None, closes=None):
+    """The pieces of times by the days of a calendar (Calendar), as `cut` gives them. `opens` and `closes` are times of the day (str, as "8:00")."""
+    last = max(times, default=0)
+    days_until(days, last)
+    found = list(days.midnights(last))
+    begins = [days.tick_at(begin) for _, begin, _ in found] + [days.tick_at(end) for _, _, end in found[-1:]]
+    clocks = [_clock(it) if it else None for it in (opens, closes)]
+    hours = [None if it is None else [days.tick_at(days.place.first(day * DAY + it)) for day, _, _ in found] for it in clocks]
+    return cut(times, begins, [days.name(day) for day, _, _ in found], *hours)
+
+
+def _clock(text):
+    try:
+        return clock(text)
+    except ValueError as fault:
+        raise ValueError(f"{text!r}: {fault}") from None
+
+
+def by_ticks(times, every):
+    """The pieces of times of so many ticks each (int), as `cut` gives them; the time 0 of each is where it begins."""
+    found = {}
+    for at, time in enumerate(times):
+        found.setdefault(time // every * every, []).append(at)
+    return [Day(f"{it}..{it + every - 1}", it, it + every, tuple(records)) for it, records in sorted(found.items())], 0
+
+
+def days(model, trace, pieces, tell=lambda done: None, path=None):
+    """A Sweep of which each scenario is the run of a piece (Day) of a trace (Trace), by the names of the pieces, in a network that is empty at its
+    time 0; and of how many pieces somebody is still there when the next begins (int), who isn't there in its run. The model is one that `mpsim.run`
+    takes, and is read once for each. A piece whose run is refused, for the bound or a node with too many visits, hands over its refusal; for all
+    else what `mpsim.run` raises is raised, with the path of the model where that is given. `tell` is called with how many are done."""
+    times, sweep, over = trace.times(), Sweep(), 0
+    for done, it in enumerate(pieces):
+        tell(done)
+        rows = ([trace.rows[at][0], times[at] - it.zero, *trace.rows[at][2:]] for at in it.records)
+        try:
+            with told_of(trace, it.records, path):
+                report = run(model, [trace.header, *rows])
+        except (BoundError, VisitsError) as fault:
+            sweep[it.name] = Scenario(it.name, fault.status, None, fault)
+            continue
+        sweep[it.name] = Scenario(it.name, 0, report, None)
+        # Who leaves at that very moment leaves before another comes.
+        over += it.zero + report.span > it.end
+    return sweep, over
+
+
+def main(asked):
+    text, trace = text_of(asked.model), Trace.read(asked.trace)
+    if asked.every is not None and (asked.every < 1 or asked.open or asked.close):
+        raise ValueError(f"--every {asked.every}: expected a number of ticks, and neither --open nor --close beside it")
+    times = trace.times()
+    pieces, left = by_ticks(times, asked.every) if asked.every else by_calendar(times, calendar.of(asked, text), asked.open, asked.close)
+    with Progress(len(pieces), "days") as tell:
+        sweep, over = days(text, trace, pieces, tell, asked.model)
+    with written() as file:
+        csv.writer(file, lineterminator="\n").writerows(table(sweep, nodes=asked.node, head="day"))
+    for line in pool_lines(list(sweep.reports().values()), asked.node, "are in"):
+        say(line)
+    if left:
+        say(f"{left} records come before a day opens or after it closes, and are left out")
+    if over:
+        say(f"on {over} of {len(pieces)} days somebody is still there when the next begins, who isn't there in its run")
+    return 11 if any(it.status for it in sweep.values()) else 0

@@ -1,0 +1,93 @@
+"""Columns of lengths of time: numbers of a unit with either decimal mark, and h:mm:ss."""
+
+import re
+
+from .times import HOUR, MINUTE, SECOND, UNITS, Asks, Cache, Unread, excel
+
+# Of a trace.
+GREATEST_VALUE = 1 << 36
+SPAN = re.compile(r"(\d+):(\d\d)(?::(\d\d)(?:[.,](\d{1,9}))?)?", re.ASCII)
+# What sets thousands off, besides the mark that isn't the decimal one.
+_GAPS = "\\s\u00a0\u202f'\u2019"
+
+
+def found_decimal(texts):
+    """The decimal mark of texts of numbers, "." or ","; None where none has a mark. Raises ValueError where it has to be said.
+
+    >>> found_decimal(["3,5", "1.210,0"])
+    ','
+    """
+    marks, doubtful = set(), None
+    for text in texts:
+        text = re.sub(f"[{_GAPS}]", "", text)
+        dots, commas = text.count("."), text.count(",")
+        if ":" in text or not dots + commas:
+            continue
+        if dots and commas:
+            marks.add("," if text.rindex(",") > text.rindex(".") else ".")
+        elif dots > 1 or commas > 1:
+            marks.add("," if dots else ".")
+        elif re.fullmatch(r"[1-9]\d{0,2}[.,]\d{3}", text):
+            doubtful = text
+        else:
+            marks.add("," if commas else ".")
+    if len(marks) > 1:
+        raise ValueError("its numbers have both decimal commas and decimal points")
+    if not marks and doubtful is not None:
+        raise ValueError(f"{doubtful!r} may be thousands or a fraction")
+    return marks.pop() if marks else None
+
+
+class Lengths:
+    """A column of lengths of time in a unit, with a decimal mark ("." or ",", None where it isn't known). `ticks[text]` is a length in ticks (int),
+    to the nearest; Unread is raised where a text is none, and Asks where more has to be said. `rounded` counts the different texts that are no whole
+    number of ticks. Raises ValueError for a unit that is none."""
+
+    NAMES = *UNITS, "ticks", "h:mm", "m:ss", "h:mm:ss", "excel"
+
+    def __init__(self, unit, decimal, tick):
+        if unit not in self.NAMES:
+            raise ValueError(f"there is no unit {unit!r}: it is one of {', '.join(self.NAMES)}")
+        self.unit, self.decimal, self.tick, self.rounded = unit, decimal, tick, 0
+        self.per = tick if unit == "ticks" else UNITS.get(unit, SECOND)
+        # Thousands are set off by threes, or a point that was a decimal one would be lost in silence.
+        gaps = _GAPS + {".": ",", ",": "."}.get(decimal, "")
+        self._number = re.compile(rf"([0-9]+|[0-9]{{1,3}}(?:[{gaps}][0-9]{{3}})+)(?:{re.escape(decimal or '.')}([0-9]+))?")
+        self.ticks = Cache(self._work)
+
+    def _work(self, text):
+        ticks, left = divmod(self.micros(text), self.tick)
+        ticks += 2 * left >= self.tick
+        if ticks > GREATEST_VALUE:
+            raise Unread("above 2^36 ticks")
+        self.rounded += left > 0
+        return ticks
+
+    def micros(self, text):
+        """Microseconds, cut to the whole one."""
+        text = text.strip()
+        if not text:
+            raise Unread("empty")
+        if text[0] in "-\u2212":
+            raise Unread("below 0")
+        if ":" in text or self.unit == "h:mm:ss":
+            return self._of_span(text)
+        if self.unit == "excel":
+            return excel(text)
+        if self.decimal is None and re.search("[.,]", text):
+            raise Asks("a number with a mark, which may be a decimal one: --decimal says it")
+        found = self._number.fullmatch(text)
+        if not found:
+            raise Unread(f"no number with a decimal {'comma' if self.decimal == ',' else 'point'}")
+        rest = found[2] or ""
+        return int(re.sub(r"\D", "", found[1]) + rest) * self.per // 10 ** len(rest)
+
+    def _of_span(self, text):
+        found = SPAN.fullmatch(text)
+        if not found or int(found[2]) > 59 or int(found[3] or 0) > 59:
+            raise Unread("no h:mm:ss")
+        if found[3] is None and self.unit not in ("h:mm", "m:ss"):
+            raise Asks("h:mm or m:ss: the unit says which")
+        first, second = (MINUTE, SECOND) if found[3] is None and self.unit == "m:ss" else (HOUR, MINUTE)
+        fraction = int((found[4] or "0").ljust(6, "0")[:6])
+        return int(found[1]) * first + int(found[2]) * second + int(found[3] or 0) * SECOND + fraction

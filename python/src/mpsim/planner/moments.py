@@ -1,0 +1,199 @@
+"""Columns of times: texts of one format, and how a million of them are read."""
+
+import re
+from datetime import datetime
+from operator import add, methodcaller
+
+from .formats import is_of_day
+from .times import DAY, SECOND, SPREADSHEET, Asks, Cache, Unread, at_utc, clock, excel, hmm, hmmss, iso_day, iso_rest, micros, rfc_day, rfc_rest
+
+_MIDNIGHT = micros(datetime(1900, 1, 1))
+# What clock() reads as strptime would, in a twelfth of the time.
+_PLAIN_CLOCKS = "%H:%M", "%H:%M:%S", "%H:%M:%S.%f", "%I:%M %p", "%I:%M:%S %p"
+
+
+def _read_as(form):
+    """Reads a text of a format of strptime as a datetime."""
+
+    def read(text):
+        try:
+            return datetime.strptime(text, form)
+        except ValueError:
+            raise Unread(f"not of the format {form}") from None
+
+    return read
+
+
+def _day_as(form):
+    read = _read_as(form)
+    return lambda text: micros(read(text))
+
+
+def _clock_as(form):
+    read = clock if form in _PLAIN_CLOCKS else lambda text: micros(_read_as(form)(text)) - _MIDNIGHT
+    return lambda text: (read(text), None)
+
+
+def _iso_parts(text):
+    text = text.strip()
+    at = 10 if text[4:5] == "-" else 8
+    return text[:at], text[at:]
+
+
+def _rfc_parts(text):
+    at = max(text.find(":") - 2, 0)
+    return text[:at], text[at:]
+
+
+def _packed_parts(text):
+    text = text.strip()
+    return text[:8], text[8:]
+
+
+def _parts_of(form):
+    """How a text is cut into a day and what is behind it, each of which comes again and again, and how these are read; None where it can't be cut.
+    Cutting may give one part, or none."""
+    if form == "iso":
+        return _iso_parts, iso_day, iso_rest
+    if form == "rfc":
+        return _rfc_parts, rfc_day, rfc_rest
+    if form == "%Y%m%d%H%M%S":
+        return _packed_parts, _day_as("%Y%m%d"), _clock_as("%H%M%S")
+    day, _, rest = form.partition(" ")
+    if not rest or is_of_day(day) or not is_of_day(rest) or any(it in form for it in ("%z", "%Z")) or re.search("%[HIMSfp]", day):
+        return None
+    return methodcaller("split", None, 1), _day_as(day), _clock_as(rest)
+
+
+class Moments:
+    """A column of times of one format, in a Zone. `of(text, than)` is the moment of a text (int, microseconds since 1970; without a zone or an offset
+    what the clock shows), where `than` is a moment before which it isn't, or None. Where the format has the time of a day alone (`is_of_day`) it is
+    microseconds since midnight; of the format ticks it is a number of ticks. Raises Unread for a text that is none, and Asks. `has_offsets` and
+    `has_none` tell what was met."""
+
+    def __init__(self, form, zone):
+        self.form, self.zone, self.is_of_day = form, zone, is_of_day(form)
+        self.has_offsets, self.has_none = form in ("unix", "unixms"), False
+        self._unit = {"ticks": 1, "unix": SECOND, "unixms": 1000}.get(form)
+        self._seen, self._parts = {}, _parts_of(form)
+        if self._parts:
+            self._walls, self._rests = Cache(self._parts[1]), Cache(self._met)
+            self._caches = [
+                (Cache(self._begin_of), Cache(lambda rest: self._rest_of(rest, False))),
+                (self._walls, Cache(lambda rest: self._rest_of(rest, True))),
+            ]
+        self.dates = Cache(self._date)
+        if self._unit:
+            self.of = self._of_number
+        elif self.is_of_day:
+            self.make_of_day()
+        elif form == "excel":
+            self.of = self._of_spreadsheet
+        else:
+            self.of = self._of_parts if self._parts else self._of_whole
+
+    def make_of_day(self):
+        """Has numbers of a spreadsheet be parts of a day, as they are where the day stands in a column of its own."""
+        self.is_of_day = True
+        named = {"clock": clock, "hmm": hmm, "hmmss": hmmss, "excel": self._part_of_day}
+        read = (lambda text: (named[self.form](text), None)) if self.form in named else _clock_as(self.form)
+        cache = Cache(lambda text: read(_there(text))[0])
+        self.of = lambda text, than=None: cache[text]
+
+    def is_one(self, text):
+        """Whether a text is of the format."""
+        try:
+            self.of(text)
+            return True
+        except (ValueError, OverflowError):
+            return False
+
+    def _part_of_day(self, text):
+        value = excel(text)
+        if value >= DAY:
+            raise Unread("more than the part of a day")
+        return value
+
+    def _of_number(self, text, than=None):
+        text = _there(text)
+        if text.isdigit() and text.isascii():
+            return int(text) * self._unit
+        whole, _, rest = text.partition(".")
+        if self.form == "ticks" or not (whole.isdigit() and rest.isdigit() and text.isascii()):
+            raise Unread("no whole number" if self.form == "ticks" else "no number")
+        return int(whole) * self._unit + int(rest) * self._unit // 10 ** len(rest)
+
+    def _of_spreadsheet(self, text, than=None):
+        self.has_none = True
+        return self.zone.utc(excel(_there(text)) + SPREADSHEET, self._seen, than)
+
+    def _met(self, rest):
+        """Of what stands behind a day a pair, of which it is noted whether it has an offset."""
+        since, offset = self._parts[2](rest)
+        self.has_none |= offset is None
+        self.has_offsets |= offset is not None
+        return since, offset
+
+    def _of_parts(self, text, than=None):
+        try:
+            day, rest = self._parts[0](text)
+        except ValueError:
+            raise Unread(f"not of the format {self.form}" if text.strip() else "empty") from None
+        since, offset = self._rests[rest]
+        return self.zone.utc(self._walls[day] + since, self._seen, than) if offset is None else self._walls[day] + since - offset
+
+    def many(self, texts):
+        """The moments (list of int) of texts of which none wants a look by itself; raises Unread where one may. Each part of a text comes again and
+        again, and all that a text takes are two look-ups and a sum."""
+        parts = list(map(self._parts[0], texts)) if self._parts and not self.is_of_day else []
+        if set(map(len, parts)) != {2}:
+            raise Unread("one by one")
+        days, rests = zip(*parts)
+        days_of, rest_of = self._caches[self._rests[rests[0]][1] is not None]
+        return list(map(add, map(days_of.__getitem__, days), map(rest_of.__getitem__, rests)))
+
+    def _begin_of(self, day):
+        """The moment at which a day begins; Unread on one on which clocks change."""
+        begin = self.zone.whole_day(self._walls[day])
+        if begin is None:
+            raise Unread("one by one")
+        return begin
+
+    def _rest_of(self, rest, has_offset):
+        """What is to be added to the midnight of a day; Unread where it has an offset and others have none, or the other way round."""
+        since, offset = self._rests[rest]
+        if (offset is not None) != has_offset:
+            raise Unread("one by one")
+        return since - (offset or 0)
+
+    def _of_whole(self, text, than=None):
+        told = _read_as(self.form)(_there(text))
+        if told.tzinfo is not None:
+            self.has_offsets = True
+            return at_utc(told)
+        self.has_none = True
+        return self.zone.utc(micros(told), self._seen, than)
+
+    def _date(self, text):
+        """Of a column of dates, what the clock shows at midnight."""
+        text = _there(text)
+        if self.form == "excel":
+            value = excel(text) + SPREADSHEET
+        elif self.is_of_day or self._unit:
+            raise Asks(f"of the format {self.form}, which has no day: --date-format says another")
+        elif self._parts:
+            day, *rest = self._parts[0](text)
+            value = self._parts[1](day) + sum(self._parts[2](it)[0] for it in rest)
+        else:
+            value = micros(_read_as(self.form)(text).replace(tzinfo=None))
+        if value % DAY:
+            raise Unread("a date with a time")
+        return value
+
+
+def _there(text):
+    """The text without blanks around it. Raises Unread where nothing is left."""
+    text = text.strip()
+    if not text:
+        raise Unread("empty")
+    return text

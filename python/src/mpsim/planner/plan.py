@@ -1,0 +1,156 @@
+"""What becomes of the columns of an export: what is given, what is found, and what has to be said."""
+
+from ..model import columns, sources
+from .formats import found_format, judged_format
+from .lengths import GREATEST_VALUE, Lengths, found_decimal
+from .moments import Moments
+from .names import is_name, name_for
+from .records import Code, Constant, Demand, End, Records, Sum, Times
+from .times import given, length
+from .zones import Zone
+
+# What a trace has at most.
+COLUMNS = 16
+
+
+class Plan:
+    """What is asked of an Export: how its columns are read, in a Zone, with a tick (int, microseconds); `told` (list of str), what was found. The
+    texts are the options of `planner prepare`; `model` is a model's text or None. Raises ValueError where one is none, or more has to be said."""
+
+    def __init__(self, export, place, per, format, decimal, model):
+        self.export, self.place, self.per, self.decimal, self.model = export, place, per, decimal, model
+        self.format = judged_format(format) if format else None
+        self.told, self.columns = list(export.told), []
+
+    def _texts(self, column):
+        return [row[column] for row in self.export.sample]
+
+    def _moments(self, column, form, option="--format"):
+        name = self.export.header[column]
+        if form is None:
+            try:
+                form = found_format(self._texts(column))
+            except ValueError as fault:
+                raise ValueError(f"column {name!r}: {fault} ({option})") from None
+            self.told.append(f"column {name!r} is read as {form}")
+        return Moments(form, self.place)
+
+    def _more_times(self, name):
+        """A further column of times. It has the format that was given, where its texts are of it."""
+        column = self.export.column(name)
+        texts = [it for it in self._texts(column) if it.strip()][:100]
+        form = self.format if self.format and 10 * sum(map(Moments(self.format, Zone()).is_one, texts)) >= 9 * len(texts) else None
+        how = self._moments(column, form)
+        if self.time.how.is_of_day and how.form == "excel":
+            how.make_of_day()
+        if (how.form == "ticks") != self.is_ticks:
+            raise ValueError(f"column {name!r} is read as {how.form}, and column {self.export.header[self.time.column]!r} as {self.time.how.form}")
+        return Times(column, how, self.place)
+
+    def times(self, time, date, date_format, answered):
+        """When jobs come, and when services begin."""
+        column, dates = self.export.column(time), None
+        how = self._moments(column, self.format)
+        if date is not None:
+            at = self.export.column(date)
+            dates = at, self._moments(at, date_format and judged_format(date_format), "--date-format")
+            if not how.is_of_day and how.form != "excel":
+                raise ValueError(f"column {time!r} has more than the time of the day, so that --date says nothing")
+            how.make_of_day()
+        self.has_day, self.is_ticks = not how.is_of_day or date is not None, how.form == "ticks"
+        if self.place.name and (self.is_ticks or not self.has_day):
+            raise ValueError(f"column {time!r} has {'ticks' if self.is_ticks else 'no day'}, so that --zone says nothing")
+        if date_format and not date:
+            raise ValueError("--date-format says nothing without --date")
+        self.time = Times(column, how, self.place, dates)
+        self.answered = None if answered is None else self._more_times(answered)
+
+    def readers(self):
+        """All columns of times."""
+        ends = [it.times for it in self.columns if isinstance(it, End)]
+        return [self.time, *([self.answered] if self.answered else []), *ends]
+
+    def _named(self, name, column=None):
+        """The name of a column of the trace, made of the one in the export where none is given."""
+        taken = [it.name for it in self.columns]
+        made = name or name_for(self.export.header[column], taken)
+        if not is_name(made) or made in taken:
+            why = "is taken" if made in taken else "begins with a small letter, and has small letters, digits and underscores, 32 at most"
+            raise ValueError(f"the column's name {made!r} {why}")
+        if not name and made != self.export.header[column]:
+            self.told.append(f"column {self.export.header[column]!r} is called {made}")
+        return made
+
+    def _ticks(self, option, text):
+        ticks, left = divmod(given(option, length, text), self.per)
+        if left or ticks > GREATEST_VALUE:
+            raise ValueError(f"{option} {text} is {'no whole number of' if left else 'more than 2^36'} ticks")
+        return ticks
+
+    def values(self, demand, end, constant, code, empty):
+        """The columns of the trace."""
+        empty = None if empty is None else self._ticks("--empty", empty)
+        for word in demand:
+            self._demand(word, empty)
+        for it in self.columns:
+            if isinstance(it, Sum):
+                self.told.append(f"{it.name} is the sum of {' and '.join(repr(self.export.header[part.column]) for part in it.parts)}")
+        for word in end:
+            column, name, _ = self.export.asked(word)
+            times = self._more_times(self.export.header[column])
+            self.columns.append(End(self._named(name, column), times, 1 if self.is_ticks else self.per, empty))
+        if self.answered and not end:
+            raise ValueError("--answered says nothing without --end")
+        for word in constant:
+            name, equals, value = word.partition("=")
+            if not equals:
+                raise ValueError(f"--constant {word}: it is NAME=LENGTH, as wrap=90s")
+            self.columns.append(Constant(self._named(name), self._ticks(f"--constant {name}", value)))
+        for word in code:
+            column, name, _ = self.export.asked(word)
+            self.columns.append(Code(self._named(name, column), column))
+        if len(self.columns) > COLUMNS:
+            raise ValueError(f"{len(self.columns)} columns, where a trace has at most {COLUMNS}")
+        lacking = [it for it in columns(self.model or "") if it not in [column.name for column in self.columns]]
+        if lacking:
+            raise ValueError(f"the model names {', '.join(lacking)}, which no --demand, --end, --constant or --code gives")
+
+    def _demand(self, word, empty):
+        """A column of lengths, or more for one that is there."""
+        column, name, unit = self.export.asked(word, has_unit=True)
+        how = Lengths(unit or "s", self._mark(column), self.per)
+        at = next((at for at, it in enumerate(self.columns) if it.name == name), None)
+        if at is None:
+            self.columns.append(Demand(self._named(name, column), column, how, empty))
+            return
+        parts = [*getattr(self.columns[at], "parts", [self.columns[at]]), Demand(name, column, how, empty)]
+        if column in [it.column for it in parts[:-1]]:
+            raise ValueError(f"--demand {word}: the column {self.export.header[column]!r} is in {name} already")
+        self.columns[at] = Sum(parts)
+
+    def _mark(self, column):
+        try:
+            return self.decimal or found_decimal(set(self._texts(column)))
+        except ValueError as fault:
+            raise ValueError(f"column {self.export.header[column]!r}: {fault} (--decimal)") from None
+
+    def sources(self, source, rename):
+        """Who sends jobs, and so all that is asked."""
+        header, known = self.export.header, sources(self.model) if self.model else None
+        column, only, renamed = None, source or "jobs", dict(_renamed(it) for it in rename)
+        if source in header:
+            column, only = self.export.column(source), None
+        elif not is_name(only) or source and only.casefold() in map(str.casefold, header):
+            raise ValueError(f"there is no column {source!r} for --source; it has {', '.join(map(repr, header))}")
+        elif known is not None and only not in known:
+            raise ValueError(f"the model has no source {only} (--source)")
+        elif source:
+            self.told.append(f"all records are of the source {source}")
+        self.records = Records(len(header), self.time, self.answered, self.columns, column, only, renamed, known)
+
+
+def _renamed(word):
+    old, equals, new = word.rpartition("=")
+    if not equals or not is_name(new):
+        raise ValueError(f"--rename {word}: it is OLD=NEW, where NEW is a small letter, then small letters, digits and underscores")
+    return old.strip(), new

@@ -1,0 +1,277 @@
+"""Agents who share one queue. No node is one: which agent is free first is a minimum over them. So who serves, and for how long each call waits, is
+worked out here, and goes into the trace; the model has a pool in place of a server, and the proved program runs it. It would lose a call at the trunk
+group where more were served at once than there are agents. That nobody waits while an agent is free is tested, and nothing of it is proved."""
+
+import csv
+import os
+import re
+from array import array
+from heapq import heapreplace
+
+from ..errors import BoundError
+from ..inputs import model_text
+from ..model import nodes_of
+from ..report import Report
+from ..runs import run
+from .files import written
+from .pooled import agent_name, pooled, queue_name
+from .progress import Progress
+from .service import PERCENTS, figure_words, figures, heads
+from .traces import Trace, told_of
+
+EXAMPLE = """planner pool model.txt trace.csv --node desk --agents 8..15 --within 20
+         planner pool model.txt trace.csv --node desk --agents 12 --out pooled.csv --out-model pooled.txt
+         planner pool --report jobs.txt --node desk --within 20"""
+# What a model may have: servers of a trunk group, nodes, outputs of a split (each of which an agent may stand at), inputs of a node.
+TRUNK, NODES, OUTPUTS, INPUTS = 255, 64, 8, 8
+
+
+def words(parser):
+    parser.add_argument("model", nargs="?", help="a model in which the pool is a server")
+    parser.add_argument("trace", nargs="?", help="its trace")
+    parser.add_argument("--node", required=True, metavar="NAME", help="the server in whose place the pool stands")
+    parser.add_argument("--agents", metavar="C", help="how many share the queue: 12, or 8..15 for a row each")
+    parser.add_argument("--by", choices=["trunk", "agents"], default="trunk", help="its nodes: a delay and a trunk group, or a server for each agent")
+    parser.add_argument("--out", metavar="FILE", help="the trace with who serves and the waits, as columns")
+    parser.add_argument("--out-model", metavar="FILE", help="the model with the pool")
+    parser.add_argument("--report", metavar="FILE", help="in place of a model and a trace: a report of a pool, with the lines of jobs")
+    figure_words(parser)
+
+
+def pool(arrivals, demands, agents):
+    """Who serves each call (an array of int, from 1), and for how long it waits (an array of int), of arrivals and demands (sequences of int, in
+    ticks) and a number of agents (int). Calls are served in the order of their arrivals, and at one time in the order in which they stand; each gets
+    the agent who is free first, and of several the one with the lowest number. Raises ValueError where there is no agent.
+
+    >>> from mpsim.planner.pool import pool
+    >>> who, waits = pool([0, 1, 2, 3], [6, 1, 1, 1], 2)
+    >>> list(who), list(waits)
+    ([1, 2, 2, 2], [0, 0, 0, 0])
+    """
+    if agents < 1:
+        raise ValueError(f"a pool has one agent or more, and not {agents}")
+    who, waits = array("i", bytes(4 * len(arrivals))), array("q", bytes(8 * len(arrivals)))
+    free = [(0, it) for it in range(1, agents + 1)]
+    for at in sorted(range(len(arrivals)), key=arrivals.__getitem__):
+        begin = arrivals[at]
+        moment, who[at] = free[0]
+        if moment > begin:
+            waits[at], begin = moment - begin, moment
+        heapreplace(free, (begin + demands[at], who[at]))
+    return who, waits
+
+
+class Queue:
+    """The queue at a server of a model, over a trace (Trace), at which pools of any number of agents may stand. The model is a Model, a text or a
+    path. Raises what `mpsim.run` does, and ValueError where the node is none or no server, or a job comes there more than once.
+
+    >>> from mpsim.planner.pool import Queue
+    >>> from mpsim.planner.traces import Trace
+    >>> trace = Trace("t.csv", ["source", "time", "talk"], [["door", "0", "9"], ["door", "1", "9"], ["door", "2", "4"]])
+    >>> queue = Queue("model 1\\nsource door\\nserver desk talk from door\\n", trace, "desk")
+    >>> [list(queue.visits(agents).wait) for agents in (1, 2, 3)]
+    [[0, 8, 16], [0, 0, 7], [0, 0, 0]]
+    """
+
+    def __init__(self, model, trace, node):
+        self.text, self.trace, self.node = model_text(model), trace, node
+        self.path = model if isinstance(model, os.PathLike) or isinstance(model, str) and "\n" not in model else None
+        report = self._with_one()
+        self.nodes = nodes_of(self.text)
+        found = [it for it in self.nodes if it.name == node]
+        if not found or found[0].kind != "server":
+            servers = ", ".join(it.name for it in self.nodes if it.kind == "server") or "none"
+            raise ValueError(f"{node} is no server of the model, in whose place a pool can stand; it has {servers}")
+        self.demand = found[0].asked
+        visits = report.visits[node] if report.visits else []
+        self.jobs, self.arrivals = (list(visits.job), list(visits.arrive)) if visits else ([], [])
+        if len(set(self.jobs)) < len(self.jobs):
+            raise ValueError(f"a job comes to {node} more than once, and its record has room for one wait")
+        fixed = int(self.demand[1:]) if self.demand.startswith("=") else None
+        values = [fixed] * len(trace.rows) if fixed is not None else trace.numbers(self.demand)
+        self.demands = [values[job - 1] for job in self.jobs]
+
+    def _with_one(self):
+        """The report of the model as it is, of which the arrivals are wanted: they are the same whoever serves. Where one server is late for the
+        bound of the model, nobody waits in it, and there is no bound: that is judged when the pool runs."""
+        with told_of(self.trace, model=self.path):
+            try:
+                return run(self.text, self.trace.lines(), jobs=True)
+            except BoundError:
+                lines = [line for line in self.text.split("\n") if line.split()[:1] != ["bound"]]
+                lines = [line.replace("server", "delay", 1) if line.split()[:2] == ["server", self.node] else line for line in lines]
+                return run("\n".join(lines), self.trace.lines(), jobs=True)
+
+    def with_pool(self, agents, by="trunk"):
+        """The model (str) and the trace (Trace) with a pool of so many agents (int) in place of the server. The trace has two columns more,
+        NODE_agent and NODE_wait: who serves the call of this record, from 1, and for how long it waits; both are 0 for one that doesn't come there.
+        `by` is "trunk" (up to 255 agents) or "agents", a server for each (as many as the nodes of a model allow). Raises ValueError where a model
+        can't have so many, or has these names already."""
+        model = self._model_of(agents, by)
+        who, waits = pool(self.arrivals, self.demands, agents)
+        served, waited = [0] * len(self.trace.rows), [0] * len(self.trace.rows)
+        for job, agent, wait in zip(self.jobs, who, waits):
+            served[job - 1], waited[job - 1] = agent, wait
+        return model, self.trace.with_columns(**{f"{self.node}_agent": served, f"{self.node}_wait": waited})
+
+    def run(self, agents, by="trunk"):
+        """The report (Report) of a pool of so many agents (int), with visits."""
+        model, trace = self.with_pool(agents, by)
+        with told_of(trace, model=self.path):
+            return run(model, trace.lines(), jobs=True)
+
+    def visits(self, agents, by="trunk"):
+        """The visits (NodeVisits) of a pool of so many agents (int)."""
+        return pooled(self.run(agents, by), self.node)
+
+    def _model_of(self, agents, by):
+        this = next(it for it in self.nodes if it.name == self.node)
+        inputs = " ".join(name + (f".{output}" if output else "") for name, output in this.inputs)
+        is_read = any(name == self.node for it in self.nodes for name, _ in it.inputs)
+        lines = trunk_lines(self.node, agents, self.demand, inputs) if by == "trunk" else agent_lines(self.node, agents, self.demand, inputs, is_read)
+        self._judge(lines)
+        return "".join(self._with_lines(lines, version=2 if by == "trunk" else 1))
+
+    def _judge(self, lines):
+        there = {it.name for it in self.nodes} - {self.node}
+        made = [line.split()[1] for line in lines]
+        for name in made:
+            if name in there:
+                raise ValueError(f"the model has a node {name!r} already, which the pool at {self.node} wants for itself")
+            if len(name) > 32:
+                raise ValueError(f"{name!r} would be a node of the pool, and is longer than 32 letters: give {self.node} a shorter name")
+        if len(there) + len(made) > NODES:
+            raise ValueError(f"the model would have {len(there) + len(made)} nodes, where {NODES} are the most: --by trunk takes two for a pool")
+
+    def _with_lines(self, lines, version):
+        is_begun = False
+        for line in self.text.split("\n"):
+            words = line.split()
+            if words[:2] == ["server", self.node]:
+                yield from (f"{it}\n" for it in lines)
+                continue
+            if not is_begun and words[:1] == ["model"]:
+                is_begun, line = True, f"model {max(int(words[1]), version)}"
+            if line:
+                yield f"{line}\n"
+
+
+def trunk_lines(node, agents, demand, inputs):
+    """The lines of a pool (list of str) as a delay, in which calls wait, and a trunk group, of which each then finds a server free."""
+    if not 1 <= agents <= TRUNK:
+        raise ValueError(f"a pool as a trunk group has 1 to {TRUNK} agents, and not {agents}")
+    return [f"delay {queue_name(node)} {node}_wait from {inputs}", f"trunk {node} {agents} {demand} from {queue_name(node)}"]
+
+
+def agent_lines(node, agents, demand, inputs, is_read):
+    """The lines of a pool (list of str) with a server for each agent, behind one split, or two where there are more than 8; where the pool's output
+    is read, what the agents let out is gathered by delays of 0, the last of which has the pool's name."""
+    if not 1 <= agents <= OUTPUTS * OUTPUTS:
+        raise ValueError(f"a pool of an agent a node has 1 to {OUTPUTS * OUTPUTS} agents, and not {agents}")
+    names = [agent_name(node, it) for it in range(1, agents + 1)]
+    if agents == 1:
+        lines, ends = [], {names[0]: inputs}
+    else:
+        lines, ends = _splits(node, names, inputs)
+    lines += [f"server {name} {demand} from {ends[name]}" for name in names]
+    return lines + _gathered(node, names) if is_read else lines
+
+
+def _splits(node, names, inputs):
+    """The splits by the column of agents, and for each agent the output at which it stands. As few outputs of the first as can be lead on to more."""
+    outputs = min(len(names), OUTPUTS)
+    teams, left = [], list(names)
+    for at in range(outputs):
+        # Behind it each further output wants one agent at least.
+        size = min(OUTPUTS, len(left) - (outputs - 1 - at))
+        teams.append(left[:size])
+        del left[:size]
+    firsts = [1 + sum(map(len, teams[:at])) for at in range(outputs)]
+    lines = [f"split {queue_name(node)} cut {node}_agent {' '.join(map(str, firsts[1:]))} from {inputs}"]
+    ends = {}
+    for at, (first, team) in enumerate(zip(firsts, teams)):
+        end = _output(queue_name(node), at)
+        if len(team) > 1:
+            name = f"{node}_team{at + 1}"
+            lines.append(f"split {name} cut {node}_agent {' '.join(map(str, range(first + 1, first + len(team))))} from {end}")
+            ends.update((it, _output(name, number)) for number, it in enumerate(team))
+        else:
+            ends[team[0]] = end
+    return lines, ends
+
+
+def _output(name, number):
+    return f"{name}.{number}" if number else name
+
+
+def _gathered(node, names):
+    lines, number = [], 0
+    while len(names) > INPUTS:
+        number += 1
+        some, names = names[:INPUTS], names[INPUTS:]
+        lines.append(f"delay {node}_end{number} =0 from {' '.join(some)}")
+        names.append(f"{node}_end{number}")
+    return [*lines, f"delay {node} =0 from {' '.join(names)}"]
+
+
+def numbers_of(text):
+    """The numbers (range) of `12` or `8..15`. Raises ValueError for another text."""
+    found = re.fullmatch(r"([1-9]\d{0,5})(?:\.\.([1-9]\d{0,5}))?", text)
+    if not found or int(found[2] or found[1]) < int(found[1]):
+        raise ValueError(f"--agents {text}: expected a number as 12, or rising ones as 8..15")
+    return range(int(found[1]), int(found[2] or found[1]) + 1)
+
+
+def staffing(queue, agents, within=(20,), percents=PERCENTS, by="trunk"):
+    """The header and the rows (lists) of a table of pools at a queue (Queue), a row for each number of agents (an iterable of int): the
+    share of the span for which they worked, and what `service.figures` gives."""
+    yield ["agents", "util", *heads(within, percents)]
+    for count in agents:
+        report = queue.run(count, by)
+        visits = pooled(report, queue.node)
+        worked = sum(visits.depart) - sum(visits.arrive) - sum(visits.wait)
+        # Cut off behind four digits, as in a report.
+        util = 10**4 * worked // (count * report.span) if report.span else 0
+        yield [count, f"{util / 10**4:.4f}", *figures(visits.wait, within, percents)]
+
+
+def main(asked):
+    within, percents = asked.within or (20,), asked.percentile or PERCENTS
+    if asked.report:
+        rows = _of_report(asked, within, percents)
+    else:
+        rows = _of_agents(asked, within, percents)
+    with written() as file:
+        csv.writer(file, lineterminator="\n").writerows(rows)
+
+
+def _of_report(asked, within, percents):
+    if asked.model or asked.agents or asked.out or asked.out_model:
+        raise ValueError("--report tells of a pool that has run: a model, a trace, --agents and --out stand without it")
+    report = Report.read(asked.report)
+    if report.visits is None:
+        raise ValueError(f"{asked.report}: it has no lines of jobs: mpsim writes them with --jobs")
+    return [["node", *heads(within, percents)], [asked.node, *figures(pooled(report, asked.node).wait, within, percents)]]
+
+
+def _of_agents(asked, within, percents):
+    if not asked.model or not asked.trace or not asked.agents:
+        raise ValueError("a pool wants a model, a trace and --agents; or --report")
+    agents = numbers_of(asked.agents)
+    if (asked.out or asked.out_model) and len(agents) > 1:
+        raise ValueError(f"--agents {asked.agents}: a trace and a model are those of one number of agents")
+    queue = Queue(asked.model, Trace.read(asked.trace), asked.node)
+    rows = []
+    with Progress(len(agents) + 1, "runs") as tell:
+        for row in staffing(queue, agents, within, percents, asked.by):
+            rows.append(row)
+            tell(len(rows))
+    if asked.out or asked.out_model:
+        model, trace = queue.with_pool(agents[0], asked.by)
+        if asked.out:
+            with written(asked.out) as file:
+                csv.writer(file, lineterminator="\n").writerows(trace.lines())
+        if asked.out_model:
+            with written(asked.out_model) as file:
+                file.write(model)
+    return rows

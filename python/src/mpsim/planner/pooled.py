@@ -1,0 +1,156 @@
+"""The visits of a pool: all agents who share one queue, together. `planner pool` makes the model of one, and the names of its nodes are these."""
+
+from array import array
+
+from ..lines import Node
+from ..model import nodes_of
+from ..node_visits import NodeVisits, percentile_of
+
+
+def queue_name(pool):
+    """The node at which the calls of a pool come, where they wait, or are told apart."""
+    return f"{pool}_queue"
+
+
+def agent_name(pool, number):
+    """The node of an agent, from 1."""
+    return f"{pool}_{number}"
+
+
+def pooled(report, pool):
+    """The visits of a pool (NodeVisits) in a report (Report) with visits: of each call when it came to the queue, for how long it waited, and when
+    its service ended. Raises ValueError where the report has no such pool, or where more calls were served at once than the pool has agents: then the
+    trace was made for another one.
+
+    >>> import mpsim
+    >>> from mpsim.planner.pooled import pooled
+    >>> model = "model 2\\nsource door\\ndelay desk_queue desk_wait from door\\ntrunk desk 1 talk from desk_queue\\n"
+    >>> report = mpsim.run(model, [("source", "time", "talk", "desk_wait"), ("door", 0, 9, 0), ("door", 2, 4, 7)], jobs=True)
+    >>> [(it.arrive, it.wait, it.depart) for it in pooled(report, "desk")]
+    [(0, 0, 9), (2, 7, 13)]
+    """
+    if _kind(report, pool) == "trunk" and _kind(report, queue_name(pool)) == "delay":
+        return _of_trunk_group(report, pool)
+    agents = [report.visits[it] for it in _agents_of(report, pool)]
+    if not agents:
+        names = ", ".join(it.name for it in report.nodes)
+        raise ValueError(f"the report has no pool {pool!r}, neither by a trunk group nor agent by agent; its nodes are {names}")
+    # One agent has no split.
+    return _of_agents(pool, report.visits.get(queue_name(pool), agents[0]), agents)
+
+
+def _kind(report, name):
+    return report[name].kind if name in report else None
+
+
+def _agents_of(report, pool):
+    """The names of the servers of a pool that has one for each agent."""
+    agents = []
+    while _kind(report, agent_name(pool, len(agents) + 1)) == "server":
+        agents.append(agent_name(pool, len(agents) + 1))
+    return agents
+
+
+def _named_as_pools(report):
+    """The names that a queue makes those of a pool: what comes there goes on to a trunk group, or to servers. Where the model is known the delay of
+    a trunk group has the column of waits."""
+    for it in report.nodes:
+        if not it.name.endswith(queue_name("")):
+            continue
+        pool = it.name.removesuffix(queue_name(""))
+        if it.kind == "delay" and _kind(report, pool) == "trunk":
+            asked = [node.asked for node in nodes_of(report.model) if node.name == it.name] if report.model else []
+            if asked not in ([], [f"{pool}_wait"]):
+                continue
+            agents = [pool]
+        elif it.kind == "split":
+            agents = _agents_of(report, pool)
+        else:
+            continue
+        if agents and it.out == sum(report[name].in_ for name in agents):
+            yield pool
+
+
+def pools(report):
+    """The names of the pools of a report (list of str), in the order of its nodes, found by the names that `planner pool` gives: a trunk group
+    behind a delay, or servers behind a split. One that loses a call is none: its trace was made for another number of agents.
+
+    >>> import mpsim
+    >>> from mpsim.planner.pooled import pools
+    >>> model = "model 2\\nsource door\\ndelay desk_queue desk_wait from door\\ntrunk desk 1 talk from desk_queue\\n"
+    >>> pools(mpsim.run(model, [("source", "time", "talk", "desk_wait"), ("door", 0, 9, 0), ("door", 2, 4, 7)]))
+    ['desk']
+    """
+    return [it for it in _named_as_pools(report) if not _lost(report, it)]
+
+
+def _lost(report, pool):
+    return report[pool].lost if _kind(report, pool) == "trunk" else 0
+
+
+def pool_lines(reports, names=(), verb="are those of"):
+    """What there is to say of the pools of reports, of those of some names alone where any are given: a line (str) for each."""
+    found = {}
+    for report in reports:
+        for pool in _named_as_pools(report):
+            found.setdefault(pool, []).append(report)
+    for pool, some in found.items():
+        agents, lost = _agents_of(some[0], pool), max(_lost(it, pool) for it in some)
+        if names and pool not in names:
+            continue
+        if lost:
+            yield f"warning: {pool} loses {lost} calls: if it is a pool, its trace was made for another number of agents, and no figure of it holds"
+        else:
+            is_trunk = _kind(some[0], pool) == "trunk"
+            yield f"{pool} is a pool: its waits {verb} {queue_name(pool) if is_trunk else f'{agents[0]} to {agents[-1]}'}"
+
+
+def parts(report, pool):
+    """The names of the nodes of a pool (list of str) in place of which it stands as a whole: its queue, and its trunk group, or what gathers the
+    calls that its agents let out."""
+    ends = (it.name for it in report.nodes if it.kind == "delay" and it.name.startswith(f"{pool}_end"))
+    return [queue_name(pool), pool, *(() if _kind(report, pool) == "trunk" else ends)]
+
+
+def with_pools(report):
+    """The nodes of a report by their names (a dict of str to Node), in its order, with a Node of the kind "pool" in place of the `parts` of each
+    pool. Without visits it has no percentiles and no `max`, and it never has a `peak`: they are None."""
+    place = {part: pool for pool in pools(report) for part in parts(report, pool)}
+    names = dict.fromkeys(place.get(it.name, it.name) for it in report.nodes)
+    return {name: _node(report, name) if name in place.values() else report[name] for name in names}
+
+
+def _node(report, pool):
+    """A pool as a node."""
+    queue, is_trunk = report[queue_name(pool)], _kind(report, pool) == "trunk"
+    agents = [report[it] for it in ([pool] if is_trunk else _agents_of(report, pool))]
+    # Who is in the delay waits.
+    wait = queue.area if is_trunk else sum(it.wait for it in agents)
+    busy, area = sum(it.busy for it in agents), sum(it.area for it in [queue, *agents])
+    util = agents[0].util if is_trunk else 10**4 * busy // (len(agents) * report.span) / 10**4 if report.span else None
+    waits = None if report.visits is None else pooled(report, pool).waits()
+    tail = [None] * 4 if waits is None else [percentile_of(waits, it) for it in (100, 50, 90, 99)]
+    return Node(pool, "pool", queue.in_, sum(it.out for it in agents), 0, agents[0].held, wait, *tail, busy, area, None, util)
+
+
+def _of_trunk_group(report, pool):
+    lost = report[pool].lost
+    if lost:
+        raise ValueError(f"{lost} calls find no free agent at {pool}: the trace was made for another number of them")
+    queue, group = report.visits[queue_name(pool)], report.visits[pool]
+    waits = map(int.__sub__, queue.depart, queue.arrive)
+    return _together(pool, queue, waits, dict(zip(group.job, group.depart)))
+
+
+def _of_agents(pool, queue, agents):
+    waits = {job: wait for it in agents for job, wait in zip(it.job, it.wait)}
+    ends = {job: depart for it in agents for job, depart in zip(it.job, it.depart)}
+    return _together(pool, queue, map(waits.__getitem__, queue.job), ends)
+
+
+def _together(pool, queue, waits, ends):
+    """The visits of a pool whose calls came to a queue (NodeVisits), with their waits and by their records the ends of their services."""
+    found = NodeVisits(pool)
+    found.job, found.arrive, found.wait = queue.job, queue.arrive, array("q", waits)
+    found.depart = array("q", map(ends.__getitem__, queue.job))
+    return found

@@ -1,0 +1,220 @@
+"""How a row of an export becomes a record of a trace."""
+
+from .lengths import GREATEST_VALUE
+from .names import name_for
+from .times import DAY, Asks, Cache, Unread
+
+# Moments are kept as numbers of 64 bits.
+MOST = 1 << 62
+
+
+class Times:
+    """A column of times: `column` (int) and `how` it is read (Moments), in a Zone; where it has the time of the day alone, `dates` has the day: a
+    pair of a column and how that is read, or None."""
+
+    def __init__(self, column, how, zone, dates=None):
+        self.column, self.how, self.zone, self.dates = column, how, zone, dates
+        self._seen = {}
+
+    def first(self, row):
+        """The moment of a row. Without a date it is of day 0."""
+        if self.dates is None:
+            return self.how.of(row[self.column])
+        column, how = self.dates
+        try:
+            day = how.dates[row[column]]
+        except ValueError as fault:
+            fault.column = column
+            raise
+        return self.zone.utc(day + self.how.of(row[self.column]), self._seen)
+
+    def later(self, row, than):
+        """The moment of a row that isn't before another one: a time of the day alone is the next one from that on."""
+        value = self.how.of(row[self.column], than)
+        if not self.how.is_of_day:
+            return value
+        midnight = self.zone.wall(than) // DAY * DAY
+        moment = self.zone.utc(midnight + value, self._seen, than)
+        return moment if moment >= than else self.zone.utc(midnight + DAY + value, self._seen, than)
+
+
+class Demand:
+    """A column of lengths (Lengths); `empty` are the ticks of an empty field, or None where its row is left out."""
+
+    def __init__(self, name, column, how, empty=None):
+        self.name, self.column, self.how, self.empty = name, column, how, empty
+        self.code = None
+
+    def of(self, row, begun):
+        text = row[self.column]
+        return self.empty if self.empty is not None and not text.strip() else self.how.ticks[text]
+
+    def many(self, columns):
+        return list(map(self.how.ticks.__getitem__, columns[self.column]))
+
+    @property
+    def rounded(self):
+        """How many different texts are no whole ticks."""
+        return self.how.rounded
+
+
+class Sum:
+    """Columns of lengths (`parts`, a list of Demand) that have one name, and are added up, each to the nearest tick."""
+
+    def __init__(self, parts):
+        self.parts, self.name, self.column = parts, parts[0].name, parts[0].column
+        self.code = None
+
+    def of(self, row, begun):
+        total = 0
+        for it in self.parts:
+            try:
+                total += it.of(row, begun)
+            except (Unread, Asks) as fault:
+                fault.column = it.column
+                raise
+        if total > GREATEST_VALUE:
+            raise Unread("above 2^36 ticks")
+        return total
+
+    def many(self, columns):
+        totals = list(map(sum, zip(*(it.many(columns) for it in self.parts))))
+        if max(totals) > GREATEST_VALUE:
+            raise Unread("one by one")
+        return totals
+
+    @property
+    def rounded(self):
+        return sum(it.rounded for it in self.parts)
+
+
+class End:
+    """What is from the moment at which a service begins to that of a column (Times), in ticks, to the nearest."""
+
+    def __init__(self, name, times, tick, empty=None):
+        self.name, self.column, self.times, self.tick, self.empty = name, times.column, times, tick, empty
+        self.code = None
+
+    def of(self, row, begun):
+        if self.empty is not None and not row[self.column].strip():
+            return self.empty
+        end = self.times.later(row, begun)
+        if end < begun:
+            raise Unread("before it begins")
+        ticks = (2 * (end - begun) + self.tick) // (2 * self.tick)
+        if ticks > GREATEST_VALUE:
+            raise Unread("above 2^36 ticks")
+        return ticks
+
+    def many(self, columns):
+        raise Unread("one by one")
+
+
+class Constant:
+    """Ticks that all records have."""
+
+    def __init__(self, name, ticks):
+        self.name, self.column, self.ticks = name, None, ticks
+        self.code = None
+
+    def of(self, row, begun):
+        return self.ticks
+
+    def many(self, columns):
+        return [self.ticks] * len(columns[0])
+
+
+class Code:
+    """A column of words as numbers from 0, in the order in which records that stay have them first."""
+
+    def __init__(self, name, column):
+        self.name, self.column, self.codes = name, column, {}
+
+    def of(self, row, begun):
+        # The words of a row that is left out get no number: `code` is asked for those of a row that stays.
+        return 0
+
+    def many(self, columns):
+        return []
+
+    def code(self, row):
+        return self.codes.setdefault(row[self.column].strip(), len(self.codes))
+
+
+class Left(ValueError):
+    """A row that is left out: the number of the column that can't be read, None where it is the whole row, and why."""
+
+    def __init__(self, column, why):
+        super().__init__(column, why)
+        self.column, self.why = column, why
+
+
+class Records:
+    """Makes records of rows. `width` is how many fields the header has, `time` when a job comes, `answered` when a service of an `End` begins
+    (Times), or None where it is then; `values` are what makes the columns of the trace. `source` is a column, or `only` the name that all have;
+    `renamed` has names that were given, and `known` those that there are, None where any may be."""
+
+    def __init__(self, width, time, answered, values, source=None, only=None, renamed=None, known=None):
+        self.width, self.time, self.answered, self.values = width, time, answered, values
+        self.source, self.only, self.known = source, only, known
+        self.renamed, self.names = renamed or {}, {}
+        self._named = Cache(self._name_of)
+        self._codes = [at for at, it in enumerate(values) if it.code]
+
+    def _name_of(self, text):
+        text = text.strip()
+        if not text:
+            raise Unread("empty")
+        if text in self.names:
+            return self.names[text]
+        made = self.renamed.get(text) or name_for(text, {*self.names.values(), *self.renamed.values()})
+        if self.known is not None and made not in self.known:
+            raise Unread(f"the model has no source {made}")
+        self.names[text] = made
+        return made
+
+    def many(self, rows):
+        """Records of rows of which none wants a look by itself, as columns: sources, moments, and each of the values. Raises ValueError where one
+        may; nothing that tells is changed then."""
+        if self.time.dates or self.answered or set(map(len, rows)) != {self.width}:
+            raise Unread("one by one")
+        columns = list(zip(*rows))
+        stamps = self.time.how.many(columns[self.time.column])
+        if not -MOST < min(stamps) <= max(stamps) < MOST:
+            raise Unread("one by one")
+        values = [it.many(columns) for it in self.values]
+        named = [self.only] * len(rows) if self.source is None else list(map(self._named.__getitem__, columns[self.source]))
+        for at in self._codes:
+            values[at] = list(map(self.values[at].code, rows))
+        return [named, stamps, *values]
+
+    def of(self, row):
+        """A record: a tuple of the source, the moment, and the values. Raises Left where the row can't be read, and Asks with the `column`."""
+        if len(row) != self.width and (len(row) < self.width or any(row[self.width :])):
+            raise Left(None, f"another number of fields than the header's {self.width}")
+        at = self.time.column
+        try:
+            stamp = begun = self.time.first(row)
+            if not -MOST < stamp < MOST:
+                raise Unread("out of the range of times")
+            if self.answered is not None:
+                at = self.answered.column
+                begun = self.answered.later(row, stamp)
+                if begun < stamp:
+                    raise Unread("before the job comes")
+            made = [None, stamp]
+            for it in self.values:
+                at = it.column
+                made.append(it.of(row, begun))
+            at = self.source
+            made[0] = self.only if at is None else self._named[row[at]]
+        except Unread as fault:
+            raise Left(getattr(fault, "column", at), str(fault)) from None
+        except OverflowError:
+            raise Left(at, "out of the range of dates") from None
+        except Asks as fault:
+            fault.column = getattr(fault, "column", at)
+            raise
+        for at in self._codes:
+            made[at + 2] = self.values[at].code(row)
+        return made

@@ -1,0 +1,72 @@
+"""The customer's numbers: who was served, how soon, and how long the others waited."""
+
+import csv
+from bisect import bisect_right
+
+from ..node_visits import HELD, LOST, percentile_of
+from . import reports
+from .files import written
+
+EXAMPLE = "planner service jobs.txt --node desk --within 20 --percentile 95"
+PERCENTS = 50, 90, 95, 99
+
+
+def words(parser):
+    reports.words(parser)
+    reports.places(parser)
+    figure_words(parser)
+
+
+def figure_words(parser):
+    parser.add_argument("--within", type=int, action="append", metavar="TICKS", help="the share served within so many ticks (20); may be repeated")
+    parser.add_argument("--percentile", type=float, action="append", metavar="P", help="of the waits (50, 90, 95 and 99); may be repeated")
+
+
+def heads(within=(20,), percents=PERCENTS):
+    """The names of the figures (list of str) that `figures` gives."""
+    shares = [f"within_{it}_of_{whom}" for it in within for whom in ("all", "departed")]
+    return ["came", "departed", "lost", "held", "mean_wait", *(f"p{it:g}" for it in percents), "max", *shares]
+
+
+def figures(waits, within=(20,), percents=PERCENTS):
+    """The figures (list of int, float or None) of waits as a NodeVisits has them, lost and held ones with them: how many came, departed, were lost
+    and are held; the mean of the waits of those that departed, to three digits behind the point, their percentiles and the greatest, None where none
+    departed; and for each of `within` the share of all that came, and the share of those that departed, that departed after a wait of at most so many
+    ticks, to six digits, None where there is nobody. Who was lost or is held isn't served.
+
+    >>> from mpsim.planner.service import figures
+    >>> figures([0, 3, -1, 7], within=[3], percents=[50])
+    [4, 3, 1, 0, 3.333, 3, 7, 0.5, 0.666667]
+    """
+    departed = sorted(it for it in waits if it >= 0)
+    counts = [len(waits), len(departed), sum(it == LOST for it in waits), sum(it == HELD for it in waits)]
+    told = [percentile_of(departed, it) for it in percents] if departed else [None] * len(percents)
+    mean, greatest = (round(sum(departed) / len(departed), 3), departed[-1]) if departed else (None, None)
+    shares = [round(bisect_right(departed, it) / count, 6) if count else None for it in within for count in (len(waits), len(departed))]
+    return [*counts, mean, *told, greatest, *shares]
+
+
+def service(visits, within=(20,), percents=PERCENTS):
+    """The header and the rows (lists) of a table of visits (a list of NodeVisits), a row for each, with what `figures` gives.
+
+    >>> import mpsim
+    >>> from mpsim.planner.service import service
+    >>> model = "model 1\\nsource door\\nloss desk 2 =4 from door\\n"
+    >>> visits = mpsim.run(model, [("door", 0), ("door", 0), ("door", 0)], jobs=True).visits
+    >>> for row in service([visits["desk"]], within=[3], percents=[90]):
+    ...     print(row)
+    ['node', 'came', 'departed', 'lost', 'held', 'mean_wait', 'p90', 'max', 'within_3_of_all', 'within_3_of_departed']
+    ['desk', 3, 2, 1, 0, 2.0, 4, 4, 0.333333, 0.5]
+    """
+    yield ["node", *heads(within, percents)]
+    for it in visits:
+        yield [it.node, *figures(it.wait, within, percents)]
+
+
+def main(asked):
+    report = reports.report_of(asked)
+    visits = reports.visits_of(report, asked) or reports.all_visits(report)
+    # All is worked out before a row is written.
+    rows = list(service(visits, asked.within or (20,), asked.percentile or PERCENTS))
+    with written() as file:
+        csv.writer(file, lineterminator="\n").writerows(rows)

@@ -1,0 +1,112 @@
+"""How long jobs were in the network: from the source where they came to the node where they left."""
+
+import csv
+from array import array
+from bisect import bisect_right
+from typing import NamedTuple
+
+from ..node_visits import HELD, percentile_of
+from . import reports
+from .files import written
+from .service import PERCENTS
+
+EXAMPLE = "planner sojourns model.txt trace.csv --by source --within 300"
+
+
+class Sojourn(NamedTuple):
+    """A job's way: its record (int, from 1), its source (str), when it came (int, ticks), the node where it left (str), whether it was lost there,
+    and how long it was in the network (int, ticks)."""
+
+    job: int
+    source: str
+    came: int
+    left_at: str
+    lost: bool
+    sojourn: int
+
+
+def words(parser):
+    reports.words(parser)
+    parser.add_argument("--by", choices=["both", "source", "end", "all"], default="both", help="a row a source, a node where jobs left, or both")
+    parser.add_argument("--within", type=int, action="append", default=[], metavar="TICKS", help="the share of sojourns of at most so many ticks")
+    parser.add_argument("--percentile", type=float, action="append", metavar="P", help="of the sojourns (50, 90, 95 and 99); may be repeated")
+    parser.add_argument("--each", action="store_true", help="a row a job in place of the table")
+
+
+def sojourns(report):
+    """Each job's way (Sojourn) of a report with visits, by their records. A job with parts is done when its last part has left the network, and of
+    several at that time by the node that stands last in the report; one of which a join holds a part to the end has no sojourn, and is left out.
+
+    >>> import mpsim
+    >>> from mpsim.planner.sojourns import sojourns
+    >>> model = "model 1\\nsource door\\nloss desk 2 =4 from door\\ndelay out =1 from desk\\n"
+    >>> for it in sojourns(mpsim.run(model, [("door", 0), ("door", 0), ("door", 1)], jobs=True)):
+    ...     print(it.job, it.left_at, it.lost, it.sojourn)
+    1 out False 5
+    2 out False 9
+    3 desk True 0
+    """
+    count = report.jobs + 1
+    came, source = array("q", [-1]) * count, array("b", [0]) * count
+    end, where, lost = array("q", [-1]) * count, array("b", [0]) * count, bytearray(count)
+    held = set()
+    # Nodes are in the order of the network: what a job visits later stands behind, and a job leaves at its last visit among those of the latest end.
+    for number, node in enumerate(report.nodes):
+        visits = report.visits[node.name]
+        if node.kind == "source":
+            for job, arrive in zip(visits.job, visits.arrive):
+                came[job], source[job] = arrive, number
+        for job, arrive, wait, depart in zip(visits.job, visits.arrive, visits.wait, visits.depart):
+            if wait == HELD:
+                held.add(job)
+            gone = arrive if wait < 0 else depart
+            if gone >= end[job]:
+                end[job], where[job], lost[job] = gone, number, wait < 0
+    names = [it.name for it in report.nodes]
+    for job in range(1, count):
+        if job not in held:
+            yield Sojourn(job, names[source[job]], came[job], names[where[job]], bool(lost[job]), end[job] - came[job])
+
+
+def table(report, by="both", within=(), percents=PERCENTS):
+    """The header and the rows (lists) of a table of a report with visits, in the order of its nodes: for each source and each node where jobs left
+    (`by` "both"), for each of one of them ("source", "end"), or for all jobs ("all"), how many they were, the mean of their sojourns to three digits,
+    percentiles and the greatest, and the share of them that was in the network for at most so many ticks, to six digits. Who left by being lost is
+    counted apart where rows are by the end.
+
+    >>> import mpsim
+    >>> from mpsim.planner.sojourns import table
+    >>> report = mpsim.run("model 1\\nsource door\\nserver desk =4 from door\\n", [("door", 0), ("door", 0)], jobs=True)
+    >>> for row in table(report, within=[4], percents=[90]):
+    ...     print(*row)
+    source left_at how jobs mean_sojourn p90 max within_4
+    door desk left 2 6.0 8 8 0.5
+    """
+    is_by_source, is_by_end = by in ("both", "source"), by in ("both", "end")
+    rank = {it.name: at for at, it in enumerate(report.nodes)}
+    found = {}
+    for it in sojourns(report):
+        key = (rank[it.source] if is_by_source else -1, rank[it.left_at] if is_by_end else -1, it.lost and is_by_end)
+        found.setdefault(key, array("q")).append(it.sojourn)
+    heads = ["source"] * is_by_source + ["left_at", "how"] * is_by_end
+    yield [*heads, "jobs", "mean_sojourn", *(f"p{it:g}" for it in percents), "max", *(f"within_{it}" for it in within)]
+    names = [it.name for it in report.nodes]
+    for (source, end, is_lost), times in sorted(found.items()):
+        times = sorted(times)
+        shown = [names[source]] * is_by_source + [names[end], "lost" if is_lost else "left"] * is_by_end
+        shares = [round(bisect_right(times, it) / len(times), 6) for it in within]
+        yield [*shown, len(times), round(sum(times) / len(times), 3), *(percentile_of(times, it) for it in percents), times[-1], *shares]
+
+
+def each(report):
+    """The header and the rows (lists) of a table with a row a job."""
+    yield ["job", "source", "came", "left_at", "how", "sojourn"]
+    for it in sojourns(report):
+        yield [it.job, it.source, it.came, it.left_at, "lost" if it.lost else "left", it.sojourn]
+
+
+def main(asked):
+    report = reports.report_of(asked)
+    rows = each(report) if asked.each else list(table(report, asked.by, asked.within, asked.percentile or PERCENTS))
+    with written() as file:
+        csv.writer(file, lineterminator="\n").writerows(rows)

@@ -1,0 +1,86 @@
+"""A report or a sweep as a table, for spreadsheets."""
+
+import csv
+
+from ..lines import NUMBERS
+from ..node_visits import Visit
+from ..runs import run
+from ..sweeps import Sweep, load
+from .files import written
+
+EXAMPLE = """planner table report.txt >nodes.csv
+         planner table model.txt trace.csv --of visits --node desk >visits.csv
+         mpsweep trace.csv agents-*.txt | planner table /dev/stdin --node desk --labels agents-*.txt >table.csv"""
+
+
+def words(parser):
+    parser.add_argument("report", help="a report, or a sweep; or a model")
+    parser.add_argument("trace", nargs="?", help="behind a model: its trace, which is run")
+    parser.add_argument("--of", choices=["nodes", "exits", "visits"], default="nodes")
+    parser.add_argument("--node", action="append", default=[], metavar="NAME", help="rows of this node alone; may be repeated")
+    parser.add_argument("--labels", nargs="+", metavar="LABEL", help="what the scenarios of a sweep are called, as the names of their models")
+
+
+def heads(of="nodes"):
+    """The names of the columns (list of str)."""
+    return {"nodes": ["node", "kind", *NUMBERS], "exits": ["node", "output", "jobs", "sojourn"], "visits": list(Visit._fields)}[of]
+
+
+def rows(report, of="nodes", nodes=()):
+    """The rows (lists) of a report: of its nodes, its exits or its visits, in the order of its lines, where `nodes` are named of those alone. A
+    figure that there isn't is None. Raises ValueError for a node that isn't there, and where there are no visits."""
+    for name in nodes:
+        if name not in report:
+            raise ValueError(f"there is no node {name!r}; the report has {', '.join(it.name for it in report.nodes)}")
+    if of == "visits" and report.visits is None and report.jobs:
+        raise ValueError("the report has no lines of jobs: mpsim writes them with --jobs")
+    names = set(nodes or (it.name for it in report.nodes))
+    if of == "visits":
+        return (list(it) for name, visits in (report.visits or {}).items() if name in names for it in visits)
+    if of == "exits":
+        return (list(it) for it in report.exits if it.name in names)
+    return ([*it[:-1], None if it.util is None else f"{it.util:.4f}"] for it in report.nodes if it.name in names)
+
+
+def table(told, of="nodes", nodes=(), head="scenario"):
+    """The header and the rows (lists) of a report or a sweep. Those of a sweep have in front the label, the status and the span of their scenario,
+    and at the end what is told of one that is refused, which has one row.
+
+    >>> import mpsim
+    >>> from mpsim.planner.table import table
+    >>> report = mpsim.run("model 1\\nsource door\\nserver desk =4 from door\\n", [("door", 0), ("door", 1)])
+    >>> for row in table(report, "exits"):
+    ...     print(row)
+    ['node', 'output', 'jobs', 'sojourn']
+    ['desk', 0, 2, 11]
+    """
+    names = heads(of)
+    if not isinstance(told, Sweep):
+        return _with_head(names, rows(told, of, nodes))
+    # Each scenario is asked before a row is written.
+    found = [(it, rows(it.report, of, nodes) if it.report is not None else None) for it in told.values()]
+    return _with_head([head, "status", "span", *names, "refusal"], _of_scenarios(found, len(names)))
+
+
+def _with_head(names, found):
+    yield names
+    yield from found
+
+
+def _of_scenarios(found, count):
+    for it, mine in found:
+        if mine is None:
+            yield [it.label, it.status, *[None] * (count + 1), it.refusal.told]
+        else:
+            yield from ([it.label, it.status, it.report.span, *row, None] for row in mine)
+
+
+def main(asked):
+    if asked.trace is not None:
+        told = run(asked.report, asked.trace, jobs=asked.of == "visits")
+    else:
+        told = load(asked.report, asked.labels)
+    if asked.labels and not isinstance(told, Sweep):
+        raise ValueError("--labels are those of a sweep, and this is one report")
+    with written() as file:
+        csv.writer(file, lineterminator="\n").writerows(table(told, asked.of, asked.node))

@@ -1,0 +1,210 @@
+"""Days and hours, with figures worked out by hand, by `datetime`, or by a run of each day alone."""
+
+import csv
+import datetime
+import io
+import math
+import random
+import unittest
+import zoneinfo
+from collections import defaultdict
+
+from commands import InFolder, planner
+from ground import DESK, EXAMPLES, Test, nodes_of, words_of
+
+import mpsim
+from mpsim.planner.calendar import Calendar
+from mpsim.planner.days import by_calendar, by_ticks, cut
+from mpsim.planner.hours import hours
+
+TOLD = DESK.replace("model 1\n", "model 1\n# a tick is 1s, time 0 is 2026-03-27T08:00:00+01:00 in Europe/Berlin\n")
+NO_TICK = "how long is a tick? --tick and --start say it, or the first lines of {}, as planner prepare writes them"
+SECOND, HOUR, DAY = 10**6, 3600, 86400
+ZONE = zoneinfo.ZoneInfo("Europe/Berlin")
+
+
+def clock_at(tick, start, zone=ZONE):
+    """What a clock shows so many seconds behind a moment."""
+    return (start + datetime.timedelta(seconds=tick)).astimezone(zone)
+
+
+def rows_of(text, key, **wanted):
+    """The rows of a table (dicts) by a column, of those that have these values."""
+    return {it[key]: it for it in csv.DictReader(io.StringIO(text)) if all(it[name] == value for name, value in wanted.items())}
+
+
+def came(text):
+    """Of a table of hours how many came in each part."""
+    return {line.split(",")[0]: line.split(",")[1] for line in text.splitlines()[1:]}
+
+
+class Cuts(Test):
+    def test_borders(self):
+        """A time at a border is in the piece that begins there; at the time of opening it is in, at that of closing it isn't."""
+        days, left = cut([0, 9, 10, 19, 20, 21], [0, 10, 20], ["a", "b"])
+        self.assertEqual(([(it.name, it.zero, it.records) for it in days], left), ([("a", 0, (0, 1)), ("b", 10, (2, 3))], 2))
+        days, left = cut([2, 3, 7, 8, 13, 18], [0, 10, 20], ["a", "b"], [3, 13], [8, 18])
+        self.assertEqual(([(it.name, it.zero, it.end, it.records) for it in days], left), ([("a", 3, 10, (1, 2)), ("b", 13, 20, (4,))], 3))
+
+    def test_days_of_a_zone(self):
+        """Each record is in the day that `datetime` has it in, over a year."""
+        start = datetime.datetime(2026, 1, 1, 7, 30, tzinfo=ZONE)
+        draw = random.Random(3)
+        times = [draw.randrange(365 * DAY) for _ in range(4000)]
+        pieces, left = by_calendar(times, Calendar(SECOND, start.isoformat(), "Europe/Berlin"), "9:00", "18:00")
+        want = defaultdict(list)
+        for at, time in enumerate(times):
+            clock = clock_at(time, start.astimezone(datetime.timezone.utc))
+            if 9 <= clock.hour < 18:
+                want[str(clock.date())].append(at)
+        self.assertEqual({it.name: list(it.records) for it in pieces}, want)
+        self.assertEqual(left, 4000 - sum(map(len, want.values())))
+        for it in pieces:
+            clock = clock_at(it.zero, start.astimezone(datetime.timezone.utc))
+            self.assertEqual((str(clock.date()), clock.hour, clock.minute), (it.name, 9, 0))
+        self.assertEqual({it.name for it in pieces if it.end - it.zero != 15 * HOUR}, set())
+
+    def test_pieces_of_ticks(self):
+        pieces, _ = by_ticks([250, 0, 199, 100, 200], 100)
+        self.assertEqual([tuple(it) for it in pieces], [("0..99", 0, 100, (1,)), ("100..199", 100, 200, (2, 3)), ("200..299", 200, 300, (0, 4))])
+        self.assertEqual(by_ticks([], 100)[0], [])
+
+
+class Days(InFolder):
+    def trace(self, rows, name="t.csv"):
+        return self.file(name, "source,time,d\n" + "".join(f"door,{time},{d}\n" for time, d in rows))
+
+    def test_a_table_of_days(self):
+        """Three calls a day from 9 o'clock on, 10 apart: of 30 each they wait 0, 20 and 40; of 5 each, 0. March 29 has 23 hours: the record of
+        2 days less 4 hours is of 4 o'clock that day, and that of 3 days of 9 o'clock of the 30th."""
+        first = [(HOUR + 10 * it, 30) for it in range(3)] + [(DAY + HOUR + 10 * it, 5) for it in range(3)]
+        trace, model = self.trace([*first, (3 * DAY, 30), (2 * DAY - 4 * HOUR, 7)]), self.file("m.txt", TOLD)
+        told = rows_of(self.tells("days", model, trace), "day", node="desk")
+        self.assertEqual(list(told), ["2026-03-27", "2026-03-28", "2026-03-29", "2026-03-30"])
+        figures = [[it[name] for name in ("status", "span", "in", "wait", "max", "util")] for it in told.values()]
+        self.assertEqual(figures[:2], [["0", "90", "3", "60", "40", "1.0000"], ["0", "25", "3", "0", "0", "0.6000"]])
+        left = "planner: 1 records come before a day opens or after it closes, and are left out\n"
+        told = rows_of(self.tells("days", model, trace, "--open", "9:00", "--close", "10:00", error=left), "day", node="desk")
+        self.assertEqual({day: it["span"] for day, it in told.items()}, {"2026-03-27": "90", "2026-03-28": "25", "2026-03-30": "30"})
+        told = rows_of(self.tells("days", model, trace, "--open", "3:00", "--node", "desk"), "day")
+        self.assertEqual({day: it["span"] for day, it in told.items()}["2026-03-30"], str(6 * HOUR + 30))
+
+    def test_each_day_is_a_run_of_its_own(self):
+        draw = random.Random(5)
+        rows = [(draw.randrange(10 * DAY), draw.randrange(9000)) for _ in range(300)]
+        status, out, error = planner("days", self.file("m.txt", DESK), self.trace(rows), "--tick", "1s", "--start", "2026-06-01")
+        told, over, figures = rows_of(out, "day", node="desk"), 0, ("in", "wait", "max", "p50", "p90", "p99", "busy", "area", "peak")
+        for day in range(10):
+            mine = [(time % DAY, d) for time, d in rows if time // DAY == day]
+            text = str(mpsim.run(DESK, [("door", *it) for it in mine]))
+            want = {it["name"]: it for it in nodes_of(text)}["desk"]
+            got = told[f"2026-06-{day + 1:02}"]
+            self.assertEqual([got[name] for name in figures], [want[name] for name in figures])
+            over += int(words_of(text, "jobs")[0][3]) > DAY
+        self.assertGreater(over, 0)
+        said = f"planner: on {over} of 10 days somebody is still there when the next begins, who isn't there in its run\n"
+        self.assertEqual((status, error), (0, said))
+
+    def test_who_stays(self):
+        """One stays over the end of its piece, one leaves at that very moment."""
+        trace, model = self.trace([(0, 150), (90, 5), (250, 5), (390, 10), (490, 9)]), self.file("m.txt", DESK)
+        said = "planner: on 1 of 4 days somebody is still there when the next begins, who isn't there in its run\n"
+        told = rows_of(self.tells("days", model, trace, "--every", 100, error=said), "day", node="desk")
+        self.assertEqual({day: it["span"] for day, it in told.items()}, {"0..99": "155", "200..299": "55", "300..399": "100", "400..499": "99"})
+
+    def test_a_day_that_is_refused(self):
+        trace, model = self.trace([(0, 60), (DAY, 30)]), self.file("m.txt", TOLD.replace("model 1\n", "model 1\nbound 50\n"))
+        status, out, _ = planner("days", model, trace)
+        rows = list(csv.reader(io.StringIO(out)))
+        told = "mpsim: node desk position 0 passes the bound at time 60"
+        self.assertEqual((status, rows[1][:2], rows[1][-1]), (11, ["2026-03-27", "5"], told))
+        self.assertEqual((rows[2][:2], len(rows[1])), (["2026-03-28", "0"], len(rows[0])))
+
+    def test_refusals(self):
+        trace, model = self.trace([(0, 6), (DAY, 3), (5, "2,5")]), self.file("m.txt", TOLD)
+        other = self.file("u.csv", 'source,time,d\ndoor,0,1\ndoor,86400,1\ndoor,90000,"2,5"\n')
+        self.refuses(f'{other}: trace record 3: field 3 is not a number in range (column d): door,3600,"2,5"', "days", model, other, status=4)
+        trace = self.trace([(0, 6)])
+        bad = self.file("b.txt", TOLD.replace("server desk", "server Desk"))
+        self.refuses(f"{bad}: model line 4: word 2 not allowed: server Desk d from door", "days", bad, trace, status=3)
+        self.refuses(NO_TICK.format("the model"), "days", self.file("n.txt", DESK), trace)
+        self.assertEqual(planner("days", model, trace, "--every", "0")[0], 1)
+        self.assertEqual(planner("days", model, trace, "--every", "10", "--open", "8:00")[0], 1)
+        self.refuses('"8 o\'clock": no time of the day as h:mm or h:mm:ss', "days", model, trace, "--open", "8 o'clock")
+        told = f"time 20260302080017 is {20260302080017 // DAY} days behind time 0: a tick is shorter than 1 s, or these are no ticks"
+        self.refuses(told, "days", model, self.trace([(20260302080017, 1)]))
+        self.refuses(f"{self.folder}/absent: No such file or directory", "days", model, self.folder / "absent")
+        self.assertEqual(self.tells("days", model, self.trace([])).count("\n"), 1)
+
+
+class Hours(InFolder):
+    def test_by_hand(self):
+        """Three calls of 8 o'clock, at 0, 10 and on the next day, a Saturday; the second waits 90. One of 9 o'clock."""
+        rows = [(0, 100), (10, 50), (HOUR + 1, 5), (DAY + 5, 1)]
+        model, trace = self.file("m.txt", TOLD), self.file("t.csv", "source,time,d\n" + "".join(f"door,{time},{d}\n" for time, d in rows))
+        jobs = self.file("j.txt", "".join(mpsim.run(model, trace, jobs=True).lines()))
+        head = "came,departed,lost,held,mean_wait,p50,p90,p95,p99,max,within_20_of_all,within_20_of_departed\n"
+        want = f"hour,{head}08:00,3,3,0,0,30.0,0,90,90,90,90,0.666667,0.666667\n09:00,1,1,0,0,0.0,0,0,0,0,0,1.0,1.0\n"
+        self.assertEqual(self.tells("hours", model, trace, "--node", "desk"), want)
+        self.assertEqual(self.tells("hours", jobs, "--node", "desk", "--model", model), want)
+        told = self.tells("hours", model, trace, "--node", "desk", "--by", "weekday", "--within", "89", "--within", 90, "--percentile", "50")
+        self.assertEqual(told.splitlines()[1:], ["Friday,3,3,0,0,30.0,0,90,0.666667,0.666667,1.0,1.0", "Saturday,1,1,0,0,0.0,0,0,1.0,1.0,1.0,1.0"])
+        told = self.tells("hours", model, trace, "--node", "desk", "--by", "each")
+        self.assertEqual(came(told), {"2026-03-27 08:00": "2", "2026-03-27 09:00": "1", "2026-03-28 08:00": "1"})
+        told = self.tells("hours", jobs, "--node", "desk", "--by", "day", "--tick", "1s")
+        self.assertEqual(came(told), {"day 1": "3", "day 2": "1"})
+        self.refuses(NO_TICK.format("a --model"), "hours", jobs, "--node", "desk")
+        self.refuses("hours are those of one node, or of one pool: --node NAME or --pool NAME", "hours", jobs, "--tick", "1s")
+        self.refuses("weekdays want the date of time 0: --start says it", "hours", jobs, "--node", "desk", "--tick", "1s", "--by", "weekday")
+
+    def test_each_hour_as_datetime_has_it(self):
+        """Over the days on which clocks change; the figures are worked out from the lines of the jobs."""
+        draw, start = random.Random(8), datetime.datetime(2026, 10, 23, 5, 17, tzinfo=ZONE).astimezone(datetime.timezone.utc)
+        rows = sorted((draw.randrange(9 * DAY), draw.randrange(2000)) for _ in range(700))
+        text = "".join(mpsim.run("model 1\nsource door\nloss desk 3 d from door\n", [("door", *it) for it in rows], jobs=True).lines())
+        visits = mpsim.Report.parse(text).visits["desk"]
+        names = {
+            "hour": lambda it: f"{it.hour:02}:00",
+            "day": lambda it: str(it.date()),
+            "each": lambda it: f"{it.date()} {it.hour:02}:00",
+            "weekday": lambda it: it.strftime("%A"),
+        }
+        for by, name in names.items():
+            want = defaultdict(lambda: [0, 0, []])
+            for words in words_of(text, "job"):
+                if words[2] == "desk":
+                    part = want[name(clock_at(int(words[4]), start))]
+                    part[0] += 1
+                    if words[5] == "lost":
+                        part[1] += 1
+                    else:
+                        part[2].append(int(words[6]))
+            _, *told = hours(visits, Calendar(SECOND, start.isoformat(), "Europe/Berlin"), by, [100], [90])
+            self.assertEqual({it[0] for it in told}, set(want))
+            order = ["Monday", "Tuesday", "Wednesday", "Thursday", "Friday", "Saturday", "Sunday"] if by == "weekday" else sorted(want)
+            self.assertEqual([it[0] for it in told], [it for it in order if it in want])
+            for part, came, departed, lost, held, mean, p90, greatest, of_all, of_departed in told:
+                _, gone, waits = want[part]
+                share = sum(it <= 100 for it in waits)
+                self.assertEqual((came, departed, lost, held), (len(waits) + gone, len(waits), gone, 0))
+                if waits:
+                    self.assertEqual((mean, greatest), (round(sum(waits) / len(waits), 3), max(waits)))
+                    self.assertEqual(p90, sorted(waits)[math.ceil(0.9 * len(waits)) - 1])
+                    self.assertEqual((of_all, of_departed), (round(share / came, 6), round(share / departed, 6)))
+
+    def test_nobody_and_only_lost_ones(self):
+        """A part from which nobody departed has no wait, and nobody of it is served."""
+        model = "model 1\nsource door\nloss desk 1 d from door\n"
+        visits = mpsim.run(model, [("door", HOUR - 1, 9), ("door", HOUR, 9), ("door", HOUR + 1, 9)], jobs=True).visits["desk"]
+        told = list(hours(visits, Calendar(SECOND)))
+        self.assertEqual(told[1], ["00:00", 1, 1, 0, 0, 0.0, 0, 0, 0, 0, 0, 1.0, 1.0])
+        self.assertEqual(told[2], ["01:00", 2, 0, 2, 0, *[None] * 6, 0.0, None])
+        model = self.file("m.txt", model)
+        trace = self.file("t.csv", "source,time,d\n")
+        self.assertEqual(self.tells("hours", model, trace, "--node", "desk", "--tick", "1s").count("\n"), 1)
+        report = EXAMPLES / "callcentre" / "report.txt"
+        self.refuses(f"{report}: it has no lines of jobs: mpsim writes them with --jobs", "hours", report, "--node", "desk", "--tick", "1s")
+
+
+if __name__ == "__main__":
+    unittest.main()

@@ -1,0 +1,339 @@
+"""The page as its script makes it: what is clicked, typed and chosen, and read there, are the figures of the report's text. It is looked at by a
+browser where Chromium, its driver and selenium are there, and by the stand-in that node runs (looking.py)."""
+
+import http.server
+import random
+import re
+import threading
+import unittest
+from datetime import datetime
+
+from ground import Test, nodes_of, text_of, waits_of
+from looking import DRIVER, NODE, Browser, StandIn, webdriver
+from test_page import MODEL, figures_of, many, number
+
+import mpsim
+from mpsim.page import page
+
+CALLS = text_of(MODEL).replace("bound 1000\n", "")
+
+
+def day(seed=1, calls=700):
+    """A made day: rows of calls that come in a wave, times in seconds."""
+    draw, rows = random.Random(seed), [("source", "time", "g", "kind", "e", "a", "b")]
+    for time in sorted(int(draw.triangular(0, 50000, 20000)) for _ in range(calls)):
+        demands = 1 + int(draw.expovariate(1 / 3)), int(draw.random() < 0.2), 30 + int(draw.expovariate(1 / 200))
+        rows.append((draw.choice(["phone", "phone", "web"]), time, *demands, 20 + int(draw.expovariate(1 / 40)), 5 + int(draw.expovariate(1 / 14))))
+    return rows
+
+
+def places(number):
+    return CALLS.replace("loss expert 2", f"loss expert {number}")
+
+
+class Looked:
+    """The tests; `make` makes who looks."""
+
+    @classmethod
+    def setUpClass(cls):
+        cls.report = mpsim.run(CALLS, day(), jobs=True)
+        cls.text = "".join(cls.report.lines())
+        cls.several = [mpsim.run(places(it), day(), jobs=True) for it in (2, 3, 6)]
+
+    def setUp(self):
+        super().setUp()
+        self.looker = self.make()
+        self.addCleanup(self.looker.close)
+
+    def texts(self, selector):
+        return [text for text, _ in self.looker.all(selector)]
+
+    def attributes(self, selector, name):
+        return [attributes.get(name) for _, attributes in self.looker.all(selector)]
+
+    def nodes(self):
+        """The places of the boxes, by name."""
+        return {name: at for at, name in enumerate(self.attributes("g.node", "data-node"))}
+
+    def shows(self, text, name):
+        """The cards have what a report's text has of a node."""
+        values = zip(map(number, self.attributes(".card", "data-v")), map(number, self.texts(".card b")))
+        cards = dict(zip(self.attributes(".card", "data-figure"), values))
+        self.assertEqual(cards, {word: (value, value) for word, value in figures_of(text)[name].items()}, name)
+
+    def test_each_node_is_clicked(self):
+        self.looker.show(page([self.report]))
+        for name, at in self.nodes().items():
+            self.looker.click("g.node", at)
+            self.shows(self.text, name)
+            self.assertEqual(self.attributes("g.node[aria-pressed=true]", "data-node"), [name])
+            self.assertEqual(self.attributes("#nodes tr.marked", "data-node"), [name])
+        self.looker.click("#nodes tr[data-node=expert] td")
+        self.shows(self.text, "expert")
+        self.looker.pick("#node", self.texts("#node option").index("wrap"))
+        self.shows(self.text, "wrap")
+        self.assertEqual(self.texts("#pictures p"), ["Nobody can wait at this node, or nobody came."])
+
+    def test_node_to_begin_with(self):
+        """That with the longest p90."""
+        self.looker.show(page([self.report]))
+        longest = max(nodes_of(self.text), key=lambda it: int(it["p90"]))["name"]
+        self.assertEqual(self.attributes("g.node.marked", "data-node"), [longest])
+        self.shows(self.text, longest)
+
+    def test_colours_as_one_chooses(self):
+        """The rules of the colours heed what the page says of itself."""
+        self.looker.show(page([self.report]))
+        for at, theme in (1, "light"), (2, "dark"), (0, ""):
+            self.looker.pick("#theme", at)
+            self.assertEqual(self.attributes("html", "data-theme"), [theme])
+
+    def test_by_keys_alone(self):
+        self.looker.show(page([self.report]))
+        self.looker.press("g.node", "Enter", self.nodes()["expert"])
+        self.shows(self.text, "expert")
+        self.looker.press("[data-picture=time]", "Home")
+        came = lost = longest = 0
+        before, texts = None, []
+        while (text := self.texts("[data-told=time]")[0]) != before:
+            before = text
+            texts.append(text)
+            came += int(re.search(r": ([\d,]+) came", text)[1].replace(",", ""))
+            lost += int((re.search(r"([\d,]+) lost", text) or [0, "0"])[1].replace(",", ""))
+            longest = max(longest, int((re.search(r"longest for ([\d,]+)", text) or [0, "0"])[1].replace(",", "")))
+            self.looker.press("[data-picture=time]", "ArrowRight")
+        node = next(it for it in nodes_of(self.text) if it["name"] == "expert")
+        self.assertEqual((came, lost, longest), (int(node["in"]), int(node["lost"]), int(node["max"])))
+        self.looker.press("[data-picture=time]", "ArrowLeft")
+        self.assertEqual(self.texts("[data-told=time]"), [texts[-2]])
+        self.looker.press("[data-picture=waits]", "End")
+        self.assertEqual(self.texts("[data-told=waits]"), [f"100.0 % waited for {int(node['max']):,} or less"])
+        self.looker.press("[data-picture=waits]", "Home")
+        waits = waits_of(self.text, "expert")
+        share = 100 * sum(it <= min(waits) for it in waits) / len(waits)
+        self.assertEqual(self.texts("[data-told=waits]"), [f"{share:.1f} % waited for {min(waits):,} or less"])
+
+    def test_pieces_of_time(self):
+        """One by one, from the lines of the jobs."""
+        self.looker.show(page([self.report]))
+        self.looker.click("g.node", self.nodes()["expert"])
+        width = int(re.search(r"Pieces of ([\d,]+) ticks", self.texts("figcaption")[0])[1].replace(",", ""))
+        visits = [it.split() for it in self.text.splitlines() if it.startswith("job ") and it.split()[2] == "expert"]
+        span = int(re.search(r" span (\d+)", self.text)[1])
+        self.looker.press("[data-picture=time]", "Home")
+        for at in range(span // width + 1):
+            mine = [it for it in visits if at * width <= int(it[4]) < (at + 1) * width]
+            waits = sorted(int(it[6]) for it in mine if it[5] == "wait")
+            want = f"{at * width:,} to {(at + 1) * width:,}: {len(mine):,} came"
+            want += f", {len(mine) - len(waits):,} lost or held" if len(waits) < len(mine) else ""
+            if waits:
+                half, most = waits[(len(waits) + 1) // 2 - 1], waits[(9 * len(waits) + 9) // 10 - 1]
+                want += f"; half waited for {half:,} or less, 9 of 10 for {most:,}, the longest for {waits[-1]:,}"
+            self.assertEqual(self.texts("[data-told=time]"), [want])
+            self.looker.press("[data-picture=time]", "ArrowRight")
+
+    def test_tables_sort(self):
+        self.looker.show(page([self.report]))
+        figures = figures_of(self.text)
+        heads = self.texts("#nodes thead button")
+        for at, word in enumerate(heads):
+            values = {name: name if word == "node" else kind if word == "kind" else figures[name].get(word) for name, kind in self.kinds().items()}
+            before = self.attributes("#nodes tbody tr", "data-node")
+            for is_up in (True, False) if word == "node" else (False, True):
+                self.looker.click("#nodes thead button", at)
+                names = self.attributes("#nodes tbody tr", "data-node")
+                # What is missing comes last, and equals stay in the order in which they stood.
+                there = [it for it in before if values[it] is not None]
+                want = sorted(there, key=values.get) if is_up else sorted(there, key=values.get, reverse=True)
+                self.assertEqual(names, want + [it for it in before if values[it] is None], (word, is_up))
+                sorts = self.attributes("#nodes thead th", "aria-sort")
+                self.assertEqual([it for it in enumerate(sorts) if it[1] != "none"], [(at, "ascending" if is_up else "descending")])
+                before = names
+
+    def kinds(self):
+        return {it["name"]: it["kind"] for it in nodes_of(self.text)}
+
+    def test_share_within(self):
+        """Of all that came and of those that departed, where waits are kept exactly, and between two bounds elsewhere."""
+        self.looker.show(page([self.report]))
+        for name in "desk", "expert":
+            self.looker.click("g.node", self.nodes()[name])
+            waits, came = waits_of(self.text, name), int(next(it["in"] for it in nodes_of(self.text) if it["name"] == name))
+            self.assertEqual(self.texts("#of-all") == self.texts("#of-departed"), len(waits) == came)
+            for ticks in (0, 1, 20, 60, 123, 500, *sorted(waits)[:: len(waits) // 9], max(waits) - 1, max(waits), max(waits) + 1, 10**6):
+                self.looker.type("#ticks", str(ticks))
+                for selector, whole in ("#of-all", came), ("#of-departed", len(waits)):
+                    told = [float(it) for it in re.findall(r"([\d.]+) %", self.texts(selector)[0])]
+                    share = 100 * sum(it <= ticks for it in waits) / whole
+                    self.assertTrue(told[0] - 0.051 <= share <= told[-1] + 0.051, (name, ticks, told, share))
+                    self.assertLess(told[-1] - told[0], 1.1)
+                    if ticks >= max(waits) or ticks < min(waits):
+                        self.assertEqual(told, [round(share, 1)])
+
+    def test_few_waits_are_exact(self):
+        report = mpsim.run("model 1\nsource s\nserver d =4 from s\n", [("s", it) for it in range(9)], jobs=True)
+        self.looker.show(page([report]))
+        # The waits are 0, 3, 6 and so on to 24.
+        for ticks, share in (2, "11.1 %"), (3, "22.2 %"), (5, "22.2 %"), (6, "33.3 %"), (23, "88.9 %"), (24, "100.0 %"):
+            self.looker.type("#ticks", str(ticks))
+            self.assertEqual(self.texts("#of-all"), [share])
+
+    def test_runs_side_by_side(self):
+        self.looker.show(page(self.several, ["2", "3", "6"]))
+        self.looker.click("g.node", self.nodes()["expert"])
+        figures = [figures_of(str(it)) for it in self.several]
+        words = self.texts("#figure option")
+        self.assertEqual(words, list(self.texts("#nodes thead button")[2:]))
+        for at, word in enumerate(words):
+            self.looker.pick("#figure", at)
+            values = [it["expert"][word] for it in figures]
+            dots = dict(zip(self.attributes("#curve circle", "data-label"), map(number, self.attributes("#curve circle", "data-v"))))
+            self.assertEqual(dots, dict(zip("236", values)))
+            rows = [[number(it) for it in self.texts(f"#compared tr[data-run={run}] td")] for run in range(3)]
+            self.assertEqual([row[1:] for row in rows], [[it["expert"][one] for one in words] for it in figures])
+            self.assertEqual([row[0] for row in rows], [round(it - values[0], 4) for it in values])
+        for at, report in enumerate(self.several):
+            self.looker.pick("#run", at)
+            for node in "desk", "expert":
+                self.looker.click("g.node", self.nodes()[node])
+                self.shows(str(report), node)
+            self.assertEqual(self.attributes("#compared tr.marked", "data-run"), [str(at)])
+            row = dict(zip(self.texts("#nodes thead button")[2:], map(number, self.texts("#nodes tr[data-node=desk] td")[1:])))
+            self.assertEqual(row, figures[at]["desk"])
+
+    def test_compared_rows_sort_by_their_labels(self):
+        """As numbers where all are, else as texts."""
+        for labels, want in (["10", "9", "100"], ["9", "10", "100"]), (["b 10", "a", "b 9"], ["a", "b 10", "b 9"]):
+            self.looker.show(page(self.several, labels))
+            self.looker.click("#compared thead button")
+            self.assertEqual(self.texts("#compared tbody th"), want)
+
+    def test_network_of_another_run(self):
+        """It is the one that stands in a page of that run alone; so is the line above."""
+        calm = mpsim.run(places(6).replace("server greet g", "server greet =0"), day(2, 30), jobs=True)
+        for one, other in (self.report, calm), (calm, self.report):
+            self.looker.show(page([other, one], ["x", "y"]))
+            self.looker.pick("#run", 1)
+            found = self.looker.all("svg.network g, svg.network path, svg.network rect, svg.network text, svg.network title"), self.texts("#facts")
+            self.looker.show(page([one]))
+            chosen = self.attributes("g.node.marked", "data-node")
+            if chosen != [next(it[1]["data-node"] for it in found[0] if "marked" in it[1].get("class", ""))]:
+                self.looker.click("g.node", self.nodes()[next(it[1]["data-node"] for it in found[0] if "marked" in it[1].get("class", ""))])
+            want = self.looker.all("svg.network g, svg.network path, svg.network rect, svg.network text, svg.network title"), self.texts("#facts")
+            self.assertEqual(found[1], want[1])
+            for (text, attributes), (other_text, others) in zip(found[0], want[0]):
+                self.assertEqual(text, other_text)
+                for name in {*attributes, *others} - {"class", "stroke-width"}:
+                    self.assertEqual(attributes.get(name), others.get(name), (text, name))
+                self.assertEqual(set(attributes.get("class", "").split()), set(others.get("class", "").split()), text)
+                self.assertAlmostEqual(float(attributes.get("stroke-width", 0)), float(others.get("stroke-width", 0)), delta=0.11)
+
+    def test_share_within_is_a_figure(self):
+        sweep = mpsim.sweep(day(), {it: places(it) for it in (1, 2, 4)}, jobs=True)
+        self.looker.show(page(sweep.reports().values(), sweep, within=60))
+        self.looker.click("g.node", self.nodes()["expert"])
+        self.assertEqual(self.texts("#figure option")[0], "within 60")
+        dots = dict(zip(self.attributes("#curve circle", "data-label"), map(number, self.attributes("#curve circle", "data-v"))))
+        want = {}
+        for label, it in sweep.items():
+            text = "".join(it.report.lines())
+            came = int(next(node["in"] for node in nodes_of(text) if node["name"] == "expert"))
+            want[str(label)] = round(sum(wait <= 60 for wait in waits_of(text, "expert")) / came, 4)
+        self.assertEqual(dots, want)
+
+    def test_times_of_the_day(self):
+        """Ticks of half a second from 23:00 on, over midnight, as datetime has them."""
+        rows = [("s", it * 900) for it in range(40)]
+        report = mpsim.run("model 1\nsource s\nserver d =1000 from s\n", rows, jobs=True)
+        for start, first in (datetime(2026, 2, 28, 23, 0), "23:00 to 23:10: 2 came"), (None, "00:00 to 00:10: 2 came"):
+            self.looker.show(page([report], tick=0.5, start=start))
+            self.looker.press("[data-picture=time]", "Home")
+            told = self.texts("[data-told=time]")[0]
+            width = int(re.search(r"Pieces of ([\d,]+) ticks", self.texts("figcaption")[0])[1].replace(",", "")) // 2
+            came = sum(it * 450 < width for it in range(40))
+            begin = start or datetime(2000, 1, 1)
+            end = datetime.fromtimestamp(begin.timestamp() + width)
+            self.assertTrue(told.startswith(f"{begin:%H:%M} to {end:%H:%M}: {came} came"), told)
+        long = mpsim.run("model 1\nsource s\nserver d =9 from s\n", [("s", it * 86400 * 7) for it in range(30)], jobs=True)
+        self.looker.show(page([long], tick=1, start=datetime(2026, 2, 27, 6, 30)))
+        self.looker.press("[data-picture=time]", "End")
+        width = int(re.search(r"Pieces of ([\d,]+) ticks", self.texts("figcaption")[0])[1].replace(",", ""))
+        last = datetime(2026, 2, 27, 6, 30).timestamp() + (29 * 86400 * 7 + 9) // width * width
+        self.assertEqual(width % 86400, 0)
+        told = self.texts("[data-told=time]")[0]
+        self.assertTrue(told.startswith(f"{datetime.fromtimestamp(last):%Y-%m-%d %H:%M} to "), told)
+        self.assertTrue(any(re.fullmatch(r"2026-\d\d-\d\d", it) for it in self.texts(".axis text")))
+
+    def test_numbers_that_no_double_holds(self):
+        report = many(2, 4096, (1 << 60) + 1)
+        self.looker.show(page([report, report]))
+        self.looker.click("g.node", 1)
+        shown = f"{(1 << 60) + 1:,}"
+        self.assertEqual(self.texts(".card[data-figure=max] b"), [shown])
+        self.assertIn(shown, self.texts("#nodes tr[data-node=n0] td"))
+        self.looker.pick("#run", 1)
+        self.assertIn(shown, self.texts("#nodes tr[data-node=n0] td"))
+        self.looker.press("[data-picture=waits]", "End")
+        self.assertEqual(self.texts("[data-told=waits]"), [f"100.0 % waited for {max(report.visits['n0'].wait):,} or less"])
+
+    def test_report_without_jobs(self):
+        self.looker.show(page([mpsim.run(CALLS, day())]))
+        self.assertIn("This report has no lines of jobs", self.texts("#pictures p")[0])
+        self.shows(self.text, self.attributes("g.node.marked", "data-node")[0])
+
+    def test_a_run_without_the_node(self):
+        """Of another network: what it hasn't is left open."""
+        other = mpsim.run("model 1\nsource phone\nserver desk =4 from phone\n", [("phone", 0)], jobs=True)
+        self.looker.show(page([self.report, other], ["a", "b"]))
+        self.looker.pick("#run", 1)
+        self.looker.click("g.node", self.nodes()["expert"])
+        self.assertEqual(set(self.texts(".card b")), {"–"})
+        self.assertEqual(self.texts("#compared tr[data-run=1] td")[0], "–")
+
+
+@unittest.skipUnless(NODE, "node isn't there")
+class ByStandIn(Looked, Test):
+    make = StandIn
+
+
+@unittest.skipUnless(webdriver and DRIVER, "Chromium, its driver or selenium isn't there")
+class ByBrowser(Looked, Test):
+    make = Browser
+
+    def test_it_says_nothing(self):
+        self.looker.show(page(self.several))
+        driver = self.looker.driver
+        self.assertEqual(driver.execute_script('return performance.getEntriesByType("resource").length'), 0)
+        self.assertEqual([it for it in driver.get_log("browser") if "favicon" not in it["message"]], [])
+
+    def test_its_policy_lets_it_ask_for_nothing(self):
+        """The same page from a server: its own server isn't asked either."""
+        made = page([self.report])
+
+        class Handler(http.server.BaseHTTPRequestHandler):
+            asked = []
+
+            def do_GET(self):
+                self.asked.append(self.path)
+                self.send_response(200)
+                self.send_header("Content-Type", "text/html; charset=utf-8")
+                self.end_headers()
+                self.wfile.write(made.encode())
+
+            def log_message(self, *_):
+                pass
+
+        server = http.server.ThreadingHTTPServer(("127.0.0.1", 0), Handler)
+        thread = threading.Thread(target=server.serve_forever)
+        thread.start()
+        self.addCleanup(thread.join)
+        self.addCleanup(server.server_close)
+        self.addCleanup(server.shutdown)
+        self.looker.driver.get(f"http://127.0.0.1:{server.server_port}/page")
+        told = self.looker.driver.execute_async_script("fetch('/data').then(() => arguments[0]('came'), () => arguments[0]('blocked'));")
+        self.assertEqual(told, "blocked")
+        self.assertLessEqual(set(Handler.asked), {"/page", "/favicon.ico"})
+
+
+if __name__ == "__main__":
+    unittest.main()

@@ -1,0 +1,250 @@
+"""The command `planner`: its words, how it ends, and what it leaves behind."""
+
+import contextlib
+import io
+import os
+import re
+import resource
+import signal
+import stat
+import subprocess
+import sys
+import time
+import unittest
+
+from commands import InFolder, planner
+from ground import EXAMPLES, PYTHON, ROOT, SOURCES, Test, text_of
+
+import mpsim
+from mpsim.planner import COMMANDS
+from mpsim.planner.command import line_of
+from mpsim.planner.files import bytes_of, text_of as model_text, written
+from mpsim.planner.progress import Progress
+
+EXPORT = EXAMPLES / "export" / "calls.csv"
+ASKED = [EXPORT, "--date", "Datum", "--time", "Uhrzeit", "--source", "Warteschlange"]
+COMMAND = [sys.executable, "-B", ROOT / "tools" / "planner"]
+
+
+class Words(Test):
+    def test_each_command_has_help_with_an_example(self):
+        modules = {it.stem for it in (SOURCES / "mpsim" / "planner").glob("*.py") if re.search(r"^def main\(asked\)", it.read_text(), re.M)}
+        self.assertEqual(modules, set(COMMANDS))
+        for name, says in COMMANDS.items():
+            status, out, err = planner(name, "--help")
+            self.assertEqual((status, err), (0, ""))
+            self.assertIn(f"example: planner {name} ", out)
+            self.assertIn(says, " ".join(out.split()))
+        status, out, _ = planner("--help")
+        self.assertEqual([it for it in COMMANDS if f"    {it} " in out], list(COMMANDS))
+        self.assertEqual(planner("--version"), (0, f"planner {mpsim.__version__}\n", ""))
+
+    def test_words_that_are_none(self):
+        for words, line in (
+            ([], "the following arguments are required: COMMAND (planner --help tells more)"),
+            (["prepare"], "the following arguments are required: export, --time (planner prepare --help tells more)"),
+            (["prepare", "x", "--tim", "y"], "the following arguments are required: --time (planner prepare --help tells more)"),
+            (["prepare", "x", "--time", "y", "--skip", "z"], "argument --skip: invalid int value: 'z' (planner prepare --help tells more)"),
+        ):
+            self.assertEqual(planner(*words), (2, "", f"planner: {line}\n"))
+        status, out, err = planner("prepares")
+        self.assertEqual((status, out, err.count("\n")), (2, "", 1))
+
+    def test_the_command_of_a_clone(self):
+        """Through a link, from any folder, and as a module."""
+        with open(PYTHON / "pyproject.toml", encoding="utf-8") as file:
+            self.assertIn('planner = "mpsim.planner:main"\n', file.read())
+        for command, more in (COMMAND, {}), ([sys.executable, "-B", "-m", "mpsim.planner"], {"PYTHONPATH": str(SOURCES)}):
+            ran = subprocess.run([*command, "--version"], cwd="/", env={**os.environ, **more}, capture_output=True, text=True)
+            self.assertEqual((ran.returncode, ran.stdout), (0, f"planner {mpsim.__version__}\n"))
+
+
+class Ends(InFolder):
+    """Calls in a process of their own."""
+
+    def run_with(self, *words, **more):
+        return subprocess.run([*COMMAND, *map(str, words)], cwd=self.folder, env=os.environ, text=True, **{"stderr": subprocess.PIPE, **more})
+
+    def left(self):
+        return sorted(it.name for it in self.folder.iterdir())
+
+    def test_a_link(self):
+        (self.folder / "planner").symlink_to(ROOT / "tools" / "planner")
+        ran = subprocess.run([self.folder / "planner", "prepare", *ASKED], cwd="/", env=os.environ, text=True, capture_output=True)
+        self.assertEqual((ran.returncode, ran.stdout.split("\n")[0]), (0, "source,time"), ran.stderr)
+
+    def test_an_output_that_is_full(self):
+        for words, more, line in (
+            ([], {"stdout": open("/dev/full", "w")}, "planner: the output: No space left on device"),
+            (["--out", "/dev/full"], {}, "planner: /dev/full: No space left on device"),
+        ):
+            with more.get("stdout", contextlib.nullcontext()):
+                ran = self.run_with("prepare", *ASKED, *words, **more)
+            self.assertEqual((ran.returncode, ran.stderr.splitlines()[-1]), (1, line))
+
+    def test_a_disk_that_is_full(self):
+        """What was there stays, and nothing else is left."""
+        self.file("trace.csv", "before\n")
+
+        def small():
+            resource.setrlimit(resource.RLIMIT_FSIZE, (100, 100))
+
+        ran = self.run_with("prepare", *ASKED, "--out", "trace.csv", "--left-out", "left.csv", preexec_fn=small)
+        self.assertEqual((ran.returncode, ran.stderr.splitlines()[-1]), (1, f"planner: {self.folder / 'trace.csv'}: File too large"))
+        self.assertEqual((self.left(), text_of(self.folder, "trace.csv")), (["trace.csv"], "before\n"))
+
+    def test_outputs_that_are_closed(self):
+        script = 'exec "$@" >&-'
+        ran = subprocess.run(["sh", "-c", script, "sh", *COMMAND, "prepare", *ASKED], env=os.environ, text=True, capture_output=True)
+        self.assertEqual((ran.returncode, ran.stderr.splitlines()[-1]), (1, "planner: the output: Bad file descriptor"))
+        # What is told goes nowhere then, and not into the trace.
+        ran = subprocess.run(["sh", "-c", 'exec "$@" 2>&-', "sh", *COMMAND, "prepare", *ASKED], env=os.environ, text=True, capture_output=True)
+        self.assertEqual((ran.returncode, ran.stdout.splitlines()[:2]), (0, ["source,time", "verkauf_and_buro,5"]))
+
+    def test_a_reader_that_has_enough(self):
+        rows = "when\n" + "8:00\n" * 100000
+        self.file("export.csv", rows)
+        command = " ".join(["python3 -B", str(ROOT / "tools" / "planner"), "prepare export.csv --time when 2>err; echo $? >status"])
+        ran = subprocess.run(["sh", "-c", f"({command}) | head -1"], cwd=self.folder, env=os.environ, text=True, capture_output=True)
+        self.assertEqual((ran.stdout, ran.stderr, text_of(self.folder, "status")), ("source,time\n", "", "141\n"))
+        self.assertFalse([it for it in text_of(self.folder, "err").splitlines() if not it.startswith("planner: ")])
+
+    def test_signals(self):
+        """Nothing is left, and one line at most is told, while the export comes by a pipe that stays open."""
+        for number, status, told in (signal.SIGINT, 130, "planner: stopped\n"), (signal.SIGTERM, 143, ""), (signal.SIGHUP, 129, ""):
+            with self.waiting(signal.SIG_DFL) as process:
+                process.send_signal(number)
+                out, err = process.communicate(timeout=60)
+            self.assertEqual((process.returncode, out, err, self.left()), (status, "", told, []))
+
+    def test_a_signal_that_is_ignored(self):
+        """As nohup has it."""
+        with self.waiting(signal.SIG_IGN) as process:
+            process.send_signal(signal.SIGHUP)
+            out, _ = process.communicate(timeout=60)
+        self.assertEqual((process.returncode, out, self.left()), (0, "", ["left.csv", "trace.csv"]))
+
+    def waiting(self, how):
+        """A command that has begun a file, and waits for the rest of an export; signals are heeded, or ignored."""
+
+        def prepared():
+            for number in signal.SIGINT, signal.SIGTERM, signal.SIGHUP:
+                signal.signal(number, how)
+
+        words = [*COMMAND, "prepare", "/dev/stdin", "--time", "when", "--out", "trace.csv", "--left-out", "left.csv"]
+        pipes = {"stdin": subprocess.PIPE, "stdout": subprocess.PIPE, "stderr": subprocess.PIPE}
+        process = subprocess.Popen(words, cwd=self.folder, env=os.environ, text=True, preexec_fn=prepared, **pipes)
+        process.stdin.write("when\n8:00\n")
+        process.stdin.flush()
+        end = time.monotonic() + 60
+        while not self.left() and time.monotonic() < end:
+            time.sleep(0.01)
+        self.assertRegex(self.left()[0], r"^left\.csv\.\w+\.part$")
+        return process
+
+    def test_a_fault_of_a_program(self):
+        model, trace = self.file("model.txt", "model 1\nsource Door\n"), self.file("trace.csv", "source,time\n")
+        ran = self.run_with("run", model, trace, stdout=subprocess.PIPE)
+        line = f"planner: {model}: model line 2: word 2 not allowed: source Door\n"
+        self.assertEqual((ran.returncode, ran.stdout, ran.stderr), (3, "", line))
+
+
+class Lines(Test):
+    def test_lines_of_faults(self):
+        for fault, line in (
+            (ValueError("a\nb\x1b[1m\udcff"), "a\\nb\\x1b[1m\\udcff"),
+            (ValueError(), "ValueError"),
+            (FileNotFoundError(2, "No such file or directory", "x\n"), "x\\n: No such file or directory"),
+            (OSError(28, "No space left on device"), "the output: No space left on device"),
+            (mpsim.ModelError("model line 2: word 2 not allowed", "", 3, "m", "source Döör"), "m: model line 2: word 2 not allowed: source Döör"),
+            (mpsim.ReportError(7, "x"), "report line 7: 'x' is no line of a report"),
+        ):
+            self.assertEqual(line_of(fault), line)
+
+
+class Files(InFolder):
+    def test_a_file_that_is_written(self):
+        path = self.file("a", "before\n")
+        path.chmod(0o640)
+        (self.folder / "link").symlink_to("a")
+        with written(self.folder / "link") as file:
+            file.write("after\n")
+            self.assertEqual(text_of(path), "before\n")
+        self.assertEqual((text_of(path), stat.S_IMODE(path.stat().st_mode), (self.folder / "link").is_symlink()), ("after\n", 0o640, True))
+        before = os.umask(0o027)
+        try:
+            with written(self.folder / "new") as file:
+                file.write("é\n")
+        finally:
+            os.umask(before)
+        self.assertEqual((text_of(self.folder, "new"), stat.S_IMODE((self.folder / "new").stat().st_mode)), ("é\n", 0o640))
+
+    def test_a_block_that_is_left(self):
+        path = self.file("a", "before\n")
+        for fault in ValueError, KeyboardInterrupt, OSError:
+            with self.assertRaises(fault), written(path) as file:
+                file.write("half")
+                raise fault
+            self.assertEqual((text_of(path), os.listdir(self.folder)), ("before\n", ["a"]))
+
+    def test_pipes_and_devices(self):
+        pipe = self.folder / "pipe"
+        os.mkfifo(pipe)
+        with subprocess.Popen(["cat", pipe], stdout=subprocess.PIPE, text=True) as reader:
+            with written(pipe) as file:
+                file.write("through\n")
+            self.assertEqual(reader.stdout.read(), "through\n")
+        # What an output was sent to is added to.
+        path = self.file("log", "before\n")
+        script = "from mpsim.planner.files import written\nwith written('/dev/stdout') as file: file.write('after\\n')"
+        with open(path, "a") as out:
+            subprocess.run([sys.executable, "-B", "-c", script], env={**os.environ, "PYTHONPATH": str(SOURCES)}, stdout=out, check=True)
+        self.assertEqual(text_of(path), "before\nafter\n")
+
+    def test_memory_that_is_a_folder(self):
+        path = f"/dev/shm/{self.folder.name}"
+        self.addCleanup(lambda: os.unlink(path))
+        for text in "before\n", "after\n":
+            with written(path) as file:
+                file.write(text)
+        self.assertEqual(text_of(path), "after\n")
+
+    def test_folders_that_are_not_there(self):
+        path = self.folder / "absent" / "a"
+        with self.assertRaises(FileNotFoundError) as caught, written(path):
+            self.fail("it was opened")
+        self.assertEqual(line_of(caught.exception), f"{path}: No such file or directory")
+
+    def test_texts(self):
+        self.assertEqual(model_text(self.file("m", "\ufeffmodel 1\n")), "model 1\n")
+        self.assertEqual(bytes_of(self.file("m", "\ufeff")), b"\xef\xbb\xbf")
+
+
+class Terminal(io.StringIO):
+    def isatty(self):
+        return True
+
+
+class Shown(Test):
+    def test_progress(self):
+        out, line = Terminal(), "10 % of 1,000 rows, some 45 s to go"
+        with self.assertRaises(KeyboardInterrupt), Progress(1000, "rows", out) as tell:
+            tell(1)
+            self.assertEqual(out.getvalue(), "")
+            tell.begun -= 5
+            tell(100)
+            tell(101)
+            self.assertEqual(out.getvalue(), "\r" + line)
+            raise KeyboardInterrupt
+        self.assertEqual(out.getvalue(), "\r" + line + "\r" + " " * len(line) + "\r")
+
+    def test_progress_elsewhere(self):
+        out = io.StringIO()
+        with Progress(1000, "rows", out) as tell:
+            tell.begun -= 5
+            tell(100)
+        self.assertEqual(out.getvalue(), "")
+
+
+if __name__ == "__main__":
+    unittest.main()

@@ -1,0 +1,314 @@
+"""Exports, and the traces that are made of them."""
+
+import io
+import random
+import unittest
+import unittest.mock
+from datetime import datetime, timedelta
+
+from commands import InFolder, planner
+from ground import EXAMPLES, Test, text_of
+
+import mpsim
+from mpsim.planner.calendar import told_in
+from mpsim.planner.exports import Export, found_delimiter, found_encoding
+from mpsim.planner.prepare import prepare
+from mpsim.planner.records import Records
+from mpsim.planner.times import Unread
+
+EXPORT = EXAMPLES / "export"
+ASKED = ["--date", "Datum", "--time", "Uhrzeit", "--source", "Warteschlange"]
+ASKED += ["--demand", "Gesprächsdauer (min)=talk:min", "--demand", "Nachbearbeitung=wrap", "--code", "Anliegen=kind", "--zone", "Europe/Berlin"]
+
+
+def table(*rows, header="when,who,long"):
+    return "\n".join([header, *rows, ""]).encode()
+
+
+def times(*texts, header="when", **options):
+    """The times of records that come at these texts, in the order in which the trace has them."""
+    return list(prepare(table(*(f'"{it}"' for it in texts), header=header), header, **{"begin": "first", **options}).times)
+
+
+class Example(InFolder):
+    def test_its_files(self):
+        made = [self.folder / it for it in ("trace.csv", "left-out.csv", "lines.txt")]
+        words = *ASKED, "--out", made[0], "--left-out", made[1], "--first-lines", made[2]
+        status, out, err = planner("prepare", EXPORT / "calls.csv", *words)
+        self.assertEqual((status, out), (0, ""), err)
+        self.assertEqual([text_of(it) for it in made[:2]], [text_of(EXPORT, it) for it in ("trace.csv", "left-out.csv")])
+        self.assertTrue(text_of(EXPORT, "model.txt").startswith(text_of(made[2])))
+        for line in "kind: 0 is 'Störung', 1 is 'Bestellung', 2 is 'Rechnung'", "4 rows are left out", "7 records, 3 sources":
+            self.assertIn(f"planner: {line}\n", err)
+        for line in "Datum is empty (row 7)", "Datum: not of the format %d.%m.%Y (row 9, '31.02.2026')":
+            self.assertIn(f"planner: 1 row: {line}\n", err)
+
+    def test_its_run(self):
+        report = mpsim.run(EXPORT / "model.txt", EXPORT / "trace.csv")
+        # 75, 210, 30, 165, 720, 120 and 66 seconds, of calls at 5, 17, 17, 131, 220, 330 and 362.
+        self.assertEqual((report["desk"].busy, report["desk"].wait), (1386, 0 + 63 + 273 + 189 + 265 + 875 + 963))
+        # 20, 90, 0, 45, 240, 30 and 15 seconds behind calls that end at 80, 290, 320, 485, 1205, 1325 and 1391.
+        self.assertEqual((report["after"].busy, report.span, report.exits[0].sojourn), (440, 1205 + 240, 1386 + 2628 + 440))
+
+    def test_one_of_each(self):
+        """One row, one record and one source are told as such."""
+        export = self.file("one.csv", "when,who,long\n8:00,a,1\n8:01,a,\n")
+        told = planner("prepare", export, "--time", "when", "--source", "who", "--demand", "long")[2].splitlines()
+        self.assertEqual([it for it in told if "row" in it], ["planner: 1 row is left out", "planner: 1 row: long is empty (row 3)"])
+        self.assertEqual(told[-1], "planner: 1 record, 1 source")
+
+    def test_the_output(self):
+        status, out, err = planner("prepare", EXPORT / "calls.csv", *ASKED)
+        self.assertEqual((status, out), (0, text_of(EXPORT, "trace.csv")), err)
+
+
+class Exports(Test):
+    def test_encodings(self):
+        text = "when,who\n8:00,Büro\n"
+        for code in "utf-8", "utf-8-sig", "utf-16", "latin-1", "cp1252":
+            made = prepare(text.encode(code), "when", source="who")
+            self.assertEqual(dict(made.told and [it.split(" is called ") for it in made.told if "called" in it]), {"source 'Büro'": "buro"}, code)
+        for code in "utf-16-le", "utf-16-be", "cp437", "utf-8", "UTF8":
+            self.assertEqual(prepare(text.encode(code), "when", source="who", encoding=code).sources, ["buro"])
+            marked = ("\ufeff" + text).encode(code) if code != "cp437" else text.encode(code)
+            self.assertEqual(prepare(marked, "when", source="who", encoding=code).sources, ["buro"])
+        self.assertEqual(found_encoding(b"a\nb\nx\xfc")[1].split(",")[0], "line 3 has the byte fc")
+
+    def test_delimiters(self):
+        for lines, mark in (
+            (["a;b\n", "1,0;2,0\n", "3,5;1,5\n"], ";"),
+            (["a\tb\n", "1,0\t2\n"], "\t"),
+            (["a,b\n", '"x;y",2\n'], ","),
+            (["alone\n", "1\n"], ","),
+            (["a;b;c, in min\n", "1;2;3,5\n", "1;2;3,5\n", "1;2,5\n"] + ["1;2;3,5\n"] * 9, ";"),
+            (["a|b\n", "1|2\n"], "|"),
+        ):
+            self.assertEqual(found_delimiter(lines), mark)
+        with self.assertRaisesRegex(ValueError, r"the delimiter may be '[;,]' or '[;,]' \(--delimiter\)"):
+            found_delimiter(["a;b,c\n", "1;2,3\n"])
+        # As a spreadsheet says it; and a tab as one can type it.
+        self.assertEqual(prepare(b"sep=|\r\nwhen|d\r\n8:00|1\r\n", "when", demand=["d"]).values[0].tolist(), [1])
+        self.assertEqual(list(prepare(b"a,b\twhen\nx,y\t8:01\n", "when", delimiter="\\t").times), [60])
+
+    def test_quotes_and_ends_of_lines(self):
+        for end in "\n", "\r\n", "\r":
+            text = end.join(["when;note;d", '8:00:00;"a;b' + end + '""c""";1', '"8:00:05";;"2"', "", "8:00:07;;3;", ""])
+            made = prepare(text.encode(), "when", demand=["d"], begin="first")
+            self.assertEqual((list(made.times), made.values[0].tolist(), made.left), ([0, 5, 7], [1, 2, 3], {}))
+
+    def test_an_export_without_a_header(self):
+        rows = b"2026-03-02 08:00:05 phone 95\n2026-03-02 08:00:x web 1\n2026-03-02 08:00:40 web 120\n"
+        given = {"delimiter": " ", "header": "day,clock, who,talk"}
+        out = io.StringIO()
+        made = prepare(rows, "clock", format="clock", date="day", source="who", demand=["talk"], left_out=out, **given)
+        self.assertEqual(list(made.rows()), [("phone", 5, 95), ("web", 40, 120)])
+        self.assertEqual(out.getvalue(), "row,reason,day,clock,who,talk\n2,clock: no time of the day as h:mm or h:mm:ss,2026-03-02,08:00:x,web,1\n")
+
+    def test_columns(self):
+        export = Export(b"a,a=b,d:e,twice,twice,\n1,2,3,4,5,\n")
+        for word, found in ("a=b", (1, None, None)), ("a=b=c:min", (1, "c", "min")), ("d:e:h", (2, None, "h")), ("a=x", (0, "x", None)):
+            self.assertEqual(export.asked(word, True), found)
+        for bad, says in ("twice", "two columns are called 'twice'"), ("x=y", "there is no column 'x'; it has 'a', 'a=b',"), ("", "no column ''"):
+            with self.assertRaisesRegex(ValueError, says):
+                export.asked(bad)
+
+    def test_what_settles_a_format_may_come_late(self):
+        """More rows than are looked at from the front on are of days that might be months; those of the end aren't."""
+        rows = [f"{day:02}/03/2026 8:00,a,{'1' * 20}" for day in range(1, 13) for _ in range(3000)]
+        late = prepare(table(*rows, "13/03/2026 9:00,a,1"), "when", tick="1h")
+        self.assertEqual((late.times[-1], sum(late.left.values())), (12 * 24 + 1, 0))
+        with self.assertRaisesRegex(ValueError, "may begin with the day or with the month"):
+            prepare(table(*rows), "when")
+
+    def test_fields_that_no_column_has(self):
+        made = prepare(table("8:00,a,1,", "8:01,a,1,,", "8:02,a,1,x", "8:03,a"), "when")
+        self.assertEqual((len(made), made.left), (2, {"another number of fields than the header's 3": 2}))
+
+    def test_rows_are_counted_as_a_spreadsheet_does(self):
+        rows = ["8:00,a,1", "8:01,a,x", "", "8:02,b,1"] + ["8:03,b,1"] * 40000 + ['8:03,"b\nc",y', "8:07,c,z", "8:08"]
+        out = io.StringIO()
+        made = prepare(b"title\n" + table(*rows), "when", demand=["long=d"], code=["who=kind"], skip=1, left_out=out)
+        self.assertEqual([it.split(",")[0] for it in out.getvalue().split("\n")[1:-1]], ["4", "40007", 'c"', "40008", "40009"])
+        self.assertEqual((len(made), set(made.values[1])), (40002, {0, 1}))
+        # Words of rows that are left out have no number.
+        self.assertIn("kind: 0 is 'a', 1 is 'b'", made.told)
+        reasons = {"long: no number with a decimal point": 3, "another number of fields than the header's 3": 1}
+        self.assertEqual(made.left, reasons)
+        self.assertIn("3 rows: long: no number with a decimal point; the first is row 4, 'x'", made.told)
+
+
+class Times(Test):
+    def test_a_date_and_a_time_in_columns_of_their_own(self):
+        rows = table("02.03.2026,23:59:50,0:00:05", "03.03.2026,0:00:10,0:00:20", "30.02.2026,0:00:10,0:00:20", header="day,clock,end")
+        made = prepare(rows, "clock", date="day", end=["end=talk"], begin="day")
+        self.assertEqual((list(made.times), made.values[0].tolist()), ([86390, 86410], [15, 10]))
+        self.assertEqual(made.left, {"day: not of the format %d.%m.%Y": 1})
+        excels = table("46083,0.25,1", header="day,clock,d")
+        self.assertEqual(list(prepare(excels, "clock", date="day", date_format="excel", format="excel", begin="day").times), [21600])
+        numbers = table("2026-03-02,805", "2026-03-02,1430", header="day,clock")
+        self.assertEqual(list(prepare(numbers, "clock", date="day", format="hmm").times), [300, 23400])
+        # A date may have a midnight with it.
+        self.assertEqual(list(prepare(table("2026-03-02 00:00:00,8:05", header="day,clock"), "clock", date="day").times), [300])
+
+    def test_a_date_with_a_time(self):
+        rows = table("2026-03-02 00:00:00,8:05", "2026-03-02 00:05:00,8:05", header="day,clock")
+        self.assertEqual(prepare(rows, "clock", date="day").left, {"day: a date with a time": 1})
+
+    def test_ticks(self):
+        made = prepare(table("8:00:00.250,a,0.26", "8:00:01.999,a,1.04"), "when", tick="100ms", demand=["long=d"])
+        self.assertEqual((list(made.times), made.values[0].tolist()), ([2, 19], [3, 10]))
+        self.assertIn("2 times aren't at a whole tick, and are taken back to the last one", made.told)
+        self.assertIn("d: 2 different values are no whole ticks, and are taken to the nearest", made.told)
+        self.assertIn("# a tick is 100ms\n", made.first_lines())
+        plain = prepare(table("5,a,7", "3,a,1"), "when", format="ticks", tick="1min", demand=["long=d:ticks"])
+        self.assertEqual((list(plain.rows()), plain.zero), ([("jobs", 3, 1), ("jobs", 5, 7)], None))
+        self.assertEqual(list(prepare(table(f"{2**60},a,1"), "when", format="ticks").times), [2**60])
+
+    def test_time_0(self):
+        days = ("2026-03-01T08:30", 86400), ("2026-03-02T08:00+01:00", 1800)
+        for begin, ticks in ("hour", 1800), ("day", 30600), ("first", 0), ("8:15", 900), *days:
+            zone = "Europe/Berlin" if "+" in begin else None
+            self.assertEqual(times("2026-03-02 08:30", begin=begin, zone=zone), [ticks], begin)
+        # Hours are those of the clock on the wall.
+        self.assertEqual(times("2026-03-02T08:20+05:45", begin="hour", zone="Asia/Kathmandu"), [1200])
+        self.assertEqual(times("2026-10-25 12:00", begin="day", zone="Europe/Berlin"), [13 * 3600])
+        self.assertEqual(times("2026-03-02 00:30", begin="day", zone="Europe/Berlin"), [1800])
+        self.assertEqual(times("2026-03-02 00:30", begin="0:15", zone="Europe/Berlin"), [900])
+        made = prepare(table("2026-03-02 08:30,a,1"), "when", zone="Europe/Berlin")
+        self.assertEqual(told_in(made.first_lines()), (10**6, "2026-03-02T08:00:00+01:00", "Europe/Berlin"))
+        self.assertEqual(prepare(table("2026-03-02 08:30,a,1"), "when").zero, "2026-03-02T08:00:00")
+        self.assertEqual(prepare(table("2026-03-02T08:30+01:00,a,1"), "when").zero, "2026-03-02T07:00:00+00:00")
+        self.assertEqual(prepare(table("1772436600,a,1"), "when", format="unix").zero, "2026-03-02T07:00:00+00:00")
+
+    def test_days_on_which_clocks_change(self):
+        self.assertEqual(times("2026-03-29 01:59:59", "2026-03-29 03:00:00", zone="Europe/Berlin"), [0, 1])
+        self.assertEqual(times("2026-03-29 01:59:59", "2026-03-29 03:00:00"), [0, 3601])
+        self.assertEqual(times("2026-03-28 12:00:00", "2026-03-30 12:00:00", zone="Europe/Berlin"), [0, 47 * 3600])
+        autumn = "2026-10-25 02:59:59", "2026-10-25 02:00:00", "2026-10-25 03:00:00"
+        for twice, ticks in ("order", [0, 1, 3601]), ("first", [0, 3599, 7200 + 3599 - 3599]), ("second", [0, 3599, 3600]):
+            self.assertEqual(times(*autumn, zone="Europe/Berlin", twice=twice), ticks)
+        # Each column by itself, and an end behind its beginning.
+        rows = table("2026-10-25 02:50,2026-10-25 02:10", "2026-10-25 02:52,2026-10-25 02:58", "2026-10-25 02:01,2026-10-25 02:03", header="come,end")
+        made = prepare(rows, "come", end=["end"], zone="Europe/Berlin", twice="order", tick="1min")
+        self.assertEqual((list(made.times), made.values[0].tolist()), ([50, 52, 61], [20, 6, 2]))
+        gone = prepare(table("2026-03-29 02:30,a,1", "2026-03-29 03:30,a,1"), "when", zone="Europe/Berlin")
+        self.assertEqual(gone.left, {"when: in the hour that 2026-03-29 skips in Europe/Berlin": 1})
+
+    def test_offsets_go_before_the_zone(self):
+        self.assertEqual(times("2026-10-25T02:59:59+02:00", "2026-10-25T02:00:00+01:00", zone="Europe/Berlin"), [0, 1])
+        mixed = table("2026-03-02T08:00:00,a,1", "2026-03-02T08:00:00Z,a,1")
+        with self.assertRaisesRegex(ValueError, "some times have an offset from UTC, and others none: --zone says what those are"):
+            prepare(mixed, "when")
+        self.assertEqual(list(prepare(mixed, "when", zone="Europe/Berlin").times), [0, 3600])
+
+    def test_ways_to_write_the_same(self):
+        """A year at random, in four ways: the ticks are those that datetime says."""
+        draw = random.Random(3)
+        moments = sorted({datetime(2026, 1, 1) + timedelta(seconds=draw.randrange(31 * 10**6)) for _ in range(2000)})
+        for form in "%Y-%m-%dT%H:%M:%SZ", "%a, %d %b %Y %H:%M:%S +0000", "%Y-%m-%d %H:%M:%S", "%d.%m.%Y %H:%M:%S":
+            texts = [it.strftime(form) for it in moments]
+            self.assertEqual(times(*texts), [int((it - moments[0]).total_seconds()) for it in moments], form)
+
+
+class Values(Test):
+    def test_ends(self):
+        rows = table("8:00:00,8:00:30,8:02:00,a b", "23:59:00,23:59:30,0:01:00,c", "8:00:00,,8:01:00,c", header="come,answer,end,kind")
+        made = prepare(rows, "come", answered="answer", end=["end=talk"], constant=["wrap=90s"], code=["kind"], begin="day")
+        self.assertEqual((made.header[2:], [it.tolist() for it in made.values]), (["talk", "wrap", "kind"], [[90, 90], [90, 90], [0, 1]]))
+        self.assertEqual(made.left, {"answer is empty": 1})
+        self.assertEqual(prepare(rows, "come", answered="answer", end=["end"], empty="5s", begin="day").left, {"answer is empty": 1})
+        full = table("2026-03-02 08:00,2026-03-02 07:59", *["2026-03-02 08:00,2026-03-02 08:07"] * 9, "2026-03-02 08:00,0:05", header="come,end")
+        made = prepare(full, "come", end=["end"])
+        self.assertEqual((made.values[0].tolist(), made.left), ([420] * 9, {"end: before it begins": 1, "end: no ISO 8601 time": 1}))
+        # A time of the day alone is the next one from the beginning on, in the days of the zone.
+        night = table("2026-10-24 23:50,0:05", "2026-10-25 01:50,4:00", header="come,end")
+        self.assertEqual(prepare(night, "come", end=["end"], zone="Europe/Berlin", tick="1min").values[0].tolist(), [15, 130 + 60])
+        # A format that was given is that of other times as well.
+        given = table("03/02/2026 8:00,03/02/2026 8:01", header="come,end")
+        self.assertEqual(prepare(given, "come", format="%d/%m/%Y %H:%M", end=["end"]).values[0].tolist(), [60])
+        self.assertEqual(prepare(table("800,830", header="come,end"), "come", format="hmm", end=["end"], tick="1min").values[0].tolist(), [30])
+
+        # Who hangs up at once doesn't stay for a day; services are taken to the nearest tick.
+        rows = table("8:00:00,8:00:00", "8:00:00,8:00:29", "8:00:00,8:00:30", header="come,end")
+        self.assertEqual(prepare(rows, "come", end=["end"], tick="1min").values[0].tolist(), [0, 0, 1])
+
+    def test_rows_that_are_left_out_have_no_code(self):
+        rows = table("8:00,x,p", "8:01,a,q", "8:02,a,r")
+        made = prepare(rows, "when", source="who", code=["long=kind"], model="model 1\nsource a\n")
+        self.assertEqual((made.values[0].tolist(), sum(made.left.values())), ([0, 1], 1))
+
+    def test_rows_by_columns_and_one_by_one(self):
+        """Both ways to read rows give the same, also of days on which clocks change and where a row can't be read."""
+        draw, forms = random.Random(3), ["%Y-%m-%dT%H:%M:%S", "%d.%m.%Y %H:%M:%S", "%a, %d %b %Y %H:%M:%S +0100"]
+        for form in forms:
+            rows = []
+            for _ in range(4000):
+                day = draw.choice([datetime(2026, 3, 28), datetime(2026, 3, 30), datetime(2026, 10, 24), datetime(2026, 10, 25)])
+                moment = day + timedelta(seconds=draw.randrange(86400))
+                rows.append(f'"{moment.strftime(form)}",{draw.choice("abc")},{draw.randrange(999)}')
+            rows[3000] = draw.choice(["x,a,1", '"",a,1', "2026,,"])
+            for zone in None, "Europe/Berlin":
+                asks = {"source": "who", "demand": ["long=d"], "constant": ["wrap=2s"], "code": ["who=kind"], "zone": zone, "twice": "first"}
+                fast = prepare(table(*rows), "when", **asks)
+                with unittest.mock.patch.object(Records, "many", side_effect=Unread("one by one")) as slow_way:
+                    slow = prepare(table(*rows), "when", **asks)
+                self.assertEqual((list(fast.rows()), fast.told, fast.left), (list(slow.rows()), slow.told, slow.left))
+                self.assertEqual((slow_way.call_count, sum(fast.left.values())), (4, 1))
+
+    def test_empty(self):
+        rows = table("8:00,a,", "8:01,b,3")
+        self.assertEqual(prepare(rows, "when", demand=["long"]).left, {"long is empty": 1})
+        self.assertEqual(prepare(rows, "when", demand=["long"], empty="2s").values[0].tolist(), [2, 3])
+
+    def test_demands_of_one_name(self):
+        """They are added up, each in its own unit and to the nearest tick; a row without one of them is left out."""
+        rows = table("8:00,1,5,30", "8:01,0,5,0", "8:02,,9,9", "8:03,2,x,9", "8:04,68719476735,1,0", header="when,talk,wrap,note")
+        asks = ["talk=aht:ticks", "note=note", "wrap=aht"]
+        made = prepare(rows, "when", demand=asks, tick="2s")
+        # Five seconds are two ticks and a half.
+        self.assertEqual((made.header, [it.tolist() for it in made.values]), (["source", "time", "aht", "note"], [[1 + 3, 0 + 3, 2**36], [15, 0, 0]]))
+        self.assertEqual(made.left, {"talk is empty": 1, "wrap: no number with a decimal point": 1})
+        self.assertIn("aht is the sum of 'talk' and 'wrap'", made.told)
+        self.assertIn("aht: 2 different values are no whole ticks, and are taken to the nearest", made.told)
+        more = prepare(rows.replace(b"68719476735", b"68719476736"), "when", demand=["talk=aht:ticks", "wrap=aht"], empty="4s")
+        self.assertEqual(more.values[0].tolist(), [1 + 5, 0 + 5, 4 + 9])
+        self.assertEqual(more.left, {"talk: above 2^36 ticks": 1, "wrap: no number with a decimal point": 1})
+        with unittest.mock.patch.object(Records, "many", side_effect=Unread("one by one")):
+            self.assertEqual(list(prepare(rows, "when", demand=asks, tick="2s").rows()), list(made.rows()))
+        # Times in ISO 8601 are read by columns.
+        day = "2026-03-02T08:00:00"
+        many = prepare(table(f"{day},68719476736,1", header="when,a,b") + f"{day},68719476735,1\n".encode(), "when", demand=["a=d", "b=d"])
+        self.assertEqual((many.values[0].tolist(), many.left), ([2**36], {"a: above 2^36 ticks": 1}))
+        three = prepare(table(f"{day},1,20,300", header="when,a,b,c"), "when", demand=["a=d", "b=d", "c=d"])
+        self.assertEqual((list(three.rows()), "d is the sum of 'a' and 'b' and 'c'" in three.told), ([("jobs", 0, 321)], True))
+        with self.assertRaisesRegex(ValueError, "--demand a=d:min: the column 'a' is in d already"):
+            prepare(table("8:00,1", header="when,a"), "when", demand=["a=d", "a=d:min"])
+
+    def test_limits(self):
+        made = prepare(table("8:00,a,68719476737", "8:00,a,68719476736"), "when", demand=["long=d"])
+        self.assertEqual((made.left, made.values[0].tolist()), ({"long: above 2^36 ticks": 1}, [2**36]))
+
+    def test_order(self):
+        rows = table("8:00:01,b,1", "8:00:00,b,2", "8:00:01,a,3", "8:00:01,b,4", "8:00:01,a,5")
+        model = "model 1\nsource a\nsource b\nserver desk d from a b\n"
+        with_model, without = (prepare(rows, "when", source="who", demand=["long=d"], begin="first", model=it) for it in (model, None))
+        self.assertEqual(list(with_model.rows()), [("b", 0, 2), ("a", 1, 3), ("a", 1, 5), ("b", 1, 1), ("b", 1, 4)])
+        self.assertEqual(list(without.rows()), [("b", 0, 2), ("b", 1, 1), ("b", 1, 4), ("a", 1, 3), ("a", 1, 5)])
+        self.assertEqual((with_model.names, without.names), (["a", "b"], ["b", "a"]))
+        self.assertIn("records are sorted by time, and at one time by the order of the sources", without.told)
+        sorted_rows = prepare(table("8:00,a,1", "8:00,a,2"), "when", source="who", demand=["long=d"])
+        self.assertFalse(any("sorted" in it for it in sorted_rows.told))
+        other = prepare(table("8:00:02,x,1", "8:00:03,a,1"), "when", source="who", demand=["long=d"], model=model)
+        self.assertEqual((other.left, other.names), ({"who: the model has no source x": 1}, ["a"]))
+
+    def test_sources(self):
+        rows = table("8:00,Büro,1", "8:00,buro,1", "8:00,Z,1", "8:00, Z ,1", "8:00,,1")
+        made = prepare(rows, "when", source="who", rename=["Z=zed"])
+        self.assertEqual((made.sources, made.left), (["buro", "buro_2", "zed", "zed"], {"who is empty": 1}))
+        both = prepare(rows, "when", source="who", rename=["Büro=one", "buro=one", "Z=one"])
+        self.assertEqual((both.sources, both.names), (["one"] * 4, ["one"]))
+        self.assertEqual((prepare(rows, "when").names, prepare(rows, "when", source="calls").names), (["jobs"], ["calls"]))
+
+
+if __name__ == "__main__":
+    unittest.main()

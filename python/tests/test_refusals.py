@@ -1,0 +1,221 @@
+"""What `planner prepare` refuses: one line that says the file, the row, the column and the value, or names the option that says more."""
+
+import unittest
+import unittest.mock
+
+from commands import InFolder, planner
+from ground import ROOT, Test, text_of
+
+from mpsim.planner import prepare as module
+
+prepare = module.prepare
+
+MODEL = "model 1\nsource a\nserver desk d from a\n"
+ROW = "8:00,a,1"
+
+
+def table(*rows, header="when,who,long"):
+    return "\n".join([header, *rows, ""]).encode()
+
+
+class Refusals(InFolder):
+    def is_refused(self, line, data, *words):
+        """The line of a call over an export of these bytes; no file is made."""
+        export = self.folder / "export.csv"
+        export.write_bytes(data)
+        time = [] if "--time" in words else ["--time", "when"]
+        status, out, err = planner("prepare", export, *time, *words, "--out", self.folder / "trace.csv", "--left-out", self.folder / "left.csv")
+        self.assertEqual((status, out, err), (1, "", f"planner: {line.replace('EXPORT', str(export))}\n"))
+        self.assertEqual([it.name for it in self.folder.iterdir()], ["export.csv"])
+
+    def test_files(self):
+        for data, line in (
+            (b"", "it is empty"),
+            (b"\r\n\r\n", "it is empty"),
+            (b"\xef\xbb\xbf", "it is empty"),
+            ("\n".encode("utf-16"), "it is empty"),
+            (b"\n" + table(ROW), "it begins with an empty line: --skip says how many lines stand before its header"),
+            (table(), "column 'when': no time to find the format by (--format)"),
+            ("when\n8:00\n".encode("utf-16-le"), "it has NUL bytes: is it UTF-16 without a mark? --encoding says it, as utf-16-le"),
+            (b"\xef\xbb\xbfwhen\n8:00\n\xff\n", "line 3: the byte ff is no UTF-8, which its mark says (--encoding)"),
+            (b"when;a,b\n8:00;1,2\n", "the delimiter may be ';' or ',' (--delimiter)"),
+            (table(ROW, '8:01,a,"1' + "x" * 200000), "behind row 1: field larger than field limit (131072): is a quote not closed?"),
+            (b'when,"' + b"x" * 200000, "row 1: field larger than field limit (131072): is a quote not closed?"),
+        ):
+            self.is_refused(f"EXPORT: {line}", data)
+        self.is_refused("EXPORT: line 2: the byte ff is no utf-8 (--encoding)", b"when\n\xff\n", "--encoding", "utf-8")
+        self.is_refused("EXPORT: there is no encoding 'utf-9' (--encoding)", table(ROW), "--encoding", "utf-9")
+        self.is_refused("EXPORT: there is no encoding 'hex' (--encoding)", table(ROW), "--encoding", "hex")
+        for bad in ";;", "", '"':
+            self.is_refused(f"EXPORT: {bad!r} is no delimiter, which is one character (--delimiter)", table(ROW), f"--delimiter={bad}")
+        absent = self.folder / "absent.csv"
+        self.assertEqual(planner("prepare", absent, "--time", "x"), (1, "", f"planner: {absent}: No such file or directory\n"))
+        self.assertEqual(planner("prepare", self.folder, "--time", "x"), (1, "", f"planner: {self.folder}: Is a directory\n"))
+
+    def test_what_has_to_be_said(self):
+        for line, data, *words in (
+            ("there is no column 'Zeit'; it has 'when', 'who', 'long'", table(ROW), "--time", "Zeit"),
+            ("two columns are called 'when': one has to be renamed", b"when,when\n8:00,9:00\n"),
+            (
+                "column 'when': '03/02/2026' may begin with the day or with the month: the format is '%d/%m/%Y' or '%m/%d/%Y' (--format)",
+                table("03/02/2026,a,1"),
+            ),
+            (
+                "column 'when': '02.03.26 8:00' has a year of two digits: the format may be '%d.%m.%y %H:%M' (--format)",
+                table("02.03.26 8:00,a,1"),
+            ),
+            ("column 'when': '805' is a number: the format is one of ticks, unix, unixms, hmm, hmmss, excel (--format)", table("805,a,1")),
+            ("column 'long': '1.500' may be thousands or a fraction (--decimal)", table("8:00,a,1.500"), "--demand", "long"),
+            (
+                "column 'long': its numbers have both decimal commas and decimal points (--decimal)",
+                table("8:00,a,1.5", '8:00,a,"1,5"'),
+                "--demand",
+                "long",
+            ),
+            ("row 3, column 'long', '3:30': h:mm or m:ss: the unit says which", table(ROW, "8:01,a,3:30"), "--demand", "long"),
+            (
+                "row 2, column 'when', '2026-10-25 02:30': in the hour that 2026-10-25 has twice in Europe/Berlin: --twice says which is meant, "
+                "first, second or order",
+                table("2026-10-25 02:30,a,1"),
+                "--zone",
+                "Europe/Berlin",
+            ),
+            (
+                "some times have an offset from UTC, and others none: --zone says what those are",
+                table("2026-03-02T08:00,a,1", "2026-03-02T08:00Z,a,1"),
+            ),
+            ("column 'when' has no day, so that --zone says nothing", table(ROW), "--zone", "Europe/Berlin"),
+            ("column 'when' has ticks, so that --zone says nothing", table("5,a,1"), "--format", "ticks", "--zone", "Europe/Berlin"),
+            ("--begin 8:00: it says nothing of times that are ticks", table("5,a,1"), "--format", "ticks", "--begin", "8:00"),
+            ("--date-format says nothing without --date", table(ROW), "--date-format", "iso"),
+            ("--answered says nothing without --end", table(ROW), "--answered", "when"),
+            ("column 'when' has more than the time of the day, so that --date says nothing", table("2026-03-02,a,1"), "--date", "when"),
+            (
+                "row 2, column 'who', '8:01': of the format clock, which has no day: --date-format says another",
+                table("8:00,8:01,1"),
+                "--date",
+                "who",
+            ),
+            ("there is no column 'When' for --source; it has 'when', 'who', 'long'", table(ROW), "--source", "When"),
+            ("there is no column 'No Column' for --source; it has 'when', 'who', 'long'", table(ROW), "--source", "No Column"),
+            (
+                "the column's name 'Talk' begins with a small letter, and has small letters, digits and underscores, 32 at most",
+                table(ROW),
+                "--demand",
+                "long=Talk",
+            ),
+            ("the column's name 'd' is taken", table(ROW), "--demand", "long=d", "--constant", "d=1s"),
+            (
+                "there is no unit 'fortnight': it is one of us, ms, s, sec, min, h, d, ticks, h:mm, m:ss, h:mm:ss, excel",
+                table(ROW),
+                "--demand",
+                "long:fortnight",
+            ),
+            ("--constant wrap: it is NAME=LENGTH, as wrap=90s", table(ROW), "--constant", "wrap"),
+            ("--constant wrap 1.5s is no whole number of ticks", table(ROW), "--constant", "wrap=1.5s"),
+            ("--constant wrap long: no length of time: it is a number and one of us, ms, s, sec, min, h, d", table(ROW), "--constant", "wrap=long"),
+            ("--empty 800000d is more than 2^36 ticks", table(ROW), "--empty", "800000d"),
+            ("--rename a=B: it is OLD=NEW, where NEW is a small letter, then small letters, digits and underscores", table(ROW), "--rename", "a=B"),
+            ("1 records come before --begin 9:00, where time 0 is to be", table(ROW), "--begin", "9:00"),
+            ("--begin noon: no ISO 8601 time", table(ROW), "--begin", "noon"),
+            ("--begin 2026-03-02: it has a day, and the times have none", table(ROW), "--begin", "2026-03-02"),
+            ("column 'long' is read as clock, and column 'when' as ticks", table("5,a,8:00"), "--format", "ticks", "--end", "long"),
+            ("the time 1152921504606846977 is above 2^60 ticks, the greatest of a trace", table(f"{2**60 + 1},a,1"), "--format", "ticks"),
+            ("'%Q' is no format of strptime: 'Q' is a bad directive in format '%Q'", table(ROW), "--format", "%Q"),
+            ("the format '%d.%m. %H:%M' has a day and no year", table(ROW), "--format", "%d.%m. %H:%M"),
+            (
+                "no row is left; 2 rows: when: no time of the day; the first is row 2, '25:00'; 1 row: when is empty (row 3)",
+                table("25:00,a,1", ",a,1", "25:01,a,1"),
+            ),
+        ):
+            with self.subTest(line):
+                self.is_refused(f"EXPORT: {line}", data, *words)
+
+    def test_options(self):
+        for line, *words in (
+            ("--tick 0s: a tick is longer than 0", "--tick", "0s"),
+            ("--tick 1: no length of time: it is a number and one of us, ms, s, sec, min, h, d", "--tick", "1"),
+            ("--skip -1: it is at least 0", "--skip=-1"),
+            ("this machine has no time zone 'Berlin': they are called as Europe/Berlin", "--zone", "Berlin"),
+        ):
+            self.is_refused(line, table(ROW), *words)
+
+    def test_models(self):
+        model = self.file("model.txt", MODEL)
+        export = self.file("export.csv", table("8:00,b,1").decode())
+        words = "prepare", export, "--time", "when", "--model", model, "--out", self.folder / "trace.csv"
+        for line, *more in (
+            ("the model names d, which no --demand, --end, --constant or --code gives",),
+            ("the model has no source b (--source)", "--demand", "long=d", "--source", "b"),
+            ("no row is left; 1 row: who: the model has no source b (row 2, 'b')", "--demand", "long=d", "--source", "who"),
+        ):
+            self.assertEqual(planner(*words, *more), (1, "", f"planner: {export}: {line}\n"))
+        model.write_bytes(b"model 1\nsource \xff\n")
+        self.assertEqual(planner(*words), (1, "", f"planner: {model}: line 2: the byte ff is no UTF-8\n"))
+        self.assertFalse((self.folder / "trace.csv").exists())
+
+    def test_the_export_is_not_written_over(self):
+        export = self.file("export.csv", table(ROW).decode())
+        (self.folder / "link").symlink_to(export)
+        for option in "--out", "--left-out", "--first-lines":
+            for path in export, self.folder / "link":
+                line = f"planner: {path}: it is the export, and isn't written over\n"
+                self.assertEqual(planner("prepare", export, "--time", "when", option, path), (1, "", line))
+        self.assertEqual(export.read_bytes(), table(ROW))
+        out = self.folder / "out"
+        status = planner("prepare", export, "--time", "when", "--out", out, "--left-out", out)
+        self.assertEqual(status, (1, "", f"planner: {out}, {out}: one file can't be written for two things\n"))
+
+
+class Limits(Test):
+    def test_sources(self):
+        rows = [f"8:00,s{it},1" for it in range(64)]
+        with self.assertRaisesRegex(ValueError, "64 sources, where a model has at most 63: give one name for all, or --rename several to one"):
+            prepare(table(*rows), "when", source="who")
+        self.assertEqual(len(prepare(table(*rows[1:]), "when", source="who").names), 63)
+
+    def test_columns(self):
+        constants = [f"c{it}=1s" for it in range(17)]
+        with self.assertRaisesRegex(ValueError, "17 columns, where a trace has at most 16"):
+            prepare(table(ROW), "when", constant=constants)
+        self.assertEqual(len(prepare(table(ROW), "when", constant=constants[1:]).header), 18)
+
+    def test_records_and_bytes(self):
+        """The limits are those of docs/ERRORS.md; smaller ones are tried."""
+        errors = text_of(ROOT, "docs", "ERRORS.md").replace(",", "")
+        for limit in module.RECORDS, module.BYTES:
+            self.assertRegex(errors, rf"\b{limit}\b")
+        with unittest.mock.patch.multiple(module, RECORDS=3, BYTES=33):
+            with self.assertRaisesRegex(ValueError, "more than 3 records, which a trace can't have: cut the export"):
+                prepare(table(*[ROW] * 4), "when")
+            # Each record has `jobs,0` and a line feed, with the value two more; the header has 11 or 13.
+            self.assertEqual(sum(map(len, prepare(table(*[ROW] * 3), "when").lines())), 12 + 21)
+            made = prepare(table(*[ROW] * 3), "when", demand=["long=d"])
+            with self.assertRaisesRegex(ValueError, "the trace is longer than 33 bytes, which mpsim can't take: cut the export"):
+                list(made.lines())
+
+    def test_times_out_of_range(self):
+        made = prepare(table("9999-12-31T23:00,a,1", "2026-03-02T08:00,a,1"), "when", zone="Europe/Berlin")
+        self.assertEqual(made.left, {"when: out of the range of dates": 1})
+        made = prepare(table("9" * 20 + ",a,1", "5,a,1"), "when", format="ticks")
+        self.assertEqual(made.left, {"when: out of the range of times": 1})
+
+    def test_warnings(self):
+        self.assertIn("times look like dates with a time, as 20260302080017", prepare(table("20260302080017,a,1"), "when", format="ticks").warned[0])
+        made = prepare(table("23:00,a,1", "8:00,a,1"), "when")
+        day = "times have no day, and are all taken to be of one, though they go back by more than half a day 1 times (--date)"
+        self.assertEqual(made.warned, [day])
+        made = prepare(table("8:00,8:10,x", "8:00,7:59,x", header="when,end,code"), "when", end=["end"])
+        self.assertIn("end: 1 services take more than 12 hours", made.warned)
+        words = [f"2026-03-02 8:0{it},a,k{it}" for it in range(9)]
+        values = "long has 9 values, where a split by remainders has at most 8 outputs"
+        self.assertEqual(prepare(table(*words), "when", code=["long"]).warned, [values])
+        open_quote = table("2026-03-02 8:00,a,1", '2026-03-02 8:01,a,"1', *["2026-03-02 8:02,a,1"] * 30)
+        self.assertEqual(prepare(open_quote, "when").warned, ["a field has more than 20 lines: is a quote not closed?"])
+        for mark, whose in ("", "a clock that never changes"), ("T00Z", "UTC"):
+            told = prepare(table(f"2026-03-02{mark},a,1", f"2026-03-04{mark},a,1"), "when").told
+            self.assertIn(f"days are those of {whose}: --zone says another", told)
+
+
+if __name__ == "__main__":
+    unittest.main()

@@ -1,0 +1,136 @@
+"""More load: how many records come out, when, and what each way does to waits."""
+
+import random
+import unittest
+from collections import Counter
+
+from commands import InFolder, planner
+from ground import Test, text_of
+
+import mpsim
+from mpsim.planner.scale import closer, copies, ratio, scaled
+from mpsim.planner.traces import Trace
+
+WEEK = 604800
+
+
+class Scales(Test):
+    def test_ratios(self):
+        self.assertEqual([ratio(it) for it in ("2", "3/2", "9/10")], [(2, 1), (3, 2), (9, 10)])
+        for bad in "0", "1.5", "1/0", "x", "2/", "-2", " 2":
+            self.assertRaisesRegex(ValueError, "expected K or K/N", ratio, bad)
+
+    def test_how_many_come_out(self):
+        """Of each source as many as the ratio says, evenly, each at a time of its own record or whole shifts behind it."""
+        draw = random.Random(6)
+        times, sources = [draw.randrange(1000) for _ in range(100)], [draw.choice("ab") for _ in range(100)]
+        for k, n in (2, 1), (3, 2), (9, 10), (1, 3), (1, 1), (7, 3):
+            for shift in 0, 100, 7:
+                made = copies(times, sources, k, n, shift)
+                self.assertEqual(Counter(sources[at] for _, at in made), {it: sources.count(it) * k // n for it in "ab"})
+                self.assertEqual(made, sorted(made))
+                counts = Counter(at for _, at in made)
+                self.assertTrue(set(counts.values()) <= {k // n, -(-k // n)} and (k < n or len(counts) == 100))
+                around = (max(times) // shift + 1) * shift if shift else 1000
+                for time, at in made:
+                    self.assertEqual((time - times[at]) % shift if shift else time - times[at], 0)
+                    self.assertTrue(0 <= time < around)
+                # No two copies of a record come at one time, where they are shifted.
+                self.assertEqual(len(set(made)) == len(made), shift > 0 or k <= n)
+        made = copies(times, sources, 2, 1, 100, only=["a"])
+        self.assertEqual(Counter(sources[at] for _, at in made), {"a": 2 * sources.count("a"), "b": sources.count("b")})
+
+    def test_every_second_of_each_source(self):
+        """In the order of time, and not in that of the file."""
+        times, sources = [50, 0, 10, 20, 30, 40], ["a", "a", "b", "a", "b", "a"]
+        self.assertEqual(copies(times, sources, 1, 2), [(20, 3), (30, 4), (50, 0)])
+        self.assertEqual(copies(times, sources, 3, 2), [(0, 1), (10, 2), (20, 3), (20, 3), (30, 4), (30, 4), (40, 5), (50, 0), (50, 0)])
+
+    def test_what_each_does(self):
+        times, sources = [0, 10, 25], ["a"] * 3
+        self.assertEqual(closer(times, 2, 1), [(0, 0), (5, 1), (12, 2)])
+        self.assertEqual(closer(times, 2, 3), [(0, 0), (15, 1), (37, 2)])
+        self.assertEqual(copies(times, sources, 2, 1), [(0, 0), (0, 0), (10, 1), (10, 1), (25, 2), (25, 2)])
+        self.assertEqual(copies(times, sources, 2, 1, 10), [(0, 0), (5, 2), (10, 0), (10, 1), (20, 1), (25, 2)])
+        self.assertEqual(copies(times, sources, 3, 1, 10), [(0, 0), (0, 1), (5, 2), (10, 0), (10, 1), (15, 2), (20, 0), (20, 1), (25, 2)])
+        self.assertEqual((copies([], [], 2, 1, 10), closer([], 2, 1)), ([], []))
+        # Within one shift, or where the copies are more than the shifts, one would come round to itself.
+        for shift, k in (30, 2), (26, 2), (10, 4):
+            self.assertRaisesRegex(ValueError, "comes round", copies, times, sources, k, 1, shift)
+
+    def test_what_each_does_to_waits(self):
+        """Calls at random of load 0.4, doubled: theory has a mean wait of 4 services at 0.8. Twins make it twice that."""
+        draw, clock, rows = random.Random(11), 0.0, []
+        for _ in range(60000):
+            clock += draw.expovariate(1 / 2500)
+            rows.append(["a", str(int(clock)), str(round(draw.expovariate(1 / 1000)))])
+        waits = {}
+        for way in "times", "twins", "shift":
+            made = scaled(Trace("t.csv", ["source", "time", "d"], rows), 2, 1, way, WEEK)
+            waits[way] = mpsim.run("model 1\nsource a\nserver s d from a\n", made.lines())["s"].mean_wait / 1000
+        self.assertTrue(3.2 < waits["times"] < 5 and 3.2 < waits["shift"] < 5 and 7 < waits["twins"] < 10, waits)
+
+
+class Command(InFolder):
+    def setUp(self):
+        super().setUp()
+        self.trace = self.file("t.csv", 'source,time,d,note\nb,7,6,"x,\ny"\na,0,5,\udcff\n')
+
+    def made(self, *words):
+        """The rows that a call writes, and what it tells."""
+        out = self.folder / "o.csv"
+        status, told, error = planner("scale", self.trace, "--out", out, *words)
+        self.assertEqual((status, told), (0, ""))
+        return text_of(out), error
+
+    def test_each_way(self):
+        text, told = self.made("--by", "2", "--twins")
+        self.assertEqual(text, 'source,time,d,note\na,0,5,\udcff\na,0,5,\udcff\nb,7,6,"x,\ny"\nb,7,6,"x,\ny"\n')
+        self.assertRegex(told, "^planner: 4 records of 2: each record has one copy, at its own time, so that twins come at one moment")
+        text, told = self.made("--by", "2", "--shift", "4")
+        self.assertEqual([it.split(",")[:2] for it in text.split("\n") if it[:2] in ("a,", "b,")], [["a", "0"], ["b", "3"], ["a", "4"], ["b", "7"]])
+        self.assertEqual(told, "planner: 4 records of 2: each record has one copy, 4 ticks later; copies past the end begin again at the front\n")
+        told = self.made("--by", "6/2", "--shift", "3", "--source", "b")[1]
+        more = "each record of b has 2 copies, each 3 ticks behind the one before; copies past the end begin again at the front"
+        self.assertEqual(told, f"planner: 4 records of 2: {more}\n")
+        told = self.made("--by", "3/2", "--shift", "4")[1]
+        more = "of each 2 records of a source 3 stand there, each copy 4 ticks behind the one before; copies past the end begin again at the front"
+        self.assertEqual(told, f"planner: 2 records of 2: {more}\n")
+        self.assertEqual(self.made("--by", "1", "--twins")[1], "planner: 2 records of 2: each record stands there, as it was\n")
+        text, told = self.made("--by", "7/2", "--times")
+        self.assertIn("\nb,2,6,", text)
+        self.assertIn("each time is 2/7 of what it was", told)
+        text, told = self.made("--by", "1/2")
+        self.assertEqual(text, "source,time,d,note\n")
+        self.assertIn("0 records of 2: of each 2 records of a source 1 stand there, at their own times", told)
+        text, told = self.made("--by", "2", "--twins", "--source", "a")
+        self.assertEqual((text.count("a,0,5"), text.count("b,7,6")), (2, 1))
+
+    def test_refusals(self):
+        trace = str(self.trace)
+        self.refuses("--by 2: say how: --shift TICKS (those of a day or a week), --times or --twins", "scale", trace, "--by", 2)
+        for text, says in ("1.5", ", as 3/2"), ("0,9", ", as 9/10"), ("2.0", ", as 2"), ("x", ""), ("0.0", ""), ("0", ""), ("1/0", ""), ("-1.5", ""):
+            why = f"--by {text}: expected K or K/N, whole numbers from 1 on{says}"
+            self.refuses(why, "scale", trace, f"--by={text}", "--twins")
+        self.refuses("--shift 0: expected a number of ticks, as those of a day or a week", "scale", trace, "--by", 2, "--shift", 0)
+        why = "times go up to 7, and a shift by 8 comes round to the same record after 1, where there are 2 of each"
+        self.refuses(why, "scale", trace, "--by", 2, "--shift", 8)
+        self.refuses(f"{trace}: no record is of the source 'c'", "scale", trace, "--by", 2, "--twins", "--source", "c")
+        self.assertEqual(planner("scale", trace, "--by", "2", "--times", "--source", "a")[0], 1)
+        self.assertEqual(planner("scale", trace, "--by", "2", "--times", "--twins")[0], 2)
+        self.file("t.csv", "source,time,d\na,0,5\nb,08:00,6\n")
+        self.refuses(f"{trace}: record 2, column time: '08:00' is no whole number", "scale", trace, "--by", 2, "--twins")
+        for text in "\u00b2", "\u0663", "-1", "", " 1":
+            self.file("t.csv", f"source,time,d\na,0,5\nb,{text},6\n")
+            self.refuses(f"{trace}: record 2, column time: {text!r} is no whole number", "scale", trace, "--by", 2, "--twins")
+        self.file("t.csv", "source,time,d\na,0,5\n\nb,1\n")
+        self.refuses(f"{trace}: record 2: 2 fields, where the header has 3: 'b,1'", "scale", trace, "--by", 2, "--twins")
+        self.file("t.csv", "")
+        self.refuses(f"{trace}: a trace begins with source,time and not with ''", "scale", trace, "--by", 2, "--twins")
+        words = "scale", self.file("u.csv", "source,time\na,0\n"), "--by", 2, "--twins", "--out", "/dev/full"
+        self.refuses("/dev/full: No space left on device", *words)
+        self.assertEqual(sorted(it.name for it in self.folder.iterdir()), ["t.csv", "u.csv"])
+
+
+if __name__ == "__main__":
+    unittest.main()

@@ -1,0 +1,50 @@
+"""What a sweep runs: how scenarios and shards are counted, and which words say what they are."""
+
+import unittest
+
+from ground import Test
+
+from mpsim.planner.scenarios import Plan, labels_of, sets_of, values_of
+from mpsim.planner.sweep import ranges
+
+
+class Plans(Test):
+    def test_a_plan_counts(self):
+        plan = Plan([["x", "model 1\n{a}{b}"], ["y", "{b}\n"]], {"a": [1, 2, 3], "b": ["p", "q"]}, [{"label": it} for it in "stu"])
+        self.assertEqual([plan.model(it)[0] for it in range(12)], ["x"] * 6 + ["y"] * 6)
+        self.assertEqual([plan.model(it)[2] for it in (0, 1, 2, 5, 6, 7)], ["model 1\n1p", "model 1\n1q", "model 1\n2p", "model 1\n3q", "p\n", "q\n"])
+        self.assertEqual([list(plan.model(it)[1].items()) for it in (1, 4)], [[("a", 1), ("b", "q")], [("a", 3), ("b", "p")]])
+        self.assertEqual((plan.scenarios, plan.shards), (36, 3))
+        self.assertEqual([plan.shard(it) for it in (1, 2, 3)], [({"label": it}, range(12)) for it in "stu"])
+        self.assertEqual(Plan.parse(plan.text()).text(), plan.text())
+
+    def test_shards_of_a_trace(self):
+        plan = Plan([["x", "{a}\n"]], {"a": list(range(130))}, [{"label": it} for it in "st"])
+        want = [("s", 0, 64), ("s", 64, 128), ("s", 128, 130), ("t", 0, 64), ("t", 64, 128), ("t", 128, 130)]
+        self.assertEqual([(trace["label"], it.start, it.stop) for trace, it in map(plan.shard, range(1, plan.shards + 1))], want)
+        self.assertEqual(Plan([["x", "{a}\n"]], {"a": list(range(128))}, [{"label": "s"}]).shards, 2)
+
+    def test_a_million_scenarios_are_no_longer(self):
+        plan = Plan([["x", "{a} {b}\n"]], {"a": list(range(1000)), "b": list(range(1000))}, [{"label": "s"}])
+        self.assertEqual((plan.scenarios, plan.shards, plan.model(999999)[2]), (1000000, 15625, "999 999\n"))
+        self.assertLess(len(plan.text()), 20000)
+
+    def test_values(self):
+        found = [values_of(it) for it in ("a=1..3", "a=1..9..4", "b=2,x", "c==5,=7", "d=0..0", "e=0..10..5")]
+        self.assertEqual(found, [("a", [1, 2, 3]), ("a", [1, 5, 9]), ("b", ["2", "x"]), ("c", ["=5", "=7"]), ("d", [0]), ("e", [0, 5, 10])])
+        for bad in "a", "a=", "a=1..", "=3", "a=1..x", "a=1,,2", "a=1..9..0", "a=3..1", "1a=2", "a b=1", "status=1", "in=1":
+            with self.subTest(bad), self.assertRaises(ValueError):
+                values_of(bad)
+        self.assertEqual(sets_of(["a=1..2", "b=x"]), {"a": [1, 2], "b": ["x"]})
+
+    def test_labels(self):
+        self.assertEqual(labels_of(["x/a.txt", "b.model.csv"]), ["a", "b.model"])
+        self.assertEqual(labels_of(["x/a.txt", "y/a.txt"]), ["x/a.txt", "y/a.txt"])
+
+    def test_ranges(self):
+        self.assertEqual([ranges(it) for it in ([1], [1, 2, 3, 7], range(5), [])], ["1", "1-3, 7", "0-4", ""])
+        self.assertEqual(ranges(range(0, 50, 2), 3), "0, 2, 4 and 22 more")
+
+
+if __name__ == "__main__":
+    unittest.main()

@@ -1,0 +1,291 @@
+"""The tables of reports: service, sojourns, table and compare, and run; with figures from the lines of the reports, read apart from the package."""
+
+import csv
+import io
+import math
+import os
+import subprocess
+import sys
+import unittest
+from collections import Counter, defaultdict
+
+from commands import InFolder, planner
+from ground import DESK, EXAMPLES, MODEL, ROOT, TRACE, Test, nodes_of, reports, text_of, waits_of, words_of
+
+import mpsim
+from mpsim.planner.compare import compare
+from mpsim.planner.service import figures, service
+from mpsim.planner.sojourns import sojourns
+from mpsim.planner.sojourns import table as sojourn_table
+
+CALLS = EXAMPLES / "callcentre"
+JOBS, REPORT, SWEEP = CALLS / "jobs.txt", CALLS / "report.txt", EXAMPLES / "sweep" / "report.txt"
+NO_JOBS = f"{REPORT}: it has no lines of jobs: mpsim writes them with --jobs"
+
+
+def rows_of(text):
+    return list(csv.reader(io.StringIO(text)))
+
+
+def records_of(text):
+    return list(csv.DictReader(io.StringIO(text)))
+
+
+class Service(InFolder):
+    def test_by_hand(self):
+        """At the desk the waits are 0, 0, 3, 5, 7, 7 and 8; of six at the expert three are lost, and wait 0, 4 and 5 the others."""
+        self.assertEqual(sorted(waits_of(text_of(JOBS), "desk")), [0, 0, 3, 5, 7, 7, 8])
+        want = "node,came,departed,lost,held,mean_wait,p95,max,within_5_of_all,within_5_of_departed\n"
+        want += "desk,7,7,0,0,4.286,8,8,0.571429,0.571429\nexpert,6,3,3,0,3.0,5,5,0.5,1.0\n"
+        words = "--node", "desk", "--node", "expert", "--within", 5, "--percentile", 95
+        self.assertEqual(self.tells("service", JOBS, *words), want)
+        self.assertEqual(self.tells("service", MODEL, TRACE, *words), want)
+        told = rows_of(self.tells("service", JOBS))
+        self.assertEqual([it[0] for it in told[1:]], ["greet", "expert", "desk", "wrap"])
+        self.assertEqual(told[0][-2:], ["within_20_of_all", "within_20_of_departed"])
+        told = rows_of(self.tells("service", JOBS, "--node", "desk", "--within", 4, "--within", 3, "--percentile", 99.9))
+        self.assertEqual((told[0][6], told[1][6:]), ("p99.9", ["8", "8"] + 4 * ["0.428571"]))
+
+    def test_beside_each_stored_report(self):
+        """Counts and percentiles as the lines of the nodes have them, shares as the library."""
+        count = 0
+        for path in reports():
+            report, text = mpsim.Report.read(path), text_of(path)
+            if report.visits is None:
+                continue
+            _, *told = service(report.visits.values(), [0, 7], [50, 90, 99])
+            for row, node in zip(told, nodes_of(text)):
+                waits = waits_of(text, node["name"])
+                self.assertEqual([str(it) for it in row[:5]], [node[it] if it in node else "0" for it in ("name", "in", "out", "lost", "held")])
+                if waits:
+                    self.assertEqual((row[5], row[9]), (round(int(node["wait"]) / len(waits), 3), int(node["max"])))
+                if waits and "p50" in node:
+                    self.assertEqual([str(it) for it in row[6:9]], [node[it] for it in ("p50", "p90", "p99")])
+                for at, within in (10, 0), (12, 7):
+                    served = sum(it <= within for it in waits)
+                    self.assertEqual(row[at], round(served / row[1], 6) if row[1] else None)
+                    self.assertEqual(row[at + 1], round(served / len(waits), 6) if waits else None)
+                    share = report.visits[node["name"]].share_within(within)
+                    self.assertEqual(row[at], share if share is None else round(share, 6))
+                count += 1
+        self.assertGreater(count, 60)
+
+    def test_nobody(self):
+        self.assertEqual(figures([], [3], [50]), [0, 0, 0, 0, None, None, None, None, None])
+        self.assertEqual(figures([-1, -2], [3], [50]), [2, 0, 1, 1, None, None, None, 0.0, None])
+        model, trace = self.file("m.txt", DESK), self.file("t.csv", "source,time,d\n")
+        self.assertEqual(self.tells("service", model, trace).splitlines()[1], "desk,0,0,0,0" + 8 * ",")
+        report = self.file("r.txt", str(mpsim.run(model, trace)))
+        self.assertEqual(self.tells("service", report).splitlines()[1], "desk,0,0,0,0" + 8 * ",")
+
+    def test_refusals(self):
+        self.refuses(NO_JOBS, "service", REPORT)
+        self.refuses(f"{JOBS}: there is no node 'deck'; it has phone, web, greet, menu, expert, desk, wrap", "service", JOBS, "--node", "deck")
+        self.refuses("a percentile is from 0 to 100, and not 101.0", "service", JOBS, "--percentile", 101)
+        self.assertEqual(planner("service", JOBS, "--within", "x")[0], 2)
+        self.refuses("/absent: cannot read the model", "service", "/absent", "/absent", status=6)
+        self.assertEqual(planner("service", "/absent"), (1, "", "planner: /absent: No such file or directory\n"))
+
+
+class Sojourns(InFolder):
+    def test_they_sum_up_to_the_lines_exit(self):
+        """Of each stored report without forks, by node, those lost at it apart."""
+        count = 0
+        for path in reports():
+            report, text = mpsim.Report.read(path), text_of(path)
+            kinds = {it["name"]: it["kind"] for it in nodes_of(text)}
+            if report.visits is None or {"fork", "join"} & set(kinds.values()):
+                continue
+            got, want = defaultdict(Counter), defaultdict(Counter)
+            for it in sojourns(report):
+                got[it.left_at, it.lost].update(jobs=1, time=it.sojourn)
+            for _, name, jobs, _, time in words_of(text, "exit"):
+                node, output = name.split(".")
+                want[node, kinds[node] in ("loss", "trunk") and output == "1"].update(jobs=int(jobs), time=int(time))
+            self.assertEqual({key: it for key, it in got.items() if it["jobs"]}, {key: it for key, it in want.items() if it["jobs"]}, path)
+            for it in sojourns(report):
+                first = next(words for words in words_of(text, "job") if words[1] == str(it.job))
+                self.assertEqual((first[2], int(first[4])), (it.source, it.came))
+            count += 1
+        self.assertGreater(count, 15)
+
+    def test_by_hand(self):
+        """Ten calls, of 8, 9, 10, 10, 11, 12, 12, 13, 14 and 14 ticks, as the last lines of each job in jobs.txt have them."""
+        came = {it[1]: int(it[4]) for it in words_of(text_of(JOBS), "job") if it[2] in ("phone", "web")}
+        times = sorted(int(it[8]) - came[it[1]] for it in words_of(text_of(JOBS), "job") if it[2] == "wrap")
+        self.assertEqual(times, [8, 9, 10, 10, 11, 12, 12, 13, 14, 14])
+        told = self.tells("sojourns", JOBS, "--by", "all", "--within", 10, "--within", 9)
+        self.assertEqual(told, "jobs,mean_sojourn,p50,p90,p95,p99,max,within_10,within_9\n10,11.3,11,14,14,14,14,0.4,0.2\n")
+        told = rows_of(self.tells("sojourns", MODEL, TRACE, "--by", "source", "--percentile", 60))
+        self.assertEqual([it[:3] for it in told], [["source", "jobs", "mean_sojourn"], ["phone", "5", "11.2"], ["web", "5", "11.4"]])
+        each = records_of(self.tells("sojourns", JOBS, "--each"))
+        self.assertEqual(([it["job"] for it in each], sum(int(it["sojourn"]) for it in each)), ([str(it) for it in range(1, 11)], 113))
+        self.assertEqual([list(it.values()) for it in each[:1]], [["1", "phone", "0", "wrap", "left", str(8)]])
+
+    def test_parts_lost_and_held_ones(self):
+        """Of two jobs one part of the second is lost, and so its other part is held: it has no sojourn. The first leaves at 3, by the join."""
+        text = "model 2\nsource src\nfork f 2 from src\nloss a 1 =3 from f\nserver b =1 from f.1\njoin j from a b\n"
+        report = mpsim.run(text, [("src", 0), ("src", 1)], jobs=True)
+        self.assertEqual([tuple(it) for it in sojourns(report)], [(1, "src", 0, "j", False, 3)])
+        # Without the join the last part counts: of the second job that of b, which leaves at 2, a tick behind the one that is lost.
+        report = mpsim.run(text.replace("join j from a b\n", ""), [("src", 0), ("src", 1)], jobs=True)
+        self.assertEqual([tuple(it) for it in sojourns(report)], [(1, "src", 0, "a", False, 3), (2, "src", 1, "b", False, 1)])
+        model = "model 1\nsource web\nsource phone\nloss desk 1 =4 from phone web\ndelay out =1 from desk\n"
+        report = mpsim.run(model, [("phone", 0), ("web", 1), ("phone", 2), ("phone", 9)], jobs=True)
+        rows = list(sojourn_table(report, percents=[50]))
+        lost, left = ["desk", "lost", 1, 0.0, 0, 0], ["out", "left", 2, 5.0, 5, 5]
+        self.assertEqual(rows[1:], [["web", *lost], ["phone", *lost], ["phone", *left]])
+        rows = list(sojourn_table(report, "end", [0, 5], [50]))
+        self.assertEqual(rows[1:], [["desk", "lost", 2, 0.0, 0, 0, 1.0, 1.0], [*left, 0.0, 1.0]])
+
+    def test_refusals(self):
+        self.refuses(NO_JOBS, "sojourns", REPORT)
+        told = self.tells("sojourns", self.file("m.txt", DESK), self.file("t.csv", "source,time,d\n"))
+        self.assertEqual(told, "source,left_at,how,jobs,mean_sojourn,p50,p90,p95,p99,max\n")
+
+
+class Table(InFolder):
+    def test_nodes_and_exits_of_each_stored_report(self):
+        for path in reports():
+            text, told = text_of(path), records_of(self.tells("table", path))
+            wanted = [{name: "" if value == "-" else value for name, value in it.items()} for it in nodes_of(text)]
+            self.assertEqual([it["node"] for it in told], [it["name"] for it in wanted])
+            for got, want in zip(told, wanted):
+                self.assertEqual({name: got[name] for name in want if name != "name"}, {name: it for name, it in want.items() if name != "name"})
+            exits = rows_of(self.tells("table", path, "--of", "exits"))
+            self.assertEqual(exits[1:], [[*it[1].split("."), it[2], it[4]] for it in words_of(text, "exit")])
+        self.assertEqual(self.tells("table", SWEEP, "--of", "exits", "--node", "callback").count(",agents,"), 0)
+        self.assertEqual(self.tells("table", CALLS / "report.txt", "--of", "exits", "--node", "desk"), "node,output,jobs,sojourn\n")
+
+    def test_visits(self):
+        """The rows that docs/REPORT.md has shown for `expert`."""
+        want = "job,node,arrive,wait,depart,end\n2,expert,2,0,8,left\n3,expert,3,5,13,left\n"
+        want += "5,expert,6,,,lost\n6,expert,7,,,lost\n8,expert,9,4,15,left\n10,expert,10,,,lost\n"
+        self.assertEqual(self.tells("table", JOBS, "--of", "visits", "--node", "expert"), want)
+        self.assertEqual(self.tells("table", MODEL, TRACE, "--of", "visits", "--node", "expert"), want)
+        self.assertEqual(self.tells("table", JOBS, "--of", "visits").count("\n"), 1 + len(words_of(text_of(JOBS), "job")))
+        self.assertIn("\n2,j,2,,,held\n", self.tells("table", EXAMPLES / "cases" / "part-held" / "jobs.txt", "--of", "visits"))
+
+    def test_a_sweep(self):
+        """Each row has the words of its line, and the label of its scenario; a scenario that is refused has one."""
+        head, *rows = rows_of(self.tells("table", SWEEP, "--node", "callback", "--labels", *range(8, 16)))
+        self.assertEqual(head[:8], ["scenario", "status", "span", "node", "kind", "in", "out", "lost"])
+        spans = [it[3] for it in words_of(text_of(SWEEP), "jobs")]
+        wanted = [it for it in nodes_of(text_of(SWEEP)) if it["name"] == "callback"]
+        firsts = [[str(at), "0", span, "callback", "server", it["in"]] for at, span, it in zip(range(8, 16), spans, wanted)]
+        self.assertEqual([it[:6] for it in rows], firsts)
+        self.assertEqual([dict(zip(head, it))["p90"] for it in rows], [it["p90"] for it in wanted])
+        refused = self.file("s.txt", text_of(SWEEP) + 'scenario 9 status 3\nmpsim: model line 3: word 1 not allowed\n')
+        rows = rows_of(self.tells("table", refused))
+        self.assertEqual((len(rows), rows[-1]), (26, ["9", "3", *[""] * 16, "mpsim: model line 3: word 1 not allowed"]))
+        self.assertEqual({len(it) for it in rows}, {19})
+        rows = rows_of(self.tells("table", refused, "--of", "exits"))
+        self.assertEqual([it[3:6] for it in rows[1:3]], [["agents", "0", "885"], ["callback", "0", "253"]])
+        self.refuses("2 labels for 8 scenarios", "table", SWEEP, "--labels", "a", "b")
+        self.refuses("there is no node 'desk'; the report has calls, agents, callback", "table", SWEEP, "--node", "desk")
+
+    def test_what_is_no_report(self):
+        text = text_of(JOBS)
+        for name, altered, told in (
+            ("cut", text[:-20], r"report line \d+: .* is cut"),
+            ("altered", text.replace("wait 5", "wait 6", 1), r"report line \d+: .* contradicts the report"),
+            ("version", text.replace("report 2", "report 3", 1), r"report line 1: 'mpsim report 3' begins a report of a form that isn't known here"),
+            ("empty", "", r"report line 1: '' is no line of a report"),
+            ("trace", text_of(TRACE), r"report line 1: 'source,time,.*' is no line of a report"),
+            ("sweep", text_of(SWEEP)[:-100], r"report line \d+: "),
+            ("bytes", "\udcff\n", r"report line 1: "),
+        ):
+            with self.subTest(name):
+                path = self.file(f"{name}.txt", altered)
+                status, out, line = planner("table", path)
+                self.assertEqual((status, out, line.count("\n")), (1, "", 1))
+                self.assertRegex(line, f"^planner: {path}: {told}")
+        self.refuses(NO_JOBS.replace(f"{REPORT}: it", "the report"), "table", REPORT, "--of", "visits")
+        self.refuses("--labels are those of a sweep, and this is one report", "table", REPORT, "--labels", "a")
+        self.refuses(f"{self.folder}/absent: No such file or directory", "table", self.folder / "absent")
+
+    def test_outputs_that_fail(self):
+        """A full disk is one line; who reads no more wants no line."""
+        words = ["sh", "-c", '"$@"', "sh", sys.executable, "-B", ROOT / "tools" / "planner", "table", MODEL, TRACE, "--of", "visits"]
+        words[2] = '"$@" >/dev/full'
+        ran = subprocess.run(words, stdout=subprocess.PIPE, stderr=subprocess.PIPE, text=True)
+        self.assertEqual((ran.returncode, ran.stdout, ran.stderr), (1, "", "planner: the output: No space left on device\n"))
+        words[2] = '{ "$@"; echo $? >&2; } | head -1'
+        words[8:10] = [self.file("m.txt", DESK), self.file("t.csv", "source,time,d\n" + 20000 * "door,0,0\n")]
+        ran = subprocess.run(words, stdout=subprocess.PIPE, stderr=subprocess.PIPE, text=True)
+        self.assertEqual((ran.stdout, ran.stderr), ("job,node,arrive,wait,depart,end\n", "141\n"))
+
+
+class Compare(InFolder):
+    def test_reports(self):
+        other = self.file("other.txt", text_of(REPORT).replace("max 8 p50 5 p90 8", "max 8 p50 5 p90 7"))
+        told = self.tells("compare", REPORT, other, "--node", "desk").splitlines()
+        self.assertEqual([it.split() for it in told], [[str(REPORT), str(other)], ["desk", "8", "7", "(-1)"]])
+        told = self.tells("compare", REPORT, other).splitlines()
+        self.assertEqual([it.split()[0] for it in told[1:]], [it["name"] for it in nodes_of(text_of(REPORT))])
+        self.assertEqual(told[3].split(), ["greet", "1", "1", "(+0)"])
+        self.assertEqual({len(it) for it in told}, {len(told[0])})
+
+    def test_a_sweep(self):
+        """The first scenario is what the others are compared with."""
+        wanted = [int(it["lost"]) for it in nodes_of(text_of(SWEEP)) if it["name"] == "agents"]
+        rows = rows_of(self.tells("compare", SWEEP, "--figure", "lost", "--node", "agents", "--csv"))
+        self.assertEqual(rows[0], ["node", *map(str, range(1, 9)), *(f"{it} less 1" for it in range(2, 9))])
+        self.assertEqual(rows[1], ["agents", *map(str, wanted), *(str(it - wanted[0]) for it in wanted[1:])])
+        shown = self.tells("compare", SWEEP, "--figure", "lost", "--node", "agents").splitlines()[1]
+        self.assertEqual(shown.split()[:4], ["agents", "253", "181", "(-72)"])
+        text = self.tells("compare", SWEEP, REPORT, "--figure", "mean_wait", "--node", "desk").splitlines()
+        self.assertIn(f"{SWEEP} 8", text[0])
+        self.assertEqual(text[1].split(), ["desk", *["-"] * 8, "4.28571"])
+
+    def test_nodes_and_figures(self):
+        """A node that one of them alone has, a figure that there isn't."""
+        texts = [f"model 1\nsource door\nserver {name} ={demand} from door\n" for name, demand in (("a", 4), ("b", 3), ("a", 1))]
+        runs = [mpsim.run(it, [("door", 0), ("door", 1)]) for it in texts]
+        self.assertEqual(compare(runs, "wait"), [("door", [0, 0, 0]), ("a", [3, None, 0]), ("b", [None, 2, None])])
+        self.assertEqual(compare(runs, "share_lost", ["a"]), [("a", [0.0, None, 0.0])])
+        self.assertEqual(dict(compare(runs, "util"))["door"], [None, None, None])
+        for name in "count", "line", "name", "p95", "in_":
+            self.assertRaises(AttributeError, compare, runs, name)
+        self.assertEqual(planner("compare", REPORT, "--figure", "p95")[0], 2)
+        self.refuses("no report has a node 'x'; they have phone, web, greet, menu, expert, desk, wrap", "compare", REPORT, "--node", "x")
+        refused = self.file("s.txt", "scenario 1 status 3\nmpsim: model line 1: expected model 1 or model 2\n")
+        self.refuses(f"{refused}: each scenario is refused", "compare", refused)
+
+
+class Run(InFolder):
+    def test_reports(self):
+        self.assertEqual(self.tells("run", MODEL, TRACE), text_of(REPORT))
+        self.assertEqual(self.tells("run", MODEL, TRACE, "--jobs"), text_of(JOBS))
+        page = self.folder / "page.html"
+        self.assertEqual(self.tells("run", MODEL, TRACE, "--page", page, "--tick", "1s"), text_of(REPORT))
+        self.assertIn("desk", text_of(page))
+
+    def test_times_that_look_like_clocks(self):
+        model = self.file("m.txt", "model 1\nsource a\n")
+        for name, times, looks in (
+            ("dates", [20260302080017, 20260302080102], "dates with a time, as 20260302080017"),
+            ("clocks", [90000 + 100 * it + it for it in range(60)], "times of the day with seconds, as 95959"),
+            ("ticks", range(0, 90000, 1000), None),
+            ("one", [20260399], None),
+        ):
+            trace = self.file(f"{name}.csv", "source,time\n" + "".join(f"a,{it}\n" for it in times))
+            said = f"its times look like {looks}, and are taken as ticks: planner prepare makes ticks of them"
+            told = self.tells("run", model, trace, error=f"planner: warning: {trace}: {said}\n" if looks else "")
+            self.assertIn(f"span {max(times)}\n", told)
+
+    def test_refusals(self):
+        """A fault of the program has its status, and is one line with the file, the record and its column."""
+        trace = self.file("t.csv", "source,time,d\ndoor,0,1\ndoor,1,210.0\n")
+        why = f"{trace}: trace record 2: field 3 is not a number in range (column d): door,1,210.0"
+        self.refuses(why, "run", self.file("m.txt", DESK), trace, status=4)
+        self.refuses("/absent: cannot read the model", "run", "/absent", trace, status=6)
+        bad = self.file("b.txt", "model 1\nsource Door\n")
+        self.refuses(f"{bad}: model line 2: word 2 not allowed: source Door", "run", bad, trace, status=3)
+        late = self.file("l.txt", DESK.replace("model 1\n", "model 1\nbound 3\n"))
+        trace = self.file("u.csv", "source,time,d\ndoor,0,1\ndoor,1,4\n")
+        self.refuses("node desk position 1 passes the bound at time 5", "run", late, trace, status=5)
+
+
+if __name__ == "__main__":
+    unittest.main()

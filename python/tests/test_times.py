@@ -1,0 +1,251 @@
+"""Texts of times, lengths and numbers, each by itself: against `datetime` and `email.utils`, and against figures worked out by hand."""
+
+import random
+import unittest
+from datetime import datetime, timedelta, timezone
+from email.utils import format_datetime
+
+from ground import Test
+
+from mpsim.planner.formats import found_format, judged_format, looks_like_clocks
+from mpsim.planner.lengths import Lengths, found_decimal
+from mpsim.planner.moments import Moments
+from mpsim.planner.names import is_name, name_for
+from mpsim.planner.times import Asks, Unread, clock, excel, hmm, hmmss, iso, length
+from mpsim.planner.zones import Zone
+
+SECOND = 10**6
+EPOCH = datetime(1970, 1, 1, tzinfo=timezone.utc)
+
+
+def utc(*moment):
+    """Microseconds from 1970 to a moment in UTC."""
+    return (datetime(*moment, tzinfo=timezone.utc) - EPOCH) // timedelta(microseconds=1)
+
+
+class Clocks(Test):
+    def seconds(self, read, *texts):
+        return [read(it) / SECOND for it in texts]
+
+    def test_clock(self):
+        texts = "8:05", "08:05:09", "12:00 AM", "12:30 pm", "1:30 p.m.", "24:00", "23:59:60", "8:00:00.250", "8:00:00,5"
+        self.assertEqual(self.seconds(clock, *texts), [29100, 29109, 0, 45000, 48600, 86400, 86400, 28800.25, 28800.5])
+        for bad in "8:60", "25:00", "24:01", "13:00 PM", "0:30 AM", "8", "8:5", "8:00:61", "8:00:00.", "", "٨:٠٥":
+            with self.subTest(bad), self.assertRaises(Unread):
+                clock(bad)
+
+    def test_numbers(self):
+        self.assertEqual(self.seconds(hmm, "5", "805", "0805", "1430", "2400", " 0 "), [300, 29100, 29100, 52200, 86400, 0])
+        self.assertEqual(self.seconds(hmmss, "5", "130", "80509", "143005"), [5, 90, 29109, 52205])
+        for read, bad in (hmm, "860"), (hmm, "80509"), (hmm, "2401"), (hmm, "8:05"), (hmm, ""), (hmm, "-5"), (hmmss, "9960"), (hmmss, "1430050"):
+            with self.subTest(bad), self.assertRaises(Unread):
+                read(bad)
+
+    def test_spreadsheet(self):
+        # Day 46083 of a spreadsheet is March 2, 2026, and day 61 March 1, 1900.
+        days = ("46083", (2026, 3, 2)), ("46083,25", (2026, 3, 2, 6)), ("46083.2501157407", (2026, 3, 2, 6, 0, 10)), ("61", (1900, 3, 1))
+        for text, moment in days:
+            self.assertEqual(Moments("excel", Zone()).of(text), utc(*moment))
+        self.assertEqual(excel("0.25"), 6 * 3600 * SECOND)
+        for bad in "x", "", "-1", "1e3", "12345678":
+            with self.assertRaises(Unread):
+                excel(bad)
+
+    def test_length(self):
+        texts = "1s", "100ms", "1min", "0.5s", "2 h", "7us", "1d", "1.5sec"
+        self.assertEqual([length(it) for it in texts], [10**6, 10**5, 6 * 10**7, 500000, 72 * 10**8, 7, 864 * 10**8, 1500000])
+        for bad in "1", "s", "1 x", "-1s", "0.5us", "1,5s", "":
+            with self.subTest(bad), self.assertRaises(ValueError):
+                length(bad)
+
+
+class Moment(Test):
+    """Moments at random, written by datetime in each way, and read back."""
+
+    def setUp(self):
+        super().setUp()
+        draw = random.Random(5)
+        self.moments = [datetime(1999, 1, 1) + timedelta(seconds=draw.randrange(10**9), microseconds=draw.randrange(10**6)) for _ in range(300)]
+
+    def reads(self, form, texts, moments):
+        how = Moments(form, Zone())
+        self.assertEqual([how.of(f" {it} ") for it in texts], [utc(*it.timetuple()[:6], it.microsecond) for it in moments], texts[0])
+
+    def test_iso(self):
+        zones = [timezone(timedelta(minutes=it)) for it in (0, 60, -300, 345, -570)]
+        here = [it.replace(tzinfo=zones[at % 5]) for at, it in enumerate(self.moments)]
+        there = [it.astimezone(timezone.utc) for it in here]
+        self.reads("iso", [it.isoformat() for it in here], there)
+        self.reads("iso", [it.isoformat(" ") for it in here], there)
+        self.reads("iso", [it.strftime("%Y%m%dT%H%M%S.%f%z") for it in here], there)
+        self.reads("iso", [it.isoformat().replace(".", ",") for it in self.moments], self.moments)
+        self.reads("iso", [it.strftime("%Y-%m-%dT%H:%MZ") for it in self.moments], [it.replace(second=0, microsecond=0) for it in self.moments])
+        self.reads("iso", [str(it.date()) for it in self.moments], [datetime(it.year, it.month, it.day) for it in self.moments])
+        self.assertEqual(iso("2026-03-02T24:00+0530"), (utc(2026, 3, 3), 19800 * SECOND))
+        times = "2026-03-02T25:00", "2026-03-02T08:61", "2026-03-02T08:00:75", "2026-03-02T08:00+25:00", "2026-03-02x"
+        for bad in "2026-02-30", "2026-3-2", "x", *times:
+            with self.subTest(bad), self.assertRaises(Unread):
+                iso(bad)
+
+    def test_rfc(self):
+        plain = [it.replace(microsecond=0) for it in self.moments]
+        zones = [timezone(timedelta(minutes=it)) for it in (60, -300, 0)]
+        here = [it.replace(tzinfo=zones[at % 3]) for at, it in enumerate(plain)]
+        there = [it.astimezone(timezone.utc) for it in here]
+        self.reads("rfc", [format_datetime(it) for it in here], there)
+        self.reads("rfc", [format_datetime(it).split(", ")[1] + " (CET)" for it in here], there)
+        self.reads("rfc", [format_datetime(it.replace(tzinfo=timezone.utc), usegmt=True) for it in plain], plain)
+        self.reads("rfc", [format_datetime(it)[:-5] + "EST" for it in plain], [it + timedelta(hours=5) for it in plain])
+        self.reads("rfc", [format_datetime(it)[:-6] for it in plain], plain)
+        how = Moments("rfc", Zone())
+        # 2 March 2026 is a Monday; what CET means no RFC says; the year has four digits.
+        for bad in "Tue, 02 Mar 2026 %s +0100", "Mon, 02 Mar 2026 %s CET", "Mon, 02 Mar 26 %s +0100", "Mon, 30 Feb 2026 %s +0100", "Mon, 02 Mar 2026":
+            bad = bad.replace("%s", "08:00:17")
+            with self.subTest(bad), self.assertRaises(Unread):
+                how.of(bad)
+
+    def test_formats_of_strptime(self):
+        plain = [it.replace(microsecond=0) for it in self.moments]
+        for form in "%d.%m.%Y %H:%M:%S", "%m/%d/%Y %I:%M:%S %p", "%Y%m%d%H%M%S", "%d/%b/%Y:%H:%M:%S", "%A %d %B %Y %H.%M.%S", "%d.%m.%Y, %H:%M:%S":
+            self.reads(form, [it.strftime(form) for it in plain], plain)
+        self.reads("%d/%b/%Y:%H:%M:%S %z", [it.strftime("%d/%b/%Y:%H:%M:%S -0230") for it in plain], [it + timedelta(minutes=150) for it in plain])
+        self.reads("%d.%m.%Y %H:%M:%S.%f", [it.strftime("%d.%m.%Y %H:%M:%S.%f") for it in self.moments], self.moments)
+
+    def test_numbers_since_1970(self):
+        plain = [it.replace(microsecond=0) for it in self.moments]
+        self.reads("unix", [str(utc(*it.timetuple()[:6]) // SECOND) for it in plain], plain)
+        self.reads("unix", [f"{utc(*it.timetuple()[:6]) // SECOND}.{it.microsecond:06}" for it in self.moments], self.moments)
+        self.reads("unixms", [str(utc(*it.timetuple()[:6]) // 1000) for it in plain], plain)
+        for form, bad in ("unix", "-1"), ("unix", "1."), ("unix", "x"), ("ticks", "1.5"), ("unixms", "1e3"), ("unix", "٣"):
+            with self.subTest(bad), self.assertRaises(Unread):
+                Moments(form, Zone()).of(bad)
+
+
+class Formats(Test):
+    def test_formats_are_found(self):
+        moments = [datetime(2026, 3, 2, 8, 0, 17) + timedelta(seconds=7919 * it) for it in range(300)]
+        forms = "%d.%m.%Y %H:%M:%S", "%d/%m/%Y %H:%M", "%m/%d/%Y %I:%M:%S %p", "%m-%d-%Y %H:%M:%S", "%Y/%m/%d %H:%M:%S", "%Y%m%d%H%M%S"
+        for form in *forms, "%d.%m.%Y, %H:%M", "%d.%m.%Y", "%Y%m%d", "%d/%m/%Y, %I:%M %p", "%d.%m.%Y %H:%M:%S.%f":
+            self.assertEqual(found_format([it.strftime(form) for it in moments]), form)
+        zone = timezone(timedelta(hours=1))
+        here = [it.replace(tzinfo=zone) for it in moments]
+        for form, texts in (
+            ("iso", [it.isoformat() for it in moments]),
+            ("iso", [it.isoformat(" ") + "Z" for it in moments]),
+            ("iso", [it.isoformat() for it in here]),
+            ("iso", [it.strftime("%Y%m%dT%H%M%S") for it in moments]),
+            ("rfc", [format_datetime(it) for it in here]),
+            ("clock", [it.strftime("%H:%M:%S") for it in moments]),
+            ("clock", [it.strftime("%I:%M %p") for it in moments]),
+        ):
+            self.assertEqual(found_format(texts), form)
+        # There is no 13th month.
+        for days, form in (["12/03/2026", "13/03/2026"], "%d/%m/%Y"), (["12/03/2026", "12/13/2026"], "%m/%d/%Y"), (["13.12.2026"], "%d.%m.%Y"):
+            self.assertEqual(found_format(days), form)
+        # A tenth may be anything.
+        self.assertEqual(found_format(["2026-03-02"] * 9 + ["x"]), "iso")
+
+    def test_what_has_to_be_said(self):
+        for texts, says in (
+            (["03/02/2026 8:00", "04/05/2026 9:00"], "'03/02/2026 8:00' may begin with the day or with the month: the format is '%d/%m/%Y %H:%M' or"),
+            (["25/03/2026 8:00", "03/25/2026 8:00"], "may begin with the day or with the month"),
+            (["02.03.26 08:00"], "'02.03.26 08:00' has a year of two digits: the format may be '%d.%m.%y %H:%M'"),
+            (["46083.25"], "'46083.25' is a number: the format is one of ticks, unix"),
+            (["1772434817"], "is a number"),
+            (["2026-03-02"] * 8 + ["x", "y"], "is of no format that is found by itself"),
+            (["", " "], "no time to find the format by"),
+        ):
+            with self.assertRaises(ValueError) as caught:
+                found_format(texts)
+            self.assertIn(says, str(caught.exception))
+
+    def test_formats_that_are_given(self):
+        for form in "%d.%m.%y %H:%M", "%H:%M", "iso", "hmm", "%Y-%m-%dT%H:%M:%S%z":
+            self.assertEqual(judged_format(form), form)
+        for bad in "%Q", "dd.mm.yyyy", "%d.%m. %H:%M", "%", "hhmm", "":
+            with self.subTest(bad), self.assertRaises(ValueError):
+                judged_format(bad)
+
+    def test_what_looks_like_clocks(self):
+        self.assertEqual(looks_like_clocks([20260302080017, 20260302080018]), "dates with a time, as 20260302080017")
+        self.assertEqual(looks_like_clocks([202603020800]), "dates with a time, as 202603020800")
+        self.assertEqual(looks_like_clocks([800 + 100 * (it // 60) + it % 60 for it in range(0, 300, 7)]), "times of the day, as 1254")
+        seconds = [10000 * (it // 3600) + 100 * (it // 60 % 60) + it % 60 for it in range(28800, 60000, 77)]
+        self.assertEqual(looks_like_clocks(seconds), f"times of the day with seconds, as {seconds[-1]}")
+        self.assertEqual(looks_like_clocks([1772434817]), "seconds since 1970, as 1772434817")
+        self.assertEqual(looks_like_clocks([1772434817000]), "milliseconds since 1970, as 1772434817000")
+        for values in range(0, 5000, 7), range(0, 2400, 100), [5] * 100, [], [20261302080017], range(0, 60), [10**18], [800, 801], range(800, 861):
+            self.assertIsNone(looks_like_clocks(values))
+
+
+class Demands(Test):
+    def read(self, text, unit="s", decimal="."):
+        return Lengths(unit, decimal, SECOND).ticks[text]
+
+    def test_units(self):
+        for text, unit, decimal, ticks in (
+            ("210", "s", None, 210),
+            (" 210,0 ", "s", ",", 210),
+            ("3,5", "min", ",", 210),
+            ("1.210,0", "s", ",", 1210),
+            ("1,210.0", "s", ".", 1210),
+            ("1'210", "s", ".", 1210),
+            ("1\u00a0210,0", "s", ",", 1210),
+            ("0:03:30", "s", ".", 210),
+            ("75:30", "m:ss", ".", 4530),
+            ("3:30", "h:mm", ".", 12600),
+            ("0:03:30,6", "s", ",", 211),
+            ("210000", "ms", ".", 210),
+            ("7", "ticks", ".", 7),
+            ("2", "h", ".", 7200),
+            ("0.5", "excel", ".", 43200),
+            ("0.4999", "s", ".", 0),
+            ("0.5", "s", ".", 1),
+            ("68719476736", "s", ".", 2**36),
+        ):
+            with self.subTest(text):
+                self.assertEqual(self.read(text, unit, decimal), ticks)
+        for text, decimal in ("1.5", ","), ("1,5", "."), ("-1", "."), ("", "."), ("0:61:00", "."), ("1e5", "."), ("٣", "."), ("1.2345,0", ","):
+            with self.subTest(text), self.assertRaises(Unread):
+                self.read(text, "s", decimal)
+        with self.assertRaises(Unread):
+            self.read("68719476737")
+        for text, decimal in ("3:30", "."), ("1.500", None), ("1,5", None):
+            with self.subTest(text), self.assertRaises(Asks):
+                self.read(text, "s", decimal)
+        with self.assertRaises(ValueError):
+            Lengths("fortnight", ".", SECOND)
+
+    def test_decimal_marks(self):
+        texts = ["1,5", "2"], ["1.5"], ["1.000,5"], ["1,000.5"], ["1.000.000"], ["2", "0:03:30,5"], ["1.500", "1,5"], ["0.500"]
+        self.assertEqual([found_decimal(it) for it in texts], [",", ".", ",", ".", ",", None, ",", "."])
+        for texts, says in (["1.500"], "'1.500' may be thousands or a fraction"), (["1.5", "1,5"], "both"):
+            with self.assertRaisesRegex(ValueError, says):
+                found_decimal(texts)
+
+
+class Names(Test):
+    def test_names(self):
+        for text, name in (
+            ("Technical Support", "technical_support"),
+            ("Verkauf & Büro", "verkauf_and_buro"),
+            ("Straße", "strasse"),
+            ("ŁÓDŹ", "lodz"),
+            ("24h", "x_24h"),
+            ("from", "x_from"),
+            ("Time", "x_time"),
+            ("日本", "x"),
+            ("  --", "x"),
+            ("A" * 40, "a" * 32),
+            ("a" * 31 + " b", "a" * 31),
+        ):
+            self.assertEqual(name_for(text), name)
+            self.assertTrue(is_name(name))
+        self.assertEqual(name_for("Büro", ["buro", "buro_2"]), "buro_3")
+        self.assertEqual(name_for("a" * 40, ["a" * 32]), "a" * 30 + "_2")
+        for bad in "", "A", "1a", "a-b", "from", "time", "source", "a" * 33, "é", "a\n":
+            self.assertFalse(is_name(bad), bad)
+
+
+if __name__ == "__main__":
+    unittest.main()

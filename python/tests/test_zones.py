@@ -1,0 +1,143 @@
+"""Time zones and calendars, against `datetime` and `zoneinfo`."""
+
+import unittest
+from datetime import datetime, timedelta, timezone
+from zoneinfo import ZoneInfo
+
+from ground import Test
+
+from mpsim.planner.calendar import Calendar, first_lines, told_in
+from mpsim.planner.times import Asks, Unread
+from mpsim.planner.zones import Zone
+
+SECOND, DAY = 10**6, 86400 * 10**6
+EPOCH = datetime(1970, 1, 1)
+# With an hour and with half an hour; where clocks change at midnight; where they don't; and one with minutes.
+ZONES = "Europe/Berlin", "America/New_York", "Australia/Lord_Howe", "America/Havana", "Asia/Beirut", "Asia/Kathmandu"
+
+
+def micros(wall):
+    return (wall - EPOCH) // timedelta(microseconds=1)
+
+
+class Zones(Test):
+    def test_each_twenty_minutes(self):
+        """Away and back: what the clock of the zone shows, and the moment of that. Of a year in Berlin, elsewhere of the days around each change."""
+        begin = datetime(2026, 1, 1, tzinfo=timezone.utc)
+        for name in ZONES:
+            place, zone, seen = Zone(name, "order"), ZoneInfo(name), {}
+            days = [begin + timedelta(days=it) for it in range(365)]
+            offsets = [it.astimezone(zone).utcoffset() for it in days]
+            near = [it for it in range(365) if name == "Europe/Berlin" or len(set(offsets[max(it - 2, 0) : it + 3])) > 1]
+            self.assertTrue(len(near) in (365, 8) or name == "Asia/Kathmandu")
+            for moment in (days[it] + timedelta(minutes=20 * step) for it in near for step in range(72)):
+                wall = micros(moment.astimezone(zone).replace(tzinfo=None))
+                value = int(moment.timestamp()) * SECOND
+                self.assertEqual((place.utc(wall, seen), place.wall(value)), (value, wall), (name, moment))
+
+    def test_the_hour_that_comes_twice(self):
+        wall = micros(datetime(2026, 10, 25, 2, 30))
+        first, second = micros(datetime(2026, 10, 25, 0, 30)), micros(datetime(2026, 10, 25, 1, 30))
+        self.assertEqual([Zone("Europe/Berlin", it).utc(wall, {}) for it in ("first", "second", "order")], [first, second, first])
+        with self.assertRaisesRegex(Asks, "in the hour that 2026-10-25 has twice in Europe/Berlin: --twice says which"):
+            Zone("Europe/Berlin").utc(wall)
+        # An end isn't before its beginning, whichever hour is asked for.
+        place = Zone("Europe/Berlin", "first")
+        self.assertEqual([place.utc(wall, {}, than) for than in (first - 1, first, first + 1, second)], [first, first, second, second])
+        self.assertEqual(list(place.told()), ["4 times lie in the hour that 2026-10-25 has twice in Europe/Berlin, and are taken as the first"])
+        # Minute by minute on to the second half, and there no way back.
+        place, seen = Zone("Europe/Berlin", "order"), {}
+        walls = [micros(datetime(2026, 10, 25, 2, minute)) for minute in (10, 10, 50, 5, 7)]
+        got = [(place.utc(it, seen) - it) // (3600 * SECOND) for it in walls]
+        self.assertEqual(got, [-2, -2, -2, -1, -1])
+
+    def test_the_hour_that_is_skipped(self):
+        wall, begin = micros(datetime(2026, 3, 29, 2, 30)), micros(datetime(2026, 3, 29, 1, 0))
+        with self.assertRaisesRegex(Unread, "in the hour that 2026-03-29 skips in Europe/Berlin"):
+            Zone("Europe/Berlin").utc(wall)
+        self.assertEqual(Zone("Europe/Berlin").first(wall), begin + 1800 * SECOND)
+        self.assertEqual(Zone("Europe/Berlin").utc(micros(datetime(2026, 3, 29, 3, 0))), begin)
+
+    def test_days_on_which_clocks_change(self):
+        place = Zone("Europe/Berlin")
+        days = datetime(2026, 3, 28), datetime(2026, 3, 29), datetime(2026, 10, 25), datetime(2026, 10, 26)
+        found = [place.whole_day(micros(it)) for it in days]
+        self.assertEqual(found, [micros(datetime(2026, 3, 27, 23)), None, None, micros(datetime(2026, 10, 25, 23))])
+
+    def test_without_a_zone(self):
+        place = Zone()
+        self.assertEqual((place.utc(7), place.wall(7), place.first(7), place.shown(0), list(place.told())), (7, 7, 7, "1970-01-01T00:00:00", []))
+
+    def test_zones_that_are_not_there(self):
+        for bad in "Berlin", "Europe/Nowhere", "../etc/passwd", "/etc/passwd", "Europe":
+            with self.subTest(bad), self.assertRaisesRegex(ValueError, "this machine has no time zone"):
+                Zone(bad)
+
+
+class Calendars(Test):
+    def test_days_and_hours(self):
+        """Each five minutes of some days around each change are of the day and of the hour that datetime says."""
+        for name in ZONES[:5]:
+            zone, late = ZoneInfo(name), [datetime(2026, 10, 23, 0, 0), datetime(2026, 10, 31, 3, 30)]
+            for start in datetime(2026, 3, 6, 17, 5), datetime(2026, 3, 27, 17, 5), datetime(2026, 4, 3, 7, 0), datetime(2026, 10, 2, 0, 0), *late:
+                zero = start.replace(tzinfo=zone).astimezone(timezone.utc)
+                cal = Calendar(60 * SECOND, start.isoformat(), name)
+                for by, form in ("day", "%Y-%m-%d"), ("each", "%Y-%m-%d %H:00"), ("hour", "%H:00"), ("weekday", "%A"):
+                    begins, names = cal.parts(by, 4 * 1440)
+                    self.assertEqual(begins, sorted(begins))
+                    at = 0
+                    for minute in range(0, 4 * 1440, 5):
+                        while at + 1 < len(begins) and begins[at + 1] <= minute:
+                            at += 1
+                        here = (zero + timedelta(minutes=minute)).astimezone(zone)
+                        self.assertEqual(names[at], here.strftime(form), (name, by, here))
+
+    def test_midnights(self):
+        cal = Calendar(SECOND, "2026-10-24T08:00", "Europe/Berlin")
+        ticks = [(cal.name(day), cal.tick_at(begin), cal.tick_at(end)) for day, begin, end in cal.midnights(57600 + 90000)]
+        # The second day has 25 hours.
+        days = [("2026-10-24", -28800, 57600), ("2026-10-25", 57600, 57600 + 90000), ("2026-10-26", 147600, 147600 + 86400)]
+        self.assertEqual(ticks, days)
+        self.assertEqual([cal.name(day) for day, _, _ in cal.midnights(57600 + 89999)], ["2026-10-24", "2026-10-25"])
+        plain = Calendar(SECOND)
+        self.assertEqual([plain.name(it) for it, _, _ in plain.midnights(86400)], ["day 1", "day 2"])
+        self.assertEqual(plain.parts("hour", 3600)[1][:2], ["00:00", "01:00"])
+
+    def test_starts(self):
+        for start, zone, tick, wall in (
+            ("2026-03-02T08:00:00+01:00", "Europe/Berlin", 60, datetime(2026, 3, 2, 8, 1)),
+            ("2026-03-02T07:00:00Z", "Europe/Berlin", 60, datetime(2026, 3, 2, 8, 1)),
+            ("2026-03-02T08:00", "Europe/Berlin", 0, datetime(2026, 3, 2, 8)),
+            ("2026-03-02T08:00+05:00", None, 1, datetime(2026, 3, 2, 8, 0, 1)),
+            ("2026-03-02", None, 86399, datetime(2026, 3, 2, 23, 59, 59)),
+        ):
+            self.assertEqual(Calendar(SECOND, start, zone).wall(tick), micros(wall))
+        # A moment within a tick is of the next one.
+        self.assertEqual([Calendar(60 * SECOND).tick_at(it * SECOND) for it in (0, 1, 60, 61)], [0, 1, 1, 2])
+
+    def test_what_has_to_be_said(self):
+        with self.assertRaisesRegex(ValueError, "how long is a tick"):
+            Calendar(None)
+        with self.assertRaisesRegex(ValueError, "time 0, 8 o'clock: no ISO 8601 time"):
+            Calendar(SECOND, "8 o'clock")
+        with self.assertRaisesRegex(ValueError, "--start says it"):
+            Calendar(SECOND).parts("weekday", 7)
+
+    def test_first_lines(self):
+        lines = "model 1\n# a tick is 1s, time 0 is 2026-03-02T08:00:00+01:00 in Europe/Berlin\n# columns: talk, wrap\nsource a\nsource b\n"
+        self.assertEqual(first_lines(SECOND, "2026-03-02T08:00:00+01:00", "Europe/Berlin", ["talk", "wrap"], ["a", "b"]), lines)
+        self.assertEqual(first_lines(1500, None, None, [], ["a"]), "model 1\n# a tick is 1500us\nsource a\n")
+        self.assertEqual(told_in(lines), (SECOND, "2026-03-02T08:00:00+01:00", "Europe/Berlin"))
+        self.assertEqual(told_in(lines.replace("\n", "\r\n")), (SECOND, "2026-03-02T08:00:00+01:00", "Europe/Berlin"))
+        for text, told in (
+            ("# a tick is 100ms\n", (100000, None, None)),
+            ("model 1\n# a tick is 1min, time 0 is 2026-03-02T08:00:00", (60 * SECOND, "2026-03-02T08:00:00", None)),
+            ("# a tick is a second\n", (None, None, None)),
+            ("# a tick is short\n", (None, None, None)),
+            ("source a # a tick is 1s\n", (None, None, None)),
+        ):
+            self.assertEqual(told_in(text), told)
+
+
+if __name__ == "__main__":
+    unittest.main()
