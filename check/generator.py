@@ -1,4 +1,4 @@
-"""The made inputs of `mpsim --made N`: the model and the trace that a number stands for (docs/MODEL.md, "Made inputs")."""
+"""The made inputs of `mpsim --made N`: the model and the trace that a number stands for (docs/MODEL.md, "Generated inputs")."""
 
 from __future__ import annotations
 

@@ -11,13 +11,11 @@ import shutil
 from pages import blocks
 from programs import EXAMPLES, PROGRAMS, ROOT, Check, difference, executable, run
 
-PAGES = ["README.md", *(f"docs/{file.name}" for file in sorted((ROOT / "docs").glob("*.md")))]
+PAGES = ["README.md", "CHANGELOG.md", "CONTRIBUTING.md", *(f"docs/{file.name}" for file in sorted((ROOT / "docs").glob("*.md")))]
 # A block is a command where it begins with one of these, or with the name of a file in a folder.
 COMMANDS = ["awk", "cat", "cd", "cp", "diff", "for", "gzip", "install", "man", "python3", "rt", "sed", "sh", "tar"]
-# Programs that draw, which need not be there.
-DRAWING = ["dot", "gnuplot"]
 # Headings of docs/MODEL.md whose commands test_recipes.py runs.
-RECIPES = ["A trace from a log", "Two servers at one queue"]
+RECIPES = ["A trace from a log", "Several servers at one queue"]
 # The other blocks of code that have texts of the examples, or what a program writes: for each the command that shows it.
 SHOWN = {
     ("README.md", "An example"): ["cat callcentre/model.txt", "cat callcentre/trace.csv", "cat callcentre/report.txt"],
@@ -63,7 +61,7 @@ def headings(page):
 
 class Documents(Check):
     def setUp(self):
-        """A folder like the top one, but for the sources, with files that pages name, a home, and stand-ins for programs that draw."""
+        """A folder like the top one, but for the sources, with files that pages name, a home, and the programs in a folder."""
         super().setUp()
         self.top, self.home = self.folder / "top", self.folder / "home"
         shutil.copytree(EXAMPLES, self.top / "examples")
@@ -73,30 +71,22 @@ class Documents(Check):
             (self.top / name).symlink_to(program)
             (self.top / "crates" / name / "out").mkdir(parents=True)
             (self.top / "crates" / name / "out" / name).symlink_to(executable(name))
-        for name in DRAWING:
-            self.file(name, "#!/bin/sh\nexec cat\n").chmod(0o755)
-        self.settings = {"HOME": str(self.home), "PATH": f"{self.folder}:{os.environ['PATH']}"}
-
-    def gives(self, heading):
-        """Files that the commands below a heading work on, which its page doesn't give."""
-        model, trace = (EXAMPLES / "sweep" / "agents-12.txt").read_text(), EXAMPLES / "sweep" / "trace.csv"
-        if heading == "Models by a loop":
-            self.file("top/model.txt", model.replace("trunk agents 12", "trunk agents AGENTS"))
-        if heading == "More than 64 models":
-            for agents in range(1, 201):
-                self.file(f"top/agents-{agents:03}.txt", model.replace("trunk agents 12", f"trunk agents {agents}"))
-        if heading in ("Models by a loop", "More than 64 models"):
-            shutil.copy(trace, self.top)
+        (self.folder / "programs").mkdir()
+        for name in PROGRAMS:
+            (self.folder / "programs" / name).symlink_to(executable(name))
+        self.settings = {"HOME": str(self.home), "PATH": f"{self.folder}:{os.environ['PATH']}", "MPSIM_PROGRAMS": str(self.folder / "programs")}
 
     def told(self, command, folder):
         """What a command writes on its output, and into files that weren't there."""
         before = {file: file.stat().st_mtime_ns for file in self.top.rglob("*") if file.is_file()}
         ran = run("sh", "-e", "-c", command, folder=folder, settings=self.settings)
-        self.did(ran._replace(out=b""))
+        # What `planner` tells beside what it writes is shown as well.
+        told = b"".join(line for line in ran.line.splitlines(keepends=True) if line.startswith(b"planner: "))
+        self.did(ran._replace(out=b"", line=ran.line.replace(told, b"")))
         new = [file for file in sorted(self.top.rglob("*")) if file.is_file() and file.stat().st_mtime_ns != before.get(file)]
         for file in new:
             self.holds(f"{ran.command}\nwrites nothing into {file.name}", file.stat().st_size)
-        return ran, b"".join([ran.out, *(file.read_bytes() for file in new)]).decode()
+        return ran, b"".join([told, ran.out, *(file.read_bytes() for file in new)]).decode()
 
     def shows(self, page, block, ran, text):
         """A case: the lines of a block stand in what was written, in this order."""
@@ -105,7 +95,6 @@ class Documents(Check):
 
     def runs_below(self, page, heading, found):
         """Runs what stands below a heading, and compares it with what is shown."""
-        self.gives(heading)
         wanted, last = list(SHOWN.get((page, heading), [])), None
         for block in found:
             if block.is_marked or block.text.startswith("#!"):
@@ -125,10 +114,10 @@ class Documents(Check):
         """The numbers in the table of docs/SWEEPS.md."""
         page = (ROOT / "docs" / "SWEEPS.md").read_text()
         rows = re.findall(r"^\| (\d+) \| ([\d,]+) \| ([\d,]+) s \| ([\d,]+) s \|$", page, flags=re.MULTILINE)
-        command = next(it.text for it in blocks("docs/SWEEPS.md") if it.text.startswith("cd examples/sweep"))
+        command = next(it.text for it in blocks("docs/SWEEPS.md") if "planner table" in it.text)
         _, text = self.told(command, self.top)
-        table = [line.split(",") for line in text.splitlines()[1:]]
-        wanted = [(re.sub(r"\D", "", row[1]).lstrip("0"), *(f"{int(row[at]):,}" for at in (5, 11, 12))) for row in table]
+        table = [line.split(",") for line in text.splitlines() if ",callback," in line]
+        wanted = [(row[0], *(f"{int(row[at]):,}" for at in (5, 11, 12))) for row in table]
         self.same("the table of docs/SWEEPS.md", rows, wanted)
 
     def test_commands_are_run(self):

@@ -10,8 +10,8 @@ from programs import CASES, EXAMPLES, Check, form_of, run
 
 # Workers and jobs in a block.
 SETTINGS = [("1", "5"), ("4", "1"), ("4", "4096"), ("64", "1")]
-# These have examples of mpsweep and of mpedit, and the cases.
-OTHERS = ["cases", "edits", "sweep"]
+# These have examples of mpsweep, of mpedit and of the Python package, and the cases.
+OTHERS = ["cases", "edits", "python", "sweep"]
 FOLDERS = [it for it in sorted(EXAMPLES.iterdir()) if it.is_dir() and it.name not in OTHERS] + [it for it in sorted(CASES.iterdir()) if it.is_dir()]
 
 
@@ -39,6 +39,10 @@ class Examples(Check):
         self.did(run("mpsim", "model.txt", "--report", "1", "trace.csv", folder=server), 0, server / "report.txt")
         words = "--block 65536 model.txt --workers 064 --jobs trace.csv --report 1".split()
         self.did(run("mpsim", *words, folder=server), 0, server / "jobs.txt")
+
+    def test_a_week_is_drawn(self):
+        week = EXAMPLES / "week"
+        self.did(run(week / "calls.py"), 0, week / "trace.csv")
 
 
 for folder in FOLDERS:

@@ -35,7 +35,7 @@ class Manual(Check):
         self.settings = {"PATH": f"{self.folder}:{os.environ['PATH']}"}
         for name, program in PROGRAMS.items():
             (self.folder / name).symlink_to(program)
-        (self.folder / "tools").symlink_to(ROOT / "tools")
+        (self.folder / "planner").symlink_to(ROOT / "tools" / "planner")
         for file in DESK_FILES:
             shutil.copy(file, self.folder)
         shutil.copy(EXAMPLES / "sweep" / "trace.csv", self.folder / "calls.csv")

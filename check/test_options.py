@@ -1,5 +1,5 @@
 """Options and statuses are the same wherever they stand: in the usage line that a program writes, the head of its script, its man page, its completions,
-docs/ERRORS.md, README and docs/EDITS.md."""
+docs/ERRORS.md, docs/REPORT.md and docs/EDITS.md."""
 import re
 import shlex
 import shutil
@@ -72,7 +72,7 @@ class Options(Check):
                 self.same(f"completions/_{program}", sorted(re.findall(r"^ *'(--[a-z]+)\[", text_of(f"completions/_{program}"), flags=re.MULTILINE)), options)
                 if (ROOT / "completions" / f"{program}.bash").is_file():
                     self.same(f"completions/{program}.bash", options_of(text_of(f"completions/{program}.bash")), options)
-        self.same("README", options_of("".join(words for words, _ in rows_of("README.md", "## Options"))), options_of(" ".join(forms_of("mpsim"))))
+        self.same("docs/REPORT.md", options_of("".join(words for words, _ in rows_of("docs/REPORT.md", "## Options"))), options_of(" ".join(forms_of("mpsim"))))
 
     def test_what_bash_completes(self):
         """All options, but for those that stand there already; both forms of the report; else files."""
@@ -86,14 +86,14 @@ class Options(Check):
 
     def test_ranges_of_numbers(self):
         """The numbers of the line that refuses an option's value stand in its descriptions."""
-        rows, page = rows_of("README.md", "## Options"), "\n".join(manual_section("mpsim", "OPTIONS"))
+        rows, page = rows_of("docs/REPORT.md", "## Options"), "\n".join(manual_section("mpsim", "OPTIONS"))
         described = {options_of(it)[0]: it for it in page.split(".TP")[1:]}
         for line, _, _ in rows_of("docs/ERRORS.md"):
             for option in re.findall(r"`mpsim: (--[a-z]+) takes ", line):
                 numbers = numbers_of(line)
                 self.holds(f"{option} in docs/mpsim.1: {described[option]}", numbers <= numbers_of(described[option]))
                 row = next(f"{words} {text}" for words, text in rows if option in words)
-                self.holds(f"{option} in README: {row}", numbers <= numbers_of(row))
+                self.holds(f"{option} in docs/REPORT.md: {row}", numbers <= numbers_of(row))
                 self.did(run("mpsim", option, "x", *["m", "t"] * (option != "--made")), 2, "", line.strip("`") + "\n")
 
     def test_statuses(self):

@@ -6,7 +6,7 @@ a simulation of the real rule (rules.py).
 import shutil
 
 from pages import sections
-from programs import EXAMPLES, PROGRAMS, Check, run
+from programs import EXAMPLES, PROGRAMS, ROOT, Check, executable, run
 from rules import blocked, drawn, queued, simulated
 
 TRACES = 20
@@ -19,6 +19,13 @@ def visits(text, *nodes):
     return {int(w[1]): (int(w[6]), int(w[8])) if w[5] == "wait" else None for w in lines if w[2] in nodes}
 
 
+def pool_visits(text):
+    """Of each job at the queue `desk` its wait, in the delay in front of the trunk group, and its departure."""
+    ends = visits(text, "desk")
+    lines = [line.split() for line in text.splitlines() if line.startswith("job ")]
+    return {int(w[1]): (int(w[8]) - int(w[4]), ends[int(w[1])][1]) for w in lines if w[2] == "desk_queue"}
+
+
 def table(columns, rows):
     return "".join(",".join(map(str, row)) + "\n" for row in [columns.split(","), *rows])
 
@@ -28,6 +35,9 @@ class Recipes(Check):
         super().setUp()
         (self.folder / "mpsim").symlink_to(PROGRAMS["mpsim"])
         (self.folder / "examples").symlink_to(EXAMPLES)
+        (self.folder / "tools").symlink_to(ROOT / "tools")
+        (self.folder / "programs").mkdir()
+        (self.folder / "programs" / "mpsim").symlink_to(executable("mpsim"))
 
     def kept(self, **texts):
         """Writes these texts into the folder: model_txt is model.txt."""
@@ -36,13 +46,14 @@ class Recipes(Check):
 
     def told(self, command, shell="sh"):
         """What a command writes in the folder."""
-        ran = run(shell, "-c", command, folder=self.folder)
+        ran = run(shell, "-c", command, folder=self.folder, settings={"MPSIM_PROGRAMS": str(self.folder / "programs")})
         self.assertEqual(ran.status, 0, f"{ran.command}\n{ran.line.decode()}")
         return ran.out.decode()
 
     def served(self, commands):
-        """What both runs of a recipe write, with the lines of the jobs of the second."""
-        return self.told(commands.rstrip() + " --jobs")
+        """What the run of a pool writes, with the lines of the jobs; what is told of the pool before it goes nowhere."""
+        pool, run_it = commands.splitlines()
+        return self.told(f"{pool} >/dev/null && {run_it} --jobs")
 
     def report(self, model, trace):
         """The report of two texts, with the lines of the jobs."""
@@ -54,14 +65,17 @@ class Recipes(Check):
         missing = set(lines.splitlines()) - set(text.splitlines())
         self.same(f"{what}: lines that aren't in the answer", sorted(missing), [])
 
-    def test_two_servers_at_one_queue(self):
-        turns, trace, lines, tellers, commands, _ = MODEL["Two servers at one queue"]
+    def test_several_servers_at_one_queue(self):
+        turns, trace, lines, desk, commands, pool = MODEL["Several servers at one queue"]
         mod = turns.replace("split turns 2 turn", "split turns 2 mod teller")
         self.shows("by turns", self.report(turns, trace), lines)
-        self.kept(turns_txt=turns, tellers_txt=mod, tellers_py=tellers)
-        text = self.served(commands)
-        self.same("by tellers", visits(text, "ann", "ben"), {1: (0, 6), 2: (0, 2), 3: (0, 3), 4: (0, 4)})
-        self.same("who serves", sorted(visits(text, "ben")), [2, 3, 4])
+        rows = [("door", int(line.split(",")[1]), int(line.split(",")[2]), int(at > 0)) for at, line in enumerate(trace.split()[1:])]
+        ends = {1: (0, 6), 2: (0, 2), 3: (0, 3), 4: (0, 4)}
+        self.same("by tellers", visits(self.report(mod, table("source,time,d,teller", rows)), "ann", "ben"), ends)
+        self.kept(desk_txt=desk, trace_csv=trace)
+        self.same("a pool", pool_visits(self.served(commands)), ends)
+        self.shows("the model of a pool", (self.folder / "served.txt").read_text(), pool)
+        self.same("who serves", [line.split(",")[3] for line in (self.folder / "served.csv").read_text().split()[1:]], ["1", "2", "2", "2"])
 
         for seed in range(TRACES):
             rows = drawn(seed, ["door"], (4, 4))
@@ -70,41 +84,32 @@ class Recipes(Check):
             rows = drawn(seed, ["door", "gate"], (0, 9), (0, 5))
             self.kept(trace_csv=table("source,time,d,w", rows))
             for inputs in "door gate", "gate door":
-                two = lambda text: text.replace("source door", "source door\nsource gate").replace("from door", f"from {inputs}")
-                self.kept(turns_txt=two(turns), tellers_txt=two(mod))
+                two = desk.replace("source door", "source door\nsource gate").replace("from door", f"from {inputs}")
+                self.kept(desk_txt=two)
                 jobs = queued(rows, inputs.split())
-                self.same("two sources", visits(self.served(commands), "ann", "ben"), simulated(jobs, 2))
+                self.same("two sources", pool_visits(self.served(commands)), simulated(jobs, 2))
                 # Behind a way that takes w ticks: by the time at which a job is through it, then as they came to it.
-                behind = lambda text: two(text).replace(f"from {inputs}", f"from way\ndelay way w from {inputs}")
-                self.kept(turns_txt=behind(turns), tellers_txt=behind(mod))
+                self.kept(desk_txt=two.replace(f"from {inputs}", f"from way\ndelay way w from {inputs}"))
                 jobs = sorted((job._replace(time=job.time + rows[job.number - 1][3]) for job in jobs), key=lambda job: job.time)
-                self.same("behind a delay", visits(self.served(commands), "ann", "ben"), simulated(jobs, 2))
+                self.same("behind a delay", pool_visits(self.served(commands)), simulated(jobs, 2))
 
     def test_many_servers_at_one_queue(self):
-        tellers, commands, splits = MODEL["Two servers at one queue"][3:]
-        names = [f"s{k}" for k in range(14)]
-        ends = [f"{split}.{out}" for split in ("first", "second") for out in range(7)]
-        servers = "".join(f"server {name} d from {end}\n" for name, end in zip(names, ends))
-        gathered = f"delay left =0 from {' '.join(names[:7])}\ndelay right =0 from {' '.join(names[7:])}\ndelay out =0 from left right\n"
-        self.kept(
-            tellers_py=tellers.replace("[(0, 0), (0, 1)]", "[(0, teller) for teller in range(14)]"),
-            turns_txt="model 1\nsource door\nserver turns d from door\n",
-            tellers_txt="model 1\nsource door\n" + splits + servers + gathered,
-        )
-        for seed in range(5):
-            rows = drawn(seed, ["door"], (0, 40))
-            self.kept(trace_csv=table("source,time,d", rows))
-            self.same("14 servers", visits(self.served(commands), *names), simulated(queued(rows, ["door"]), 14))
-
-        # 55 servers behind a source: 64 nodes.
-        lines = ["model 1", "source door", "split banks cut teller 8 16 24 32 40 48 from door"]
-        for bank in range(7):
-            own = range(8 * bank, min(8 * bank + 8, 55))
-            lines.append(f"split bank{bank} cut teller {' '.join(map(str, own[1:]))} from banks.{bank}")
-            lines += [f"server s{k} d from bank{bank}.{k - own[0]}" for k in own]
-        self.same("64 nodes", len(lines), 65)
-        text = self.report("\n".join(lines) + "\n", table("source,time,d,teller", [("door", 0, 1, k) for k in range(55)]))
-        self.same("55 servers", visits(text, *(f"s{k}" for k in range(55))), {k + 1: (0, 1) for k in range(55)})
+        """Also with a node for each, behind two splits and before a further station; 55 are 64 nodes."""
+        desk, commands, _ = MODEL["Several servers at one queue"][3:]
+        for servers, seeds in (14, range(5)), (55, [0]):
+            behind = "delay out =0 from desk\n" if servers == 14 else ""
+            each = commands.replace("--agents 2", f"--agents {servers} --by agents")
+            self.kept(desk_txt=desk + behind)
+            for seed in seeds:
+                rows = drawn(seed, ["door"], (0, 40), jobs=40 if servers == 14 else 120)
+                self.kept(trace_csv=table("source,time,d", rows))
+                wanted = simulated(queued(rows, ["door"]), servers)
+                self.same(f"{servers} servers", pool_visits(self.served(commands.replace("--agents 2", f"--agents {servers}"))), wanted)
+                text = self.served(each)
+                self.same(f"{servers} nodes of servers", visits(text, *(f"desk_{k}" for k in range(1, servers + 1))), wanted)
+                if behind:
+                    self.same("what goes on", {job: end[1] for job, end in visits(text, "out").items()}, {job: end[1] for job, end in wanted.items()})
+            self.same("nodes", text.count("\nnode "), {14: 20, 55: 64}[servers])
 
     def test_links(self):
         model, trace = MODEL["Links"]

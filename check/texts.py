@@ -1,6 +1,6 @@
 """The texts that the reference reads: lines, words and numbers of a model, the records of a trace, the words of a command.
 
-They are as docs/MODEL.md says ("The model by example", "The trace"), and refused as docs/ERRORS.md says. A text is a string of
+They are as docs/MODEL.md says ("The lines", "The trace"), and refused as docs/ERRORS.md says. A text is a string of
 characters up to 255, one a byte.
 """
 
