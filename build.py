@@ -1,14 +1,19 @@
 #!/usr/bin/env python3
 """Proves and builds a program and the crates that it stands on, side by side: one more than there are processors, where memory allows.
 
-usage: build.py [PROGRAM]     in any folder; mpsim where no program is named. RT names the toolchain's command, where rt is not on the path
-What has been proved before and has not changed is kept, for all programs. Each crate is told on the error output as it is done.
+usage: build.py [--needed] [PROGRAM]     in any folder; mpsim where no program is named. RT names the toolchain's command, where rt is not on the path
+What has been proved before and has not changed is kept, for all programs, and so are some earlier states of each crate, for a change that is undone.
+Each crate is told on the error output as it is done.
+
+With --needed nothing is done where the program that is there is made of what its sources hold, whatever their times; and one that is there is left to
+be run, with a note, where nothing can be built. So the scripts call it.
 
 Each crate is proved from nothing over the statements of those below it, as the gate does. rt itself works on one crate at a time, and
 has each crate read all proofs below it, so this gives the toolchain's own commands. The crate with the most to prove from it up to
 the program goes first. Several jobs for one crate take a quarter to three quarters more processor time for the same proofs, so a crate
 has more than one only where processors would wait for it.
 """
+import contextlib
 import fcntl
 import functools
 import hashlib
@@ -21,9 +26,23 @@ import sys
 ROOT = os.path.dirname(os.path.realpath(__file__))
 # What is proved, whichever program it was proved for: the statements of each crate, and beside them of what they were made.
 PROVED = f"{ROOT}/crates/mpsim/out/proved"
+# Earlier states of each crate, the latest ones, by the sum of what they were proved from.
+KEPT, STATES = f"{ROOT}/crates/mpsim/out/kept", 2
 RT = os.environ.get("RT", "rt")
 # The memory, in bytes, that a check by one job is given; each further job takes less.
 CHECK = 2 << 30
+
+
+# The signals that end a build.
+STOPS = [signal.SIGINT, signal.SIGTERM, signal.SIGHUP]
+
+
+class Stopped(BaseException):
+    """A signal has come that ends the build."""
+
+
+class Unable(Exception):
+    """Nothing can be built here, and why."""
 
 
 def tell(program, text):
@@ -34,7 +53,12 @@ def tell(program, text):
 @functools.lru_cache(maxsize=None)
 def said(*words):
     """What a command of the toolchain tells."""
-    return subprocess.run([RT, *words], stdin=subprocess.DEVNULL, stdout=subprocess.PIPE, text=True, check=True).stdout.strip()
+    if not shutil.which(RT):
+        raise Unable(f"{RT}, the toolchain's command, is not on the path")
+    ran = subprocess.run([RT, *words], stdin=subprocess.DEVNULL, stdout=subprocess.PIPE, text=True)
+    if ran.returncode:
+        raise Unable(f"{RT} {' '.join(words)} ends with status {ran.returncode}")
+    return ran.stdout.strip()
 
 
 def text_of(file):
@@ -58,16 +82,29 @@ def is_program(name):
 
 def below(name, uses):
     """All crates of the repository that a crate stands on."""
-    found = {it for it in uses[name] if it in uses}
-    for it in [*found]:
-        found |= below(it, uses)
+    found, left = set(), [name]
+    while left:
+        new = {it for it in uses[left.pop()] if it in uses} - found
+        found |= new
+        left += new
     return found
 
 
-def files_of(name):
+def crates_of(program, uses):
+    """A program and all crates that it stands on, lowest first."""
+    needed = below(program, uses)
+    return [it for it in uses if it in needed] + [program]
+
+
+def executable(name):
+    """Where a program stands that is built."""
+    return f"{ROOT}/crates/{name}/out/{name}"
+
+
+def files_of(name, parts=("src", "specs", "proofs")):
     """The sources, definitions and proofs of a crate."""
     found = []
-    for part in ["src", "specs", "proofs"]:
+    for part in parts:
         for folder, _, files in os.walk(f"{ROOT}/crates/{name}/{part}"):
             found += [f"{folder}/{it}" for it in files]
     return sorted(found)
@@ -118,6 +155,63 @@ def stamps(names, uses):
     return made
 
 
+def made_of(program, uses):
+    """A sum of what a program is made of: what its crates stand on, and their sources and definitions. Proofs aren't among it: one that changes makes
+    no other program."""
+    total = hashlib.sha256()
+    for name in crates_of(program, uses):
+        total.update(repr((name, uses[name])).encode())
+        for file in files_of(name, ["src", "specs"]):
+            total.update(f"{os.path.relpath(file, ROOT)} {sum_of(file)}\n".encode())
+    return total.hexdigest()
+
+
+def sum_of(file):
+    """A sum of what a file holds."""
+    with open(file, "rb") as text:
+        return hashlib.sha256(text.read()).hexdigest()
+
+
+def put(file, text):
+    """Writes a file whole, or leaves it as it was."""
+    with open(f"{file}.part", "w") as out:
+        out.write(text)
+    os.replace(f"{file}.part", file)
+
+
+def record(program, made):
+    """Writes down beside a program of what it is made."""
+    put(f"{executable(program)}.made", f"{sum_of(executable(program))} {made}\n")
+
+
+def is_current(program, uses):
+    """Whether the program that is there is made of what its sources hold. That is told by its record; where it has none, as one that rt has made,
+    nothing that it is made of may have been written since, and then it is recorded."""
+    if not os.access(executable(program), os.X_OK):
+        return False
+    made, words = made_of(program, uses), text_of(f"{executable(program)}.made").split()
+    if len(words) == 2 and words[0] == sum_of(executable(program)):
+        return words[1] == made
+    files = [f"{ROOT}/crates.txt", *(it for name in crates_of(program, uses) for it in files_of(name, ["src", "specs"]))]
+    if any(os.stat(it).st_mtime_ns > os.stat(executable(program)).st_mtime_ns for it in files):
+        return False
+    with contextlib.suppress(OSError):
+        record(program, made)
+    return True
+
+
+def is_noted(program, uses):
+    """Whether the program is made of what its sources hold. Then what tools/looks.sh told before is noted: by it a script sees that nothing has
+    changed since."""
+    words = ["sh", "-c", 'root=$1 name=$2; . "$root/tools/looks.sh"', "sh", ROOT, program]
+    looks = subprocess.run(words, stdin=subprocess.DEVNULL, stdout=subprocess.PIPE, text=True).stdout
+    if not is_current(program, uses):
+        return False
+    with contextlib.suppress(OSError):
+        put(f"{executable(program)}.looks", looks)
+    return True
+
+
 def lanes():
     """For how many jobs there are processors and memory, and for how many memory has room."""
     count = len(os.sched_getaffinity(0))
@@ -141,13 +235,78 @@ def made_by(name, uses, kit, jobs):
     return [*words, "--statements", "-o", f"{PROVED}/{name}.rlib"]
 
 
+def result_of(name):
+    """What the check of a crate leaves: the statements of a library, the code of a program."""
+    return f"{PROVED}/{name}.{'o' if is_program(name) else 'rlib'}"
+
+
+def remove(path):
+    """Removes a file or a folder, where it is there: a folder by another name, so that what is left of it is never taken for it."""
+    if os.path.isdir(path):
+        shutil.rmtree(f"{path}.gone", ignore_errors=True)
+        os.rename(path, f"{path}.gone")
+        shutil.rmtree(f"{path}.gone")
+    elif os.path.exists(path):
+        os.remove(path)
+
+
+def set_aside(name):
+    """Puts what is proved of a crate among its earlier states, of which the latest stay; what isn't wholly proved goes."""
+    stamp, states = text_of(f"{PROVED}/{name}.stamp"), f"{KEPT}/{name}"
+    remove(f"{PROVED}/{name}.stamp")
+    if not stamp or not os.path.exists(result_of(name)):
+        return remove(result_of(name))
+    os.makedirs(states, exist_ok=True)
+    remove(f"{states}/{stamp}")
+    os.rename(result_of(name), f"{states}/{stamp}")
+    os.utime(f"{states}/{stamp}")
+    whole = [it for it in os.listdir(states) if not it.endswith(".gone")]
+    for it in sorted(whole, key=lambda it: -os.stat(f"{states}/{it}").st_mtime_ns)[STATES:]:
+        remove(f"{states}/{it}")
+
+
+def take_back(name, stamp):
+    """Answers whether a crate is proved from what it holds now, where an earlier state of it is taken back if it is that."""
+    if text_of(f"{PROVED}/{name}.stamp") == stamp:
+        return True
+    if not os.path.exists(f"{KEPT}/{name}/{stamp}"):
+        return False
+    # Out of the way of the states that go.
+    remove(f"{PROVED}/{name}.back")
+    os.rename(f"{KEPT}/{name}/{stamp}", f"{PROVED}/{name}.back")
+    set_aside(name)
+    os.rename(f"{PROVED}/{name}.back", result_of(name))
+    put(f"{PROVED}/{name}.stamp", stamp)
+    return True
+
+
 def begin(name, uses, kit, jobs, nice):
-    """Begins to prove a crate, by so many jobs, which give way to those that are less nice. What it was proved from before is forgotten."""
-    if os.path.exists(f"{PROVED}/{name}.stamp"):
-        os.remove(f"{PROVED}/{name}.stamp")
+    """Begins to prove a crate, by so many jobs, which give way to those that are less nice. What it was proved from before is set aside. It is a
+    session of its own, so that a Ctrl-C at the terminal comes to this build alone, which ends all checks."""
+    set_aside(name)
+    words, folder = ["nice", "-n", str(nice), *made_by(name, uses, kit, jobs)], f"{ROOT}/crates/{name}"
     with open(f"{PROVED}/{name}.log", "w") as log:
-        words = ["nice", "-n", str(nice), *made_by(name, uses, kit, jobs)]
-        return subprocess.Popen(words, cwd=f"{ROOT}/crates/{name}", stdin=subprocess.DEVNULL, stdout=log, stderr=log)
+        files = {"stdin": subprocess.DEVNULL, "stdout": log, "stderr": log}
+        return subprocess.Popen(words, cwd=folder, **files, start_new_session=True, preexec_fn=lambda: signal.pthread_sigmask(signal.SIG_UNBLOCK, STOPS))
+
+
+@contextlib.contextmanager
+def unstopped():
+    """Puts off what ends the build: a check that has begun and that nobody knows yet would go on."""
+    signal.pthread_sigmask(signal.SIG_BLOCK, STOPS)
+    try:
+        yield
+    finally:
+        signal.pthread_sigmask(signal.SIG_UNBLOCK, STOPS)
+
+
+def end(checks):
+    """Ends these checks, with all that they started."""
+    for check in checks:
+        with contextlib.suppress(ProcessLookupError):
+            os.killpg(check.pid, signal.SIGTERM)
+    for check in checks:
+        check.wait()
 
 
 def wait_for_one(checks):
@@ -158,15 +317,17 @@ def wait_for_one(checks):
 
 def prove_all(program, uses, kit):
     """Proves all crates below the program and then the program. Answers whether all are proved."""
-    names = [it for it in uses if it in below(program, uses)] + [program]
+    names = crates_of(program, uses)
     lines, looks = {it: lines_of(it) for it in names}, {it: looks_of(it) for it in names}
     made, chain, (most, room) = stamps(names, uses), chains(lines, uses), lanes()
-    done = {it for it in names if text_of(f"{PROVED}/{it}.stamp") == made[it]}
+    done = {it for it in names if take_back(it, made[it])}
     left, running, jobs = sorted([it for it in names if it not in done], key=lambda it: -chain[it]), {}, {}
     failed = False
     if left:
-        time = "" if done else ", some nine to fourteen minutes on four processors"
+        time = ", some nine to fourteen minutes on four processors" if 2 * len(left) > len(names) else ""
         tell(program, f"proving {len(left)} of {len(names)} crates, once{time}")
+    else:
+        tell(program, f"all {len(names)} crates are proved; linking")
     try:
         while running or (left and not failed):
             ready = [] if failed else [it for it in left if done >= below(it, uses)]
@@ -177,7 +338,8 @@ def prove_all(program, uses, kit):
                 # What is further from the program goes first.
                 others = [it for it in [*left, *running] if chain[it] > chain[name]]
                 jobs[name] = jobs_for(name, left, {it: jobs[it] for it in running}, lines, uses, most, room)
-                running[name] = begin(name, uses, kit, jobs[name], min(len(others), 10))
+                with unstopped():
+                    running[name] = begin(name, uses, kit, jobs[name], min(len(others), 10))
                 left.remove(name)
             wait_for_one([check.pid for check in running.values()])
             for name in [it for it, check in running.items() if check.poll() is not None]:
@@ -191,14 +353,11 @@ def prove_all(program, uses, kit):
                     tell(program, f"{name} has changed meanwhile")
                     failed = True
                     continue
-                with open(f"{PROVED}/{name}.stamp", "w") as out:
-                    out.write(made[name])
+                put(f"{PROVED}/{name}.stamp", made[name])
                 done.add(name)
                 tell(program, f"{name} is proved ({len(done)} of {len(names)})")
     finally:
-        for check in running.values():
-            check.terminate()
-            check.wait()
+        end(running.values())
     return not failed
 
 
@@ -220,40 +379,75 @@ def does_as_stored(program):
     return ran.stdout == text_of(f"{folder}/stdout").encode() and ran.returncode == int(text_of(f"{folder}/status") or 0)
 
 
-def build(program):
+def build(program, uses):
     """Proves and builds the program. Answers whether it is there."""
     kit = os.path.dirname(said("doc"))
-    if not prove_all(program, listed(), kit):
+    names = crates_of(program, uses)
+    looks, made = [looks_of(it) for it in names], made_of(program, uses)
+    if not prove_all(program, uses, kit):
         return False
     if not link(program, kit) or not does_as_stored(program):
         tell(program, "the build failed")
         return False
-    os.makedirs(f"{ROOT}/crates/{program}/out", exist_ok=True)
-    os.replace(f"{PROVED}/{program}", f"{ROOT}/crates/{program}/out/{program}")
+    os.makedirs(os.path.dirname(executable(program)), exist_ok=True)
+    os.replace(f"{PROVED}/{program}", executable(program))
+    # What was changed meanwhile isn't what the program is made of.
+    if [looks_of(it) for it in names] == looks:
+        record(program, made)
     return True
 
 
+def build_alone(program, uses):
+    """Builds, while no other build does: a second one waits, of whatever program, and then finds what the first proved."""
+    said("version")
+    try:
+        os.makedirs(PROVED, exist_ok=True)
+        with open(f"{PROVED}/lock", "w") as lock:
+            try:
+                fcntl.flock(lock, fcntl.LOCK_EX | fcntl.LOCK_NB)
+            except BlockingIOError:
+                tell(program, "waiting for another build")
+                fcntl.flock(lock, fcntl.LOCK_EX)
+            return build(program, uses)
+    except OSError as fault:
+        raise Unable(f"{os.path.relpath(fault.filename or PROVED, ROOT)}: {fault.strerror}") from None
+
+
+def stop(number, _):
+    """Has this build end, once: a second signal doesn't cut short how the first ends the checks."""
+    for it in STOPS:
+        signal.signal(it, signal.SIG_IGN)
+    raise Stopped(number)
+
+
 def main(words):
-    program = words[0] if words else "mpsim"
-    if len(words) > 1 or not is_program(program):
-        print("usage: build.py [PROGRAM]", file=sys.stderr)
+    needed, program = words[:1] == ["--needed"], ([it for it in words if it != "--needed"] or ["mpsim"])[0]
+    if len(words) > 1 + needed or not is_program(program):
+        print("usage: build.py [--needed] [PROGRAM]", file=sys.stderr)
         return 2
-    if not shutil.which(RT):
-        tell(program, f"{RT}, the toolchain's command, is not on the path; RT names it")
-        return 1
-    # A build that is stopped ends its checks too, and the status of a check is kept until it is asked for.
-    for stop in [signal.SIGTERM, signal.SIGINT]:
-        signal.signal(stop, lambda *_: sys.exit(1))
+    signal.signal(signal.SIGINT, stop)
+    signal.signal(signal.SIGTERM, stop)
+    if signal.getsignal(signal.SIGHUP) != signal.SIG_IGN:
+        signal.signal(signal.SIGHUP, stop)
+    # The status of a check is kept until it is asked for.
     signal.signal(signal.SIGCHLD, signal.SIG_DFL)
-    os.makedirs(PROVED, exist_ok=True)
-    with open(f"{PROVED}/lock", "w") as lock:
-        # One build at a time, of whatever program: a second one waits, and then finds what this one proved.
-        try:
-            fcntl.flock(lock, fcntl.LOCK_EX | fcntl.LOCK_NB)
-        except BlockingIOError:
-            tell(program, "waiting for another build")
-            fcntl.flock(lock, fcntl.LOCK_EX)
-        return 0 if build(program) else 1
+    uses = listed()
+    try:
+        if needed and is_noted(program, uses):
+            return 0
+        if not build_alone(program, uses):
+            return 1
+        is_noted(program, uses)
+        return 0
+    except Stopped as signal_of:
+        tell(program, "stopped; what is proved is kept")
+        return 128 + signal_of.args[0]
+    except Unable as why:
+        if needed and os.access(executable(program), os.X_OK):
+            tell(program, f"this program may be older than its sources, and can't be built anew: {why}")
+            return 0
+        tell(program, f"there is no program yet, and it can't be built: {why} (README.md, Install)" if needed else f"can't build: {why}")
+        return 1
 
 
 if __name__ == "__main__":
