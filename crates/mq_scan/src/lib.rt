@@ -9,7 +9,5 @@ mod step;
 
 pub use blocks::{Blocks, block_size, cut};
 pub use by_blocks::{block_carries, block_summary, block_times, joined_times};
-pub use passes::{
-    apply, carries, ranges_append, scan, scan_times, summaries_act, summarise, times, times_append,
-};
+pub use passes::{apply, carries, scan, scan_times, summaries_act, summarise, times};
 pub use step::{Step, Timed};

@@ -159,18 +159,3 @@ pub fn summaries_act<P: Step>(step: &P)
 {
     let _ = step;
 }
-
-/// Law. The carries after the jobs of a range and those after the jobs of the next are the carries
-/// after the jobs of both.
-pub fn ranges_append<P: Step>(step: &P)
-    ensures { (from n m : ℕ) → carries_after P.acted (P.start step.now) (P.part step.now) from n ++ carries_after P.acted (P.start step.now) (P.part step.now) (from + n) m ≡ carries_after P.acted (P.start step.now) (P.part step.now) from (n + m) }
-{
-    let _ = step;
-}
-
-/// Law. The same of what is read of them.
-pub fn times_append<P: Timed>(step: &P)
-    ensures { (from n m : ℕ) → map (P.time_of step.now) (carries_after P.acted (P.start step.now) (P.part step.now) from n) ++ map (P.time_of step.now) (carries_after P.acted (P.start step.now) (P.part step.now) (from + n) m) ≡ map (P.time_of step.now) (carries_after P.acted (P.start step.now) (P.part step.now) from (n + m)) }
-{
-    let _ = step;
-}

@@ -225,7 +225,7 @@ pub fn read_trace<R: Threads + Sync>(
     }
 }
 
-/// The same of a text that is handed over: it is let go before the rows of its pieces are joined, which it isn't asked for.
+/// The same of a text that is handed over. It is let go before the rows of its pieces are joined, though no clause asks for that.
 pub fn take_trace<R: Threads + Sync>(
     rt: &R,
     alloc: Global,

@@ -16,7 +16,7 @@ use Rattle.mq_core.specs.Tallies.{one_if_there}
 use Rattle.mq_core.proofs.Join.JoinSequences.{row-each}
 use Rattle.mq_core.proofs.Join.JoinLaws.{ExitsNow, Joined, exit-more, exits-before, exits-there, join-inside}
 use Rattle.mq_core.proofs.Join.Joinings.{of_row}
-use Rattle.mq_core.proofs.Join.Numbers.{take-front, take-middle}
+use Rattle.mq_core.proofs.Join.Numbers.{take-front, take-first}
 use Rattle.mq_core.proofs.EachKind.ExitLaws.{ExitLaws}
 use Rattle.mq_core.proofs.EachKind.KindLaws.{after_visit}
 use Rattle.mq_core.proofs.Events.Leavings.{StaysOrLeaves, time_of_exit}
@@ -67,7 +67,7 @@ module _ (ports now v : ℕ) (local : Local) (visits : List Visit) (emitted : Li
       let i = count_by (is_of x.job x.port) visits in
       let c = h.joining.counts x.job x.port here in
       let none = get-none (of_row x.job emitted) (count_by (is_of x.job x.port) visits) (omega arith) in
-      let same : take (length visits) (visits ++ x ∷ []) ≡ visits = take-middle visits (x ∷ []) in
+      let same : take (length visits) (visits ++ x ∷ []) ≡ visits = take-first visits (x ∷ []) in
       subst (λ o. ExitsNow now (length visits) None (joined_exit more after (length visits) o)) (sym (get-last visits x))
       (subst (λ ys. ExitsNow now (length visits) None (slice_get (of_row x.job after) (count_by (is_of x.job x.port) ys))) (sym same)
       (subst (λ o. ExitsNow now (length visits) o (slice_get (of_row x.job after) (count_by (is_of x.job x.port) visits))) none (row x.job (count_by (is_of x.job x.port) visits))))

@@ -17,7 +17,7 @@ use Rattle.mq_core.specs.Tallies.{one_if_there}
 use Rattle.mq_core.proofs.Join.Entries.{count-push}
 use Rattle.mq_core.proofs.Join.JoinFlow.{flow_by}
 use Rattle.mq_core.proofs.Join.Joinings.{Joining, items-count, items-push, items_of, of_row}
-use Rattle.mq_core.proofs.Join.Numbers.{take-middle}
+use Rattle.mq_core.proofs.Join.Numbers.{take-first}
 use Rattle.mq_core.proofs.Server.Serves.{length-push, slice_get-middle}
 
 -- the emission of a match is at the arrival of the visit at its position
@@ -61,7 +61,7 @@ module _ (ports : ℕ) (s : Station Local) (fs : List Event) (h : Joining ports 
   exit-place pre zs z e =
       ap (λ o. option_map (λ (m : Emission). m.position) (joined_exit s.visits s.emitted (length pre) o)) (ap (λ l. slice_get l (length pre)) e ∙ slice_get-middle pre zs z)
       ∙ (h.places z.job (index_of s.visits (length pre) z)
-      ∙ ap (λ n. match_of ports z.job n (items_of s.visits)) (ap (λ l. count_by (is_of z.job z.port) (take (length pre) l)) e ∙ (ap (count_by (is_of z.job z.port)) (take-middle pre (z ∷ zs)) ∙ sym (items-count z.job z.port pre))))
+      ∙ ap (λ n. match_of ports z.job n (items_of s.visits)) (ap (λ l. count_by (is_of z.job z.port) (take (length pre) l)) e ∙ (ap (count_by (is_of z.job z.port)) (take-first pre (z ∷ zs)) ∙ sym (items-count z.job z.port pre))))
 
   pub exit-time : (p : ℕ) (m : Emission) → join.exit s p ≡ Some m → slice_index (arrives_of s.visits) m.position ≡ m.time
   exit-time p m e = go (slice_get s.visits p) e

@@ -35,8 +35,8 @@ take-front ys more zero l = refl
 take-front [] more (suc n) l = absurd (omega arith)
 take-front (y ∷ ys) more (suc n) l = ap (λ k. y ∷ k) (take-front ys more n (omega arith))
 
-pub take-middle : (ys more : List Visit) → take (length ys) (ys ++ more) ≡ ys
-take-middle ys more = take-front ys more (length ys) (omega arith) ∙ take-all ys (length ys) (omega arith)
+pub take-first : (ys more : List Visit) → take (length ys) (ys ++ more) ≡ ys
+take-first ys more = take-front ys more (length ys) (omega arith) ∙ take-all ys (length ys) (omega arith)
 
 -- one such visit, where there are more than so many
 hits : (job port index : ℕ) (ys : List Visit) (n : ℕ) → n ≤ length ys → sum_below n (λ p. hit job port index ys p (slice_get ys p)) ≡ cond (ltb index (count_by (is_of job port) (take n ys))) 1 0
@@ -174,7 +174,7 @@ module _ (ports : ℕ) (visits : List Visit) (held : List (ℕ × ℕ)) (emitted
   own : one_if_none (joined_exit more emitted (length visits) (slice_get more (length visits))) ≡ 1
   own =
       ap (λ o. one_if_none (joined_exit more emitted (length visits) o)) (get-last visits x)
-      ∙ (ap (λ l. one_if_none (slice_get (of_row x.job emitted) (count_by (is_of x.job x.port) l))) (take-middle visits (x ∷ []))
+      ∙ (ap (λ l. one_if_none (slice_get (of_row x.job emitted) (count_by (is_of x.job x.port) l))) (take-first visits (x ∷ []))
       ∙ ap one_if_none (get-none (of_row x.job emitted) (count_by (is_of x.job x.port) visits) (let c = h.counts x.job x.port here in omega arith)))
 
   pub number-joined : length held ≡ staying_by visits emitted → length joined ≡ staying_by more emitted
