@@ -1,5 +1,5 @@
 // The waits at nodes, counted by pieces of their visits, where they weren't with the totals.
-ghost use Rattle.std.specs.Prelude.{◌≡◌, ◌<◌, ◌≤◌, ◌^◌, ℕ, List as Items, length, IfOk, IfSome};
+ghost use Rattle.std.specs.Prelude.{◌≡◌, ◌↔◌, ◌<◌, ◌≤◌, ◌^◌, ℕ, List as Items, length, IfOk, IfSome, IsSome, None};
 ghost use Rattle.std.specs.List.{AllByRecursion};
 ghost use Rattle.mq_crew.specs.Crew.{AreAll, AreGroups};
 ghost use Rattle.mq_stats.specs.Percentiles.{ArePercentiles, waits_at};
@@ -65,7 +65,10 @@ impl<'a> Pieces for NodeWaits<'a> {
 // now, and where the longest has more ticks than there are visits.
 fn looked_up_to(sum: &BlockCount, visits: u32) -> u32
     requires { visits ≤ 1048576 }
-    ensures { result ≤ 1048576 }
+    ensures most { result ≤ 1048576 }
+    ensures known { IsSome sum.now.waits → result ≡ 0 }
+    ensures short { sum.now.waits ≡ None → sum.now.totals.longest ≤ visits → result ≡ sum.now.totals.longest }
+    ensures long { visits < sum.now.totals.longest → result ≡ 0 }
 {
     if sum.waits.is_some() {
         return 0;
@@ -120,10 +123,11 @@ fn waits_by_node<'a, 'b>(
     Ok(List::from_vec(all))
 }
 
-// The percentiles of the waits of these counts, where there are some.
+// The percentiles of the waits of these counts, exactly where there are some.
 fn tail_of(counts: &Option<WaitCounts>) -> Option<Percentiles>
     requires { (waits : Items ℕ) × IfSome counts.now (AreCounts waits) }
-    ensures { (waits : Items ℕ) → IfSome counts.now (AreCounts waits) → IfSome result (ArePercentiles waits) }
+    ensures told { IsSome result ↔ IsSome counts.now }
+    ensures percentiles { (waits : Items ℕ) → IfSome counts.now (AreCounts waits) → IfSome result (ArePercentiles waits) }
 {
     match counts {
         Some(counts) => counted_percentiles(counts),

@@ -1,5 +1,5 @@
 -- Waits that are counted in a table: the first index up to which so many are counted is their percentile.
-use Rattle.std.proofs.Common.{◌≡◌, ℕ, zero, suc, ◌+◌, ◌<◌, ◌≤◌, ◌⊎◌, inl, inr, Bool, true, false, cond, List, [], ◌∷◌, drop, get_or, length, min, set, take, Some, refl, sym, ap, ◌∙◌, arith}
+use Rattle.std.proofs.Common.{◌≡◌, ℕ, zero, suc, ◌+◌, ◌-◌, ◌<◌, ◌≤◌, ◌⊎◌, inl, inr, Bool, true, false, cond, List, [], ◌∷◌, drop, get_or, length, min, set, take, Some, refl, sym, ap, ◌∙◌, arith}
 use Rattle.std.specs.Prelude.{◌≢◌, ◌==◌, count_by, nat_le, slice_get, sum}
 use Rattle.std.specs.List.{AllByRecursion as Each, Contains, filter}
 use Rattle.std.proofs.lemmas.Bool.{cases_lt}
@@ -7,12 +7,13 @@ use Rattle.std.proofs.lemmas.Bool.Decides.{nat_tests}
 use Rattle.std.proofs.lemmas.Grind.{get_or-set_at}
 use Rattle.std.proofs.lemmas.List.{get_or-set_other}
 use Rattle.std.proofs.lemmas.List.Sums.{sum_by_more}
+use Rattle.mq_base.proofs.lemmas.Each.{Each-weaker}
 use Rattle.mq_base.proofs.lemmas.Lists.{drop_at}
 use Rattle.mq_stats.proofs.Counts.{count-cons}
 use Rattle.mq_stats.proofs.Least.{at-least, least-is, reached}
 use Rattle.mq_stats.proofs.Passing.{passed-later, up_to}
 use Rattle.mq_stats.specs.Percentiles.{hundredths, least_of, percentile, reaches}
-use Rattle.mq_stats.specs.Tables.{IsReached, IsTableOf}
+use Rattle.mq_stats.specs.Tables.{IsReached, IsTableOf, own_counts}
 
 -- how many of these are this number
 abbrev pub many_at : ℕ → List ℕ → ℕ
@@ -73,6 +74,26 @@ counts-up-to waits table h (suc wait) l =
     let rest = counts-up-to waits table h wait (omega arith) in
     let same = by-next wait table in
     omega arith
+
+-- where each wait has an index of its own, those that stand at their own are all
+one-up-to : (w wait : ℕ) → w ≤ wait → cond {A = ℕ} (nat_le w wait) 1 0 ≡ 1
+one-up-to w wait l = grind (arith, nat_tests)
+
+all-up-to : (wait : ℕ) (waits : List ℕ) → Each (λ w. w ≤ wait) waits → up_to wait waits ≡ length waits
+all-up-to wait [] h = refl
+all-up-to wait (w ∷ waits) h =
+    let all = count-cons (λ x. nat_le x wait) w waits in
+    let one = one-up-to w wait h.0 in
+    let rest = all-up-to wait waits h.1 in
+    omega arith
+
+pub own-are-all : (waits table : List ℕ) → IsTableOf waits table → 1 < length table → Each (λ w. w + 1 < length table) waits → own_counts table ≡ length waits
+own-are-all waits table h some own =
+    let last = length table - 2 in
+    let here : length table - 1 ≡ last + 1 = omega arith in
+    ap (λ n. sum (take n table)) here
+    ∙ (counts-up-to waits table h last (omega arith)
+    ∙ all-up-to last waits (Each-weaker (λ w. w + 1 < length table) (λ w. w ≤ last) (λ w l. omega arith) waits own))
 
 is-equal : (w wait : ℕ) → (w == wait) ≡ true → w ≡ wait
 is-equal w wait e = grind (arith, nat_tests)

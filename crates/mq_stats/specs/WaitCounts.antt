@@ -1,5 +1,6 @@
 -- Counts of waits, by pieces of the visits.
-use Rattle.std.specs.Prelude.{◌≡◌, ◌++◌, ◌==◌, ◌<◌, ◌≤◌, ℕ, List, count_by, get_or, length}
+use Rattle.std.specs.Prelude.{◌≡◌, ◌+◌, ◌++◌, ◌==◌, ◌<◌, ◌≤◌, ℕ, List, count_by, get_or, length}
+use Rattle.std.specs.List.{AllByRecursion}
 use Rattle.mq_core.specs.declared.model.Kind.{Kind}
 use Rattle.mq_core.specs.declared.model.Rows.{Rows}
 use Rattle.mq_core.specs.declared.model.Visits.{Visits}
@@ -7,13 +8,15 @@ use Rattle.mq_stats.specs.Numbers.{AreVisits, visits_between}
 use Rattle.mq_stats.specs.Percentiles.{waits_at}
 use Rattle.mq_stats.specs.declared.wait_counts.WaitCounts.{WaitCounts}
 
--- They are the counts of these waits: of each number of ticks, and of none behind the last. There is room for some, and for no more than so many.
+-- They are the counts of these waits: of each number of ticks at its own index, with one index more behind the longest of them. There is room for
+-- some, and for no more than so many.
 pub record AreCounts (waits : List ℕ) (counts : WaitCounts) : Type 0 where
   pub many : counts.many ≡ length waits
   pub few : counts.many ≤ 1048576
   pub some : 1 < length counts.counts
   pub room : length counts.counts ≤ 1048578
   pub each : (wait : ℕ) → get_or counts.counts wait 0 ≡ count_by (λ w. w == wait) waits
+  pub own : AllByRecursion (λ wait. wait + 1 < length counts.counts) waits
 
 -- The waits of neighbouring visits, one after another, are those of all of them, and no more than the visits; and the visits
 -- from the first to the last are all.

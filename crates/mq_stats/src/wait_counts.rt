@@ -18,7 +18,7 @@ use std::alloc::Global;
 pub struct WaitCounts {
     /// How many waits they are.
     pub many: u32,
-    /// For each number of ticks, how many of them are that long: at least for each number up to the longest.
+    /// For each number of ticks, how many of them are that long: for each number up to the longest, and one more at least.
     pub counts: List<u32>,
 }
 
@@ -153,12 +153,13 @@ pub fn counts_added(
     })
 }
 
-/// The percentiles of the waits of these counts, where 99 of 100 of them are counted before the last number.
+/// The percentiles of the waits of these counts: exactly where 99 of 100 of them are counted before the last number, as they are in all counts of waits.
 pub fn counted_percentiles(counts: &WaitCounts) -> Option<Percentiles>
     requires some { 1 < length counts.now.counts }
     requires room { length counts.now.counts ≤ 1048578 }
     requires few { counts.now.many ≤ 1048576 }
     ensures told { IsSome result ↔ (hundredths 99 counts.now.many ≤ own_counts counts.now.counts) }
+    ensures counts { (waits : Items ℕ) → AreCounts waits counts.now → IsSome result }
     ensures percentiles { (waits : Items ℕ) → AreCounts waits counts.now → IfSome result (ArePercentiles waits) }
 {
     counted(counts.counts.as_slice(), counts.many as usize)

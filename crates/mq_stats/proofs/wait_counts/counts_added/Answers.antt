@@ -1,6 +1,7 @@
 use Rattle.std.proofs.Common.{◌≡◌, ℕ, ◌+◌, ◌<◌, ◌≤◌, List, ◌++◌, cond, get_or, length, length-append, ap, refl, ◌∙◌, arith}
 use Rattle.std.specs.Prelude.{◌==◌}
 use Rattle.std.proofs.lemmas.List.Sums.{count_by-le-length, sum_by-append}
+use Rattle.mq_base.proofs.lemmas.Each.{Each-append, Each-weaker}
 use Rattle.mq_stats.specs.WaitCounts.{AreCounts}
 use Rattle.mq_stats.specs.declared.wait_counts.WaitCounts.{WaitCounts}
 use Rattle.mq_stats.proofs.Backs.{written_back}
@@ -12,9 +13,9 @@ few waits counts h at = omega (arith, h.many, h.each at, count_by-le-length (λ 
 
 -- the counts of both, where each is a sum
 sums : (waits more : List ℕ) (before after both : WaitCounts) → before.many + after.many ≤ 1048576 → both.many ≡ before.many + after.many → 1 < length both.counts → length both.counts ≤ 1048578
-    → ((at : ℕ) → get_or both.counts at 0 ≡ get_or before.counts at 0 + get_or after.counts at 0) → AreCounts waits before → AreCounts more after
+    → length before.counts ≤ length both.counts → length after.counts ≤ length both.counts → ((at : ℕ) → get_or both.counts at 0 ≡ get_or before.counts at 0 + get_or after.counts at 0) → AreCounts waits before → AreCounts more after
     → AreCounts (waits ++ more) both
-sums waits more before after both small many some room each h k =
+sums waits more before after both small many some room first_fits second_fits each h k =
     let first : before.many ≡ length waits = h.many in
     let second : after.many ≡ length more = k.many in
     record {
@@ -23,6 +24,9 @@ sums waits more before after both small many some room each h k =
       some = some;
       room = room;
       each = λ wait. omega (arith, each wait, h.each wait, k.each wait, sum_by-append (λ w. cond (w == wait) 1 0) waits more);
+      own = Each-append (λ w. w + 1 < length both.counts) waits more
+          (Each-weaker (λ w. w + 1 < length before.counts) (λ w. w + 1 < length both.counts) (λ w l. omega arith) waits h.own)
+          (Each-weaker (λ w. w + 1 < length after.counts) (λ w. w + 1 < length both.counts) (λ w l. omega arith) more k.own);
     }
 
 pub with_room-requires : goal.with_room-requires
@@ -43,5 +47,6 @@ returns c waits more h k =
     let least = c.in_ok-counts.ensures.room.0 in
     let most = c.in_ok-counts.ensures.most 1048578 h.room (omega (arith, k.room, c.len.ensures)) in
     let some = h.some in
-    sums waits more c.args.before c.args.after.now _ c.requires.few refl (omega arith) (omega arith)
+    let second = c.in_ok-counts.ensures.room.1 in
+    sums waits more c.args.before c.args.after.now _ c.requires.few refl (omega arith) (omega arith) (omega arith) (omega (arith, c.len.ensures))
     (λ at. ap (λ l. get_or l at 0) is ∙ c.add_each.ensures.sums at ∙ ap (λ l. get_or l at 0 + get_or c.as_slice.result.now at 0) c.as_mut_slice.ensures.value ∙ ap (λ n. n + get_or c.as_slice.result.now at 0) (c.in_ok-counts.ensures.same at) ∙ ap (λ l. get_or c.args.before.counts at 0 + get_or l at 0) c.as_slice.ensures) h k

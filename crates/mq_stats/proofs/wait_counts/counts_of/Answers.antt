@@ -24,5 +24,6 @@ returns c =
             ap (λ xs. get_or xs wait 0) is
             ∙ (c.count_waits.ensures.counts wait
             ∙ counts-own (length c.as_mut_slice.result.now - 1) wait waits (Each-weaker (λ w. w ≤ c.args.longest) (λ w. w < length c.as_mut_slice.result.now - 1) (λ w l. omega arith) waits c.requires.longest));
+        own = Each-weaker (λ w. w ≤ c.args.longest) (λ w. w + 1 < length c.from_vec.result) (λ w l. omega arith) waits c.requires.longest;
       };
     }
