@@ -1,5 +1,5 @@
 // The nodes of a wave on two sides, which are worked out beside each other.
-ghost use Rattle.std.specs.Prelude.{◌≡◌, ◌+◌, ◌++◌, ◌≤◌, Contains, length, IfOk, IsOkAnd};
+ghost use Rattle.std.specs.Prelude.{◌≡◌, ◌+◌, ◌-◌, ◌++◌, ◌≤◌, Contains, length, min, IfOk, IsOkAnd};
 ghost use Rattle.std.specs.List.Sorted.{IsPermutation};
 ghost use Rattle.std.specs.Thread.{IsSync};
 ghost use Rattle.mq_engine.specs.Waves.{AreGiven, IsSide, IsWave};
@@ -85,8 +85,9 @@ pub fn sides_of(alloc: Global, arriving: &Arriving) -> Result<Sides, OutOfMemory
 pub fn shares(workers: u32, long: u32) -> (u32, u32)
     requires workers { 2 ≤ workers }
     requires long { 1 ≤ long }
-    ensures some { (1 ≤ result.0) × (1 ≤ result.1) }
+    ensures long { result.0 ≡ min long (workers - 1) }
     ensures all { result.0 + result.1 ≡ workers }
+    ensures some { (1 ≤ result.0) × (1 ≤ result.1) }
 {
     let few = long.min(workers - 1);
     (few, workers - few)

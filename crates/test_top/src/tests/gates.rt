@@ -179,6 +179,13 @@ const LOSSES_BESIDE_A_TANDEM: Case = Case {
     ..TANDEM
 };
 
+// The same with a trunk group in the place of the second.
+const A_TRUNK_GROUP_BESIDE_A_TANDEM: Case = Case {
+    model: b"model 2\nsource a\nsource b\nsource c\nloss one 1 =2 from a\ntrunk two 1 =2 from b\n\
+        tandem line =1 / 1 =2 from c\n",
+    ..LOSSES_BESIDE_A_TANDEM
+};
+
 // How often a held entry looks whether the others have come.
 const TURNS: u64 = 2_000_000_000;
 
@@ -304,20 +311,41 @@ fn without_carries() -> Held {
     }
 }
 
-// Holds the second entry with 1, which is the first behind the rows of the sources, until some list has a fifth piece.
+// Holds one entry with a number, before which there are so many with it, until another number has come more often than so.
 #[derive(Drop)]
-struct Ahead {
-    ones: AtomicU64,
-    fours: AtomicU64,
+struct Hold {
+    number: u32,
+    before: u64,
+    other: u32,
+    often: u64,
+    own: AtomicU64,
+    others: AtomicU64,
     run_out: AtomicU64,
 }
 
-impl Gate for Ahead {
-    fn enter(&self, _seat: &ClaimSeat, _worker: u32, piece: u32) {
-        if piece == 4 {
-            self.fours.fetch_add(1, SeqCst);
+impl Hold {
+    fn until(number: u32, before: u64, other: u32, often: u64) -> Hold {
+        Hold {
+            number,
+            before,
+            other,
+            often,
+            own: AtomicU64::new(0),
+            others: AtomicU64::new(0),
+            run_out: AtomicU64::new(0),
         }
-        if piece == 1 && self.ones.fetch_add(1, SeqCst) == 1 && !comes(&self.fours, 0) {
+    }
+}
+
+impl Gate for Hold {
+    fn enter(&self, _seat: &ClaimSeat, _worker: u32, piece: u32) {
+        if piece == self.other {
+            self.others.fetch_add(1, SeqCst);
+        }
+        if piece == self.number
+            && self.own.fetch_add(1, SeqCst) == self.before
+            && !comes(&self.others, self.often)
+        {
             self.run_out.fetch_add(1, SeqCst);
         }
     }
@@ -466,13 +494,37 @@ fn two_loss_stations_have_lists_of_their_own_beside_a_tandem(rt: HostRuntime) ->
 }
 
 #[test]
+fn a_trunk_group_has_a_list_with_a_loss_station_beside_a_tandem(
+    rt: HostRuntime,
+) -> Result<(), Fail> {
+    assert!(rt;
+        has_lists(
+            &rt,
+            rt.alloc(),
+            A_TRUNK_GROUP_BESIDE_A_TANDEM,
+            &with_carries()
+        )?
+    );
+    Ok(())
+}
+
+// Whether the run of two loss stations beside a tandem is done with this gate, which no entry holds to its end.
+fn goes_on<R: Threads + Sync>(rt: &R, alloc: Global, gate: Hold) -> Result<bool, OutOfMemory> {
+    let done = is_done(rt, alloc, LOSSES_BESIDE_A_TANDEM, &gate)?;
+    Ok(done && gate.run_out.load(SeqCst) == 0)
+}
+
+// The second entry with 1, the first behind the rows of the sources, is held until some list has a fifth piece, as the tandem's alone have.
+#[test]
 fn a_tandem_goes_on_while_a_list_of_loss_stations_is_held(rt: HostRuntime) -> Result<(), Fail> {
-    let gate = Ahead {
-        ones: AtomicU64::new(0),
-        fours: AtomicU64::new(0),
-        run_out: AtomicU64::new(0),
-    };
-    assert!(rt; is_done(&rt, rt.alloc(), LOSSES_BESIDE_A_TANDEM, &gate)?);
-    assert!(rt; gate.run_out.load(SeqCst) == 0);
+    assert!(rt; goes_on(&rt, rt.alloc(), Hold::until(1, 1, 4, 0))?);
+    Ok(())
+}
+
+// The first fifth piece, one of the tandem's, is held until a second piece has come three times: of the sources, of the tandem, and of the
+// loss stations.
+#[test]
+fn loss_stations_go_on_while_a_list_of_a_tandem_is_held(rt: HostRuntime) -> Result<(), Fail> {
+    assert!(rt; goes_on(&rt, rt.alloc(), Hold::until(4, 0, 1, 2))?);
     Ok(())
 }
