@@ -250,7 +250,7 @@ fn station_run<R: Threads + Sync, L: Ledger>(
     }
 }
 
-// What a source gives: its lists edited in place, or made anew where they would become shorter or no run is kept.
+// What a source gives: its lists edited in place, or made anew where few visits would stay, or fewer come, or no run is kept.
 fn edited_source<R: Threads + Sync, L: Ledger>(
     rt: &R,
     alloc: Global,
@@ -282,7 +282,7 @@ fn edited_source<R: Threads + Sync, L: Ledger>(
     };
     match source_run(alloc, arriving, former, number, lists) {
         Ok(Edited::Done(gives)) => Ok(gives),
-        Ok(Edited::Shorter(same)) => whole_run(rt, alloc, arriving, past, number, same, steps),
+        Ok(Edited::AsBefore(same)) => whole_run(rt, alloc, arriving, past, number, same, steps),
         Err(refusal) => Err(refusal),
     }
 }

@@ -14,7 +14,7 @@ ghost use Rattle.mq_redo.specs.Kept.{coming_as};
 use crate::checkpoints::Checkpoints;
 use crate::former::{Former, NodeLists};
 use crate::nodes::{NodeRefusal, NodeRun, unchanged_run};
-use crate::sources::{SourceTail, source_tail};
+use crate::sources::{SourceTail, before_changes, source_tail};
 use crate::tails::edit_tail;
 use mq_alike::{alike_is_first, sequences_stay};
 use mq_arrivals::Arriving;
@@ -30,12 +30,13 @@ use std::mem::replace;
 pub enum Edited {
     /// They are edited: this is what the source gives.
     Done(NodeRun),
-    /// They would become shorter, and are as they were.
-    Shorter(NodeLists),
+    /// They are as they were: less than half of the visits would stay, or they would become shorter.
+    AsBefore(NodeLists),
 }
 
-/// What a source gives, of which these lists are kept from before edits of rows. It refuses for want of memory, or for a visit
-/// that departs after the bound; then its lists are as they were.
+/// What a source gives, of which these lists are kept from before edits of rows. Where less than half of the visits come before the rows
+/// that may have changed, or fewer come, nothing is done: to make the lists anew takes no longer. It refuses for want of memory, or
+/// for a visit that departs after the bound; then its lists are as they were.
 pub fn source_run(
     alloc: Global,
     arriving: &Arriving,
@@ -56,17 +57,26 @@ pub fn source_run(
     core_laws();
     alike_is_first();
     sequences_stay();
-    let Ok(tail) = source_tail(alloc, former, arriving.rows, number, &lists) else {
+    let visits = lists.visits.job.len();
+    let first = before_changes(
+        former,
+        arriving.rows,
+        number,
+        lists.visits.arrive.as_slice(),
+    );
+    if first < visits / 2 {
+        return Ok(Edited::AsBefore(lists));
+    }
+    let Ok(tail) = source_tail(alloc, former, arriving.rows, number, &lists, first) else {
         return Err(NodeRefusal {
             fault: RunFault::Memory,
             lists,
         });
     };
-    let visits = lists.visits.job.len();
     let count = tail.from + tail.arrivals.job.len();
     if count < visits {
         drop(tail);
-        return Ok(Edited::Shorter(lists));
+        return Ok(Edited::AsBefore(lists));
     }
     if tail.from == visits && count == visits {
         drop(tail);

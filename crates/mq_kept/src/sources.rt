@@ -32,17 +32,19 @@ pub struct SourceTail {
     pub arrivals: Stream,
 }
 
-/// What comes to a source after edits of rows, by the lists that are kept of it. It looks at no row before the first that was edited
-/// and, but for a binary search, at no visit that came before all rows from that one on. It refuses for want of memory alone.
+/// What comes to a source after edits of rows, by the lists that are kept of it, where so many of its first visits come before each row
+/// that may have changed. It looks at no row before the first that was edited, and at none of those visits. It refuses for want of memory alone.
 pub fn source_tail(
     alloc: Global,
     former: &FormerRows,
     rows: &Rows,
     number: u32,
     lists: &NodeLists,
+    first: usize,
 ) -> Result<SourceTail, OutOfMemory>
     requires former { IsFormerOf former.now rows.now }
     requires kept { (plan : ThePlan) × IsKeptSource plan former.now rows.now number lists.now }
+    requires first { ComeBefore number former.now rows.now lists.now.visits.arrive first }
     ensures within { IfOk result (λ tail. tail.from ≤ length lists.now.visits.job) }
     ensures loaded { (plan : ThePlan) → IsKeptSource plan former.now rows.now number lists.now → IfOk result (λ tail. IsLoaded plan rows.now number (coming_behind tail.from lists.now.visits tail.arrivals.job tail.arrivals.time)) }
     ensures fits { (plan : ThePlan) → IsKeptSource plan former.now rows.now number lists.now → IfOk result (λ tail. length lists.now.visits.job ≤ tail.from + length tail.arrivals.job → IsTailFor plan rows.now number lists.now tail.from tail.arrivals.job tail.arrivals.time tail.arrivals.time) }
@@ -50,7 +52,6 @@ pub fn source_tail(
 {
     core_laws();
     let visits = &lists.visits;
-    let first = before_changes(former, rows, number, visits.arrive.as_slice());
     let arrivals = arrivals_from(alloc, former.from, rows, number, visits, first)?;
     let jobs = &visits.job.as_slice()[first..];
     let times = &visits.arrive.as_slice()[first..];
@@ -65,8 +66,9 @@ pub fn source_tail(
     })
 }
 
-// How many first visits to a source come before each of its rows that may have changed, as it was and as it is.
-fn before_changes(former: &FormerRows, rows: &Rows, number: u32, times: &[u64]) -> usize
+/// How many first visits to a source come before each of its rows that may have changed, as it was and as it is. It looks at no row
+/// before the first that was edited, and finds the visits by halves.
+pub fn before_changes(former: &FormerRows, rows: &Rows, number: u32, times: &[u64]) -> usize
     requires was { length former.now.rows.source ≡ length former.now.rows.time }
     requires is { length rows.now.source ≡ length rows.now.time }
     requires from { former.now.from ≤ length rows.now.source }

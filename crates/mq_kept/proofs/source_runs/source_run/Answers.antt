@@ -8,13 +8,16 @@ use Rattle.mq_core.specs.declared.model.Node.{Node}
 use Rattle.mq_edits.specs.Former.{rows_before}
 use Rattle.mq_kept.proofs.Unchanged.{station-unchanged}
 use Rattle.mq_kept.specs.KeptNodes.{coming_of}
-use Rattle.mq_kept.specs.SourceTails.{IsKeptSource}
+use Rattle.mq_kept.specs.SourceTails.{ComeBefore, IsKeptSource}
 use Rattle.mq_kept.specs.Tails.{coming_behind}
 use Rattle.mq_redo.specs.Kept.{coming_as}
 use Rattle.mq_kept.proofs.source_runs.source_run.Goals as goal
 
 pub source_tail-requires-clause-kept : goal.source_tail-requires-clause-kept
 source_tail-requires-clause-kept c = (c.args.arriving.now.plan.now, record { source = c.requires.source; read = c.requires.read; earlier = c.requires.earlier; known = c.requires.kept.known })
+
+pub source_tail-requires-clause-first : goal.source_tail-requires-clause-first
+source_tail-requires-clause-first c = subst (λ l. ComeBefore c.args.number c.args.former.now c.args.arriving.now.rows.now l c.before_changes-first.result) c.as_slice.ensures c.before_changes-first.ensures
 
 pub get-requires : goal.get-requires
 get-requires c = slice_get_within c.args.arriving.now.plan.now.net.nodes c.args.number c.requires.source.0 c.requires.source.1

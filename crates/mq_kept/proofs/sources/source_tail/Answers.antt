@@ -6,42 +6,38 @@ use Rattle.mq_exits.specs.Loads.{IsLoaded}
 use Rattle.mq_kept.proofs.SourceLoads.{tail-fits, tail-loaded, tail-same}
 use Rattle.mq_kept.proofs.SourceRows.{rest-from}
 use Rattle.mq_kept.specs.KeptNodes.{coming_of}
-use Rattle.mq_kept.specs.SourceTails.{AreFirstSame, ComeBefore}
+use Rattle.mq_kept.specs.SourceTails.{AreFirstSame}
 use Rattle.mq_kept.specs.Tails.{IsTailFor, coming_behind}
 use Rattle.mq_redo.specs.Kept.{coming_as}
 use Rattle.mq_kept.proofs.sources.source_tail.Goals as goal
 
--- the first visits come before the changes
-before : (c : goal.After-without_first-2) → ComeBefore c.args.number c.args.former.now c.args.rows.now c.args.lists.now.visits.arrive c.before_changes-first.result
-before c = subst (λ l. ComeBefore c.args.number c.args.former.now c.args.rows.now l c.before_changes-first.result) c.as_slice.ensures c.before_changes-first.ensures
-
 -- so many of the others are the first arrivals
 others : (c : goal.After-without_first-2) →
-    AreFirstSame (drop c.before_changes-first.result c.args.lists.now.visits.job) (drop c.before_changes-first.result c.args.lists.now.visits.arrive) c.in_ok-arrivals.arrivals.job c.in_ok-arrivals.arrivals.time c.same_arrivals-same.result
+    AreFirstSame (drop c.args.first c.args.lists.now.visits.job) (drop c.args.first c.args.lists.now.visits.arrive) c.in_ok-arrivals.arrivals.job c.in_ok-arrivals.arrivals.time c.same_arrivals-same.result
 others c =
-    let first = c.before_changes-first.result in
+    let first = c.args.first in
     let arrivals = c.in_ok-arrivals.arrivals in
     subst (λ (l : List ℕ × List ℕ). AreFirstSame l.0 l.1 arrivals.job arrivals.time c.same_arrivals-same.result)
-    (λ k. ((rest-from first c.as_slice-2.result.now ∙ ap (drop first) c.as_slice-2.ensures) k, (rest-from first c.as_slice-3.result.now ∙ ap (drop first) c.as_slice-3.ensures) k)) c.same_arrivals-same.ensures
+    (λ k. ((rest-from first c.as_slice.result.now ∙ ap (drop first) c.as_slice.ensures) k, (rest-from first c.as_slice-2.result.now ∙ ap (drop first) c.as_slice-2.ensures) k)) c.same_arrivals-same.ensures
 
 pub returns-clause-loaded : goal.returns-clause-loaded
 returns-clause-loaded c = λ plan kept.
     let lists = c.args.lists.now in
-    let from = c.before_changes-first.result + c.same_arrivals-same.result in
+    let from = c.args.first + c.same_arrivals-same.result in
     subst (λ (l : List ℕ × List ℕ). IsLoaded plan c.args.rows.now c.args.number (coming_behind from lists.visits l.0 l.1)) (λ k. (sym c.without_first.ensures k, sym c.without_first-2.ensures k))
-    (tail-loaded c.core_laws.ensures plan c.args.former.now c.args.rows.now c.args.number lists c.requires.former kept c.before_changes-first.result c.in_ok-arrivals.arrivals (before c) c.in_ok-arrivals.ensures.stream c.in_ok-arrivals.ensures.items c.same_arrivals-same.result (others c))
+    (tail-loaded c.core_laws.ensures plan c.args.former.now c.args.rows.now c.args.number lists c.requires.former kept c.args.first c.in_ok-arrivals.arrivals c.requires.first c.in_ok-arrivals.ensures.stream c.in_ok-arrivals.ensures.items c.same_arrivals-same.result (others c))
 
 pub returns-clause-fits : goal.returns-clause-fits
 returns-clause-fits c = λ plan kept.
     let lists = c.args.lists.now in
-    let from = c.before_changes-first.result + c.same_arrivals-same.result in
+    let from = c.args.first + c.same_arrivals-same.result in
     subst (λ (l : List ℕ × List ℕ). length lists.visits.job ≤ from + length l.0 → IsTailFor plan c.args.rows.now c.args.number lists from l.0 l.1 l.1) (λ k. (sym c.without_first.ensures k, sym c.without_first-2.ensures k))
-    (tail-fits c.core_laws.ensures plan c.args.former.now c.args.rows.now c.args.number lists c.requires.former kept c.before_changes-first.result c.in_ok-arrivals.arrivals (before c) c.in_ok-arrivals.ensures.stream c.in_ok-arrivals.ensures.items c.same_arrivals-same.result (others c))
+    (tail-fits c.core_laws.ensures plan c.args.former.now c.args.rows.now c.args.number lists c.requires.former kept c.args.first c.in_ok-arrivals.arrivals c.requires.first c.in_ok-arrivals.ensures.stream c.in_ok-arrivals.ensures.items c.same_arrivals-same.result (others c))
 
 pub returns-clause-same : goal.returns-clause-same
 returns-clause-same c =
     let lists = c.args.lists.now in
     let kept = c.requires.kept in
-    let from = c.before_changes-first.result + c.same_arrivals-same.result in
+    let from = c.args.first + c.same_arrivals-same.result in
     subst (λ (l : List ℕ × List ℕ). from ≡ alike Source (coming_of (rows_before c.args.former.now c.args.rows.now) lists.visits) (coming_as c.args.rows.now (coming_behind from lists.visits l.0 l.1))) (λ k. (sym c.without_first.ensures k, sym c.without_first-2.ensures k))
-    (tail-same c.core_laws.ensures kept.0 c.args.former.now c.args.rows.now c.args.number lists c.requires.former kept.1 c.before_changes-first.result c.in_ok-arrivals.arrivals (before c) c.in_ok-arrivals.ensures.stream c.in_ok-arrivals.ensures.items c.same_arrivals-same.result (others c))
+    (tail-same c.core_laws.ensures kept.0 c.args.former.now c.args.rows.now c.args.number lists c.requires.former kept.1 c.args.first c.in_ok-arrivals.arrivals c.requires.first c.in_ok-arrivals.ensures.stream c.in_ok-arrivals.ensures.items c.same_arrivals-same.result (others c))
