@@ -225,33 +225,27 @@ port-there node port = go (is_source_kind node.kind) refl
 -- The pieces of an origin, put together: the rows of a source, blocks, or all that came.
 abbrev pub AreRows : Origin → Type 0
 AreRows (Unsorted rows) = Unit {0}
-AreRows (Ports before next blocks) = ⊥
-AreRows (Ended arrivals) = ⊥
+AreRows _ = ⊥
 
 abbrev pub AreCut : Blocks → Origin → Type 0
-AreCut blocks (Unsorted rows) = ⊥
 AreCut blocks (Ports before next own) = own ≡ blocks
-AreCut blocks (Ended arrivals) = ⊥
+AreCut _ _ = ⊥
 
 abbrev pub HaveAllCome : Arrivals → Origin → Type 0
-HaveAllCome arrivals (Unsorted rows) = ⊥
-HaveAllCome arrivals (Ports before next blocks) = ⊥
 HaveAllCome arrivals (Ended own) = own ≡ arrivals
+HaveAllCome _ _ = ⊥
 
 pub rows-alone : (v : ℕ) (origin : Origin) (group : List Stream) → AreRows origin → AreAll (IsSortedPiece v origin) (pieces_of origin) group → length group ≡ 1
 rows-alone v (Unsorted rows) group h all = all.len
-rows-alone v (Ports before next blocks) group h all = absurd h
-rows-alone v (Ended arrivals) group h all = absurd h
+rows-alone v _ group h all = absurd h
 
 pub of-rows : (v : ℕ) (origin : Origin) (group : List Stream) (stream : Stream) → AreRows origin → AreAll (IsSortedPiece v origin) (pieces_of origin) group → ((d : Stream) → get_or group 0 d ≡ stream) → ArePairsOf (pairs_from v origin) stream
 of-rows v (Unsorted rows) group stream h all alone = subst (ArePairsOf (rows_at v 0 rows.now.source rows.now.time)) (alone stream) (all.each 0 stream (omega arith))
-of-rows v (Ports before next blocks) group stream h all alone = absurd h
-of-rows v (Ended own) group stream h all alone = absurd h
+of-rows v _ group stream h all alone = absurd h
 
 pub blocks-all-there : (v : ℕ) (origin : Origin) (blocks : Blocks) (group : List Stream) → AreCut blocks origin → AreAll (IsSortedPiece v origin) (pieces_of origin) group → length group ≡ blocks.blocks
-blocks-all-there v (Unsorted rows) blocks group h all = absurd h
 blocks-all-there v (Ports before next own) blocks group h all = all.len ∙ ap (λ (b : Blocks). b.blocks) h
-blocks-all-there v (Ended own) blocks group h all = absurd h
+blocks-all-there v _ blocks group h all = absurd h
 
 abbrev pub Joins : Blocks → List Stream → Stream → Type 0
 Joins blocks group stream = (pairs : Pairs) → blocks.n ≡ length pairs → AreAll (IsBlockOf pairs blocks) blocks.blocks group → ArePairsOf pairs stream
@@ -265,17 +259,15 @@ pair-length one other blocks h =
     omega arith
 
 pub of-blocks : (v : ℕ) (origin : Origin) (blocks : Blocks) (group : List Stream) (stream : Stream) → AreCut blocks origin → IsReadyOrigin origin → AreAll (IsSortedPiece v origin) (pieces_of origin) group → Joins blocks group stream → ArePairsOf (pairs_from v origin) stream
-of-blocks v (Unsorted rows) blocks group stream h fit all joins = absurd h
 of-blocks v (Ports before next own) blocks group stream h fit all joins =
     let joined : Joins own group stream = subst (λ (b : Blocks). Joins b group stream) (sym h) joins in
     joined (pairs_of (stream_in before) ++ pairs_of next.now) (pair-length (stream_in before) next.now own fit) all
-of-blocks v (Ended own) blocks group stream h fit all joins = absurd h
+of-blocks v _ blocks group stream h fit all joins = absurd h
 
 pub of-all : (v : ℕ) (origin : Origin) (arrivals : Arrivals) → HaveAllCome arrivals origin → IsReadyOrigin origin → ArePairsOf (pairs_from v origin) (stream_in arrivals)
-of-all v (Unsorted rows) arrivals h fit = absurd h
-of-all v (Ports before next blocks) arrivals h fit = absurd h
 of-all v (Ended own) arrivals h fit =
     subst (λ (a : Arrivals). ArePairsOf (pairs_of (stream_in own)) (stream_in a)) h (record { ordered = fit; items = sym (by_first-rises (stream_in own).time (stream_in own).job fit.rising) })
+of-all v _ arrivals h fit = absurd h
 
 -- the nodes of a wave, tier by tier
 abbrev pub coming_size : Coming → ℕ
