@@ -8,7 +8,7 @@ use Rattle.mq_core.specs.declared.model.Stream.{Stream}
 use Rattle.mq_exits.specs.Afters.{IsAfterAt}
 use Rattle.mq_exits.specs.Exits.{IsCounted, IsDelayPiece, IsFound, IsOvertaken, founds_by}
 use Rattle.mq_exits.specs.declared.exits.Closed.{Closed}
-use Rattle.mq_exits.specs.declared.exits.Closed.TheVariants.{Came, Departures, Found, Jobs, Over, Times}
+use Rattle.mq_exits.specs.declared.exits.Closed.TheVariants.{Found}
 use Rattle.mq_exits.specs.declared.overtaking.Overtaken.{Overtaken}
 use Rattle.mq_exits.specs.declared.working.After.{After}
 use Rattle.mq_exits.specs.declared.working.After.TheVariants.{Seen}
@@ -22,12 +22,8 @@ founds-end arrivals overtaken k done h l was =
 
 -- each piece tells of a block
 pub tells-found : (arrivals : Stream) (overtaken : Overtaken) (b : ℕ) (closed : Closed) → IsDelayPiece arrivals overtaken b closed → IsFound closed
-tells-found arrivals overtaken b (Times times) h = h
-tells-found arrivals overtaken b (Over fault) h = h
 tells-found arrivals overtaken b (Found found) h = tt
-tells-found arrivals overtaken b (Jobs jobs) h = h
-tells-found arrivals overtaken b (Departures times) h = h
-tells-found arrivals overtaken b (Came times) h = h
+tells-found arrivals overtaken b _ h = h
 
 -- what becomes of the arrivals at a delay
 pub delays : (plan : Plan) (rows : Rows) (v : ℕ) (arrivals : Stream) (overtaken : Overtaken) (departs found : List ℕ) (leaving : Stream) → IsOvertaken plan rows v arrivals overtaken → departs ≡ overtaken.departs → leaving ≡ record { job = overtaken.job; time = overtaken.ahead.leaving } → found ≡ founds_by arrivals overtaken.departs →

@@ -10,7 +10,7 @@ use Rattle.mq_merge.specs.declared.arrivals.Arrivals.{Arrivals}
 use Rattle.mq_merge.specs.declared.arrivals.Arrivals.TheVariants.{Merged, Read}
 use Rattle.mq_exits.specs.Exits.{IsClosed, IsCopy, IsLast, closings_of, copies_of, lasts_of}
 use Rattle.mq_exits.specs.declared.exits.Closed.{Closed}
-use Rattle.mq_exits.specs.declared.exits.Closed.TheVariants.{Came, Departures, Found, Jobs, Over, Times}
+use Rattle.mq_exits.specs.declared.exits.Closed.TheVariants.{Came, Jobs}
 use Rattle.mq_exits.specs.declared.exits.Completion.{Completion}
 
 pub copies-few : (arrivals : Arrivals) → copies_of arrivals ≤ 2
@@ -44,20 +44,14 @@ last-two plan rows v arrivals completion group more rest time job two e f all =
 
 -- what a copy tells
 pub copy-jobs : (stream : Stream) (closed : Closed) → IsCopy stream 0 closed → closed ≡ Jobs stream.job
-copy-jobs stream (Times times) h = absurd h
-copy-jobs stream (Over fault) h = absurd h
-copy-jobs stream (Found found) h = absurd h
 copy-jobs stream (Jobs jobs) h = ap Jobs h.1
-copy-jobs stream (Departures times) h = absurd h
 copy-jobs stream (Came times) h = let no = h.0 in absurd (omega arith)
+copy-jobs stream _ h = absurd h
 
 pub copy-times : (stream : Stream) (closed : Closed) → IsCopy stream 1 closed → closed ≡ Came stream.time
-copy-times stream (Times times) h = absurd h
-copy-times stream (Over fault) h = absurd h
-copy-times stream (Found found) h = absurd h
 copy-times stream (Jobs jobs) h = let no = h.0 in absurd (omega arith)
-copy-times stream (Departures times) h = absurd h
 copy-times stream (Came times) h = ap Came h.1
+copy-times stream _ h = absurd h
 
 pub same-jobs : (closed : Closed) (one other : List ℕ) → closed ≡ Jobs one → closed ≡ Jobs other → one ≡ other
 same-jobs closed one other e f = cc

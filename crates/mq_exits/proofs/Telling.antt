@@ -7,7 +7,7 @@ use Rattle.mq_crew.specs.Crew.{AreAll}
 use Rattle.mq_core.specs.declared.refusals.PastFault.{PastFault}
 use Rattle.mq_exits.specs.Exits.{IsShut}
 use Rattle.mq_exits.specs.declared.exits.Closed.{Closed}
-use Rattle.mq_exits.specs.declared.exits.Closed.TheVariants.{Came, Departures, Found, Jobs, Over, Times}
+use Rattle.mq_exits.specs.declared.exits.Closed.TheVariants.{Departures, Found, Jobs, Over, Times}
 
 pub some-last : (is : ℕ → Closed → Type 0) (n : ℕ) (group : List Closed) → AreAll is (suc n) group → 1 ≤ length group
 some-last is n group all = let count = all.len in omega arith
@@ -19,7 +19,7 @@ module _ (plan : Plan) (rows : Rows) (v : ℕ) (arrivals : Stream) (departs : Li
   shut-left (Found found) h = let no = h.0 in absurd (omega arith)
   shut-left (Jobs jobs) h = let no = h.0 in absurd (omega arith)
   shut-left (Departures times) h = let no = h.0 in absurd (omega arith)
-  shut-left (Came times) h = absurd h
+  shut-left _ h = absurd h
 
   pub shut-founds : (closed : Closed) → IsShut plan rows v arrivals departs 1 closed → (found : List ℕ) × (closed ≡ Found found)
   shut-founds (Times times) h = let no = h.0 in absurd (omega arith)
@@ -27,7 +27,7 @@ module _ (plan : Plan) (rows : Rows) (v : ℕ) (arrivals : Stream) (departs : Li
   shut-founds (Found found) h = (found, refl)
   shut-founds (Jobs jobs) h = let no = h.0 in absurd (omega arith)
   shut-founds (Departures times) h = let no = h.0 in absurd (omega arith)
-  shut-founds (Came times) h = absurd h
+  shut-founds _ h = absurd h
 
   pub shut-jobs : (closed : Closed) → IsShut plan rows v arrivals departs 2 closed → (jobs : List ℕ) × (closed ≡ Jobs jobs)
   shut-jobs (Times times) h = let no = h.0 in absurd (omega arith)
@@ -35,7 +35,7 @@ module _ (plan : Plan) (rows : Rows) (v : ℕ) (arrivals : Stream) (departs : Li
   shut-jobs (Found found) h = let no = h.0 in absurd (omega arith)
   shut-jobs (Jobs jobs) h = (jobs, refl)
   shut-jobs (Departures times) h = let no = h.0 in absurd (omega arith)
-  shut-jobs (Came times) h = absurd h
+  shut-jobs _ h = absurd h
 
   pub shut-departures : (closed : Closed) → IsShut plan rows v arrivals departs 3 closed → (times : List ℕ) × (closed ≡ Departures times)
   shut-departures (Times times) h = let no = h.0 in absurd (omega arith)
@@ -43,4 +43,4 @@ module _ (plan : Plan) (rows : Rows) (v : ℕ) (arrivals : Stream) (departs : Li
   shut-departures (Found found) h = let no = h.0 in absurd (omega arith)
   shut-departures (Jobs jobs) h = let no = h.0 in absurd (omega arith)
   shut-departures (Departures times) h = (times, refl)
-  shut-departures (Came times) h = absurd h
+  shut-departures _ h = absurd h

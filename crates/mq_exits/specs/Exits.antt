@@ -1,4 +1,5 @@
 -- What is known of a station when all its jobs have left, and its last pieces.
+-- A table's last row `_ = ⊥` gathers all that can't be: a function that gives something without a row of its own isn't proved.
 use Rattle.std.specs.Prelude.{◌≡◌, ◌+◌, ◌*◌, ◌<◌, ℕ, Bool, true, false, List, [], ◌∷◌, length, map, min, Some, None, slice_get}
 use Rattle.mq_base.specs.Lists.{between}
 use Rattle.mq_core.specs.Came.{came_in}
@@ -83,7 +84,7 @@ IsShut plan rows v arrivals departs b (Over fault) =
 IsShut plan rows v arrivals departs b (Found found) = (b ≡ 1) × (found ≡ founds_of arrivals.time (map (λ time. Departs time) departs))
 IsShut plan rows v arrivals departs b (Jobs jobs) = (b ≡ 2) × (jobs ≡ arrivals.job)
 IsShut plan rows v arrivals departs b (Departures times) = (b ≡ 3) × (times ≡ departs)
-IsShut plan rows v arrivals departs b (Came times) = ⊥
+IsShut _ _ _ _ _ _ _ = ⊥
 
 -- what each of these arrivals found, where they depart at these times
 abbrev pub founds_by : Stream → List ℕ → List ℕ
@@ -95,28 +96,20 @@ IsFoundBlock founds blocks b found = found ≡ between (b * blocks.block) (min (
 
 -- a last piece of a delay: how many each visit of a block found
 abbrev pub IsDelayPiece : Stream → Overtaken → ℕ → Closed → Type 0
-IsDelayPiece arrivals overtaken b (Times times) = ⊥
-IsDelayPiece arrivals overtaken b (Over fault) = ⊥
 IsDelayPiece arrivals overtaken b (Found found) = IsFoundBlock (founds_by arrivals overtaken.departs) overtaken.blocks b found
-IsDelayPiece arrivals overtaken b (Jobs jobs) = ⊥
-IsDelayPiece arrivals overtaken b (Departures times) = ⊥
-IsDelayPiece arrivals overtaken b (Came times) = ⊥
+IsDelayPiece _ _ _ _ = ⊥
 
 -- a last piece that tells how many visits found
 abbrev pub IsFound : Closed → Type 0
-IsFound (Times times) = ⊥
-IsFound (Over fault) = ⊥
 IsFound (Found found) = Unit {0}
-IsFound (Jobs jobs) = ⊥
-IsFound (Departures times) = ⊥
-IsFound (Came times) = ⊥
+IsFound _ = ⊥
 
 abbrev pub IsClosed : Plan → Rows → ℕ → Stream → Completion → ℕ → Closed → Type 0
-IsClosed plan rows v arrivals (Known after) b closed = ⊥
 IsClosed plan rows v arrivals (Served departs) b closed = IsShut plan rows v arrivals departs b closed
 IsClosed plan rows v arrivals (Sorted overtaken) b closed = IsDelayPiece arrivals overtaken b closed
 IsClosed plan rows v arrivals (Passed streams) b closed = IsShut plan rows v arrivals arrivals.time b closed
 IsClosed plan rows v arrivals Sent b closed = IsShut plan rows v arrivals arrivals.time b closed
+IsClosed _ _ _ _ _ _ _ = ⊥
 
 -- how many last pieces copy what came: the visits need jobs and times of their own where it was only read
 abbrev pub copies_of : Arrivals → ℕ
@@ -125,12 +118,9 @@ copies_of (Read stream) = 2
 
 -- one of them: the jobs, or when they came
 abbrev pub IsCopy : Stream → ℕ → Closed → Type 0
-IsCopy arrivals k (Times times) = ⊥
-IsCopy arrivals k (Over fault) = ⊥
-IsCopy arrivals k (Found found) = ⊥
 IsCopy arrivals k (Jobs jobs) = (k ≡ 0) × (jobs ≡ arrivals.job)
-IsCopy arrivals k (Departures times) = ⊥
 IsCopy arrivals k (Came times) = (k ≡ 1) × (times ≡ arrivals.time)
+IsCopy _ _ _ = ⊥
 
 -- how many last pieces a station has
 abbrev pub lasts_of : Arrivals → Completion → ℕ

@@ -116,7 +116,7 @@ fn closed_of(
         Completion::Sorted(overtaken) => delay_piece(alloc, load.arrivals, overtaken, b),
         Completion::Passed(_) => passed_of(alloc, load, b),
         Completion::Sent => sent_piece(alloc, load, b),
-        Completion::Known(_) => unreachable!(),
+        _ => unreachable!(),
     }
 }
 

@@ -99,10 +99,6 @@ fn found_in(closed: &Closed) -> &List<u32>
 {
     match closed {
         Closed::Found(found) => found,
-        Closed::Times(_)
-        | Closed::Over(_)
-        | Closed::Jobs(_)
-        | Closed::Departures(_)
-        | Closed::Came(_) => unreachable!(),
+        _ => unreachable!(),
     }
 }
