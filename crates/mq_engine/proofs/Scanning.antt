@@ -24,7 +24,7 @@ use Rattle.mq_exits.specs.Loads.{IsLoaded}
 use Rattle.mq_exits.specs.Splits.{AreSplitGroup, IsSplitAt}
 use Rattle.mq_engine.specs.Loads.{IsRouted, IsScanOf, IsScanned, IsSplitPart}
 use Rattle.mq_engine.specs.declared.firsts.Part.{Part}
-use Rattle.mq_engine.specs.declared.firsts.Part.TheVariants.{Product, Routed, Whole}
+use Rattle.mq_engine.specs.declared.firsts.Part.TheVariants.{Routed}
 use Rattle.mq_engine.specs.declared.loads.Scan.{Scan}
 use Rattle.mq_engine.specs.declared.loads.Scan.TheVariants.{OfForkJoin, OfServer, OfSplit, OfTandem}
 use Rattle.mq_stations.specs.declared.forkjoin.ForkJoinScan.{ForkJoinScan}
@@ -102,9 +102,8 @@ split-at plan rows v arrivals scan blocks l e =
 
 -- what leaves the blocks of a split
 pub routed-part : (plan : Plan) (rows : Rows) (v : ℕ) (arrivals : Stream) (blocks : Blocks) (b : ℕ) (part : Part) → IsSplitPart plan rows v arrivals blocks b part → IsRouted part
-routed-part plan rows v arrivals blocks b (Whole worked) h = h
-routed-part plan rows v arrivals blocks b (Product sum) h = h
 routed-part plan rows v arrivals blocks b (Routed streams) h = tt
+routed-part plan rows v arrivals blocks b _ h = h
 
 pub routed-group : (plan : Plan) (rows : Rows) (v : ℕ) (arrivals : Stream) (blocks : Blocks) (group : List Part) (all : List (List Stream)) → blocks.n ≡ length arrivals.time → AreAll (IsSplitPart plan rows v arrivals blocks) blocks.blocks group → group ≡ map (λ streams. Routed streams) all → AreSplitGroup plan rows v arrivals all
 routed-group plan rows v arrivals blocks group all n each e =

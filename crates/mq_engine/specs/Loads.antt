@@ -1,4 +1,5 @@
 -- How the stations of the nodes that are ready are worked out, and what the pieces of a wave are.
+-- A table's last row `_ = ⊥` gathers all that can't be: a function that gives something without a row of its own isn't proved.
 use Rattle.std.specs.Prelude.{◌≡◌, ◌≤◌, ℕ, List, Contains, length, map, Some, slice_get}
 use Rattle.std.specs.List.{AllByRecursion}
 use Rattle.mq_core.specs.Handling.{demand_of_job}
@@ -84,90 +85,70 @@ applied_of (OfSplit blocks) = 0
 
 -- a first piece that is what the jobs of a block of a tandem do together
 abbrev pub IsTandemPart : Stream → TandemScan → ℕ → Part → Type 0
-IsTandemPart arrivals scan b (Whole worked) = ⊥
 IsTandemPart arrivals scan b (Product sum) = IsTandemSum arrivals scan b sum.value
-IsTandemPart arrivals scan b (Routed streams) = ⊥
+IsTandemPart _ _ _ _ = ⊥
 
 -- a first piece that is what leaves a block of a split
 abbrev pub IsRouted : Part → Type 0
-IsRouted (Whole worked) = ⊥
-IsRouted (Product sum) = ⊥
 IsRouted (Routed streams) = Unit {0}
+IsRouted _ = ⊥
 
 -- the same, with what leaves
 abbrev pub IsSplitPart : Plan → Rows → ℕ → Stream → Blocks → ℕ → Part → Type 0
-IsSplitPart plan rows v arrivals blocks b (Whole worked) = ⊥
-IsSplitPart plan rows v arrivals blocks b (Product sum) = ⊥
 IsSplitPart plan rows v arrivals blocks b (Routed streams) = ArePartsAt plan rows v arrivals blocks b streams
+IsSplitPart _ _ _ _ _ _ _ = ⊥
 
 -- a first piece that is a whole station
 abbrev pub IsWhole : Part → Type 0
 IsWhole (Whole worked) = Unit {0}
-IsWhole (Product sum) = ⊥
-IsWhole (Routed streams) = ⊥
+IsWhole _ = ⊥
 
 -- the same, with what it tells
 abbrev pub IsWholePart : Plan → Rows → ℕ → Stream → Part → Type 0
 IsWholePart plan rows v arrivals (Whole worked) = IsWorkedAt plan rows v arrivals worked
-IsWholePart plan rows v arrivals (Product sum) = ⊥
-IsWholePart plan rows v arrivals (Routed streams) = ⊥
+IsWholePart _ _ _ _ _ = ⊥
 
 -- a first piece: a whole station, what the jobs of a block do together, or what leaves a block
 abbrev pub IsPart : Plan → Rows → ℕ → Stream → Scan → ℕ → Part → Type 0
 IsPart plan rows v arrivals Unscanned b part = IsWholePart plan rows v arrivals part
-IsPart plan rows v arrivals (OfServer demands) b part = ⊥
 IsPart plan rows v arrivals (OfTandem scan) b part = IsTandemPart arrivals scan b part
-IsPart plan rows v arrivals (OfForkJoin scan) b part = ⊥
 IsPart plan rows v arrivals (OfSplit blocks) b part = IsSplitPart plan rows v arrivals blocks b part
+IsPart _ _ _ _ _ _ _ = ⊥
 
 -- the station was one first piece
 abbrev pub IsAll : Interim → Type 0
 IsAll (Ended worked) = Unit {0}
-IsAll (Latest carries) = ⊥
-IsAll (Parted streams) = ⊥
-IsAll Unbegun = ⊥
+IsAll _ = ⊥
 
 -- the latest departures before each block are known
 abbrev pub IsLatest : Interim → Type 0
-IsLatest (Ended worked) = ⊥
 IsLatest (Latest carries) = Unit {0}
-IsLatest (Parted streams) = ⊥
-IsLatest Unbegun = ⊥
+IsLatest _ = ⊥
 
 -- what leaves a split is known
 abbrev pub IsParted : Interim → Type 0
-IsParted (Ended worked) = ⊥
-IsParted (Latest carries) = ⊥
 IsParted (Parted streams) = Unit {0}
-IsParted Unbegun = ⊥
+IsParted _ = ⊥
 
 -- what one piece told of the station is known
 abbrev pub IsEnded : Plan → Rows → ℕ → Stream → Interim → Type 0
 IsEnded plan rows v arrivals (Ended worked) = IsWorkedAt plan rows v arrivals worked
-IsEnded plan rows v arrivals (Latest carries) = ⊥
-IsEnded plan rows v arrivals (Parted streams) = ⊥
-IsEnded plan rows v arrivals Unbegun = ⊥
+IsEnded _ _ _ _ _ = ⊥
 
 -- the latest departures before the blocks of a tandem are known
 abbrev pub IsTandemInterim : Stream → TandemScan → Interim → Type 0
-IsTandemInterim arrivals scan (Ended worked) = ⊥
 IsTandemInterim arrivals scan (Latest carries) = AreTandemCarries arrivals scan carries
-IsTandemInterim arrivals scan (Parted streams) = ⊥
-IsTandemInterim arrivals scan Unbegun = ⊥
+IsTandemInterim _ _ _ = ⊥
 
 -- nothing is known yet, as of a server and of a fork-join, which come later
 abbrev pub IsUnbegun : Interim → Type 0
-IsUnbegun (Ended worked) = ⊥
-IsUnbegun (Latest carries) = ⊥
-IsUnbegun (Parted streams) = ⊥
 IsUnbegun Unbegun = Unit {0}
+IsUnbegun _ = ⊥
 
 -- what leaves a split is known
 abbrev pub IsSplitInterim : Plan → Rows → ℕ → Stream → Interim → Type 0
-IsSplitInterim plan rows v arrivals (Ended worked) = ⊥
-IsSplitInterim plan rows v arrivals (Latest carries) = ⊥
 IsSplitInterim plan rows v arrivals (Parted streams) = AreSplitStreams plan rows v arrivals streams
-IsSplitInterim plan rows v arrivals Unbegun = ⊥
+IsSplitInterim _ _ _ _ _ = ⊥
 
 -- what is known of a station after its first pieces: what one told, the carry before each block, what leaves a split, or nothing of a server and of a fork-join
 abbrev pub IsInterim : Plan → Rows → ℕ → Stream → Scan → Interim → Type 0
@@ -179,11 +160,8 @@ IsInterim plan rows v arrivals (OfSplit blocks) interim = IsSplitInterim plan ro
 
 -- a further piece: when the jobs of a block depart
 abbrev pub IsApplied : Stream → Scan → ℕ → List ℕ → Type 0
-IsApplied arrivals Unscanned b times = ⊥
-IsApplied arrivals (OfServer demands) b times = ⊥
 IsApplied arrivals (OfTandem scan) b times = AreTandemTimes arrivals scan b times
-IsApplied arrivals (OfForkJoin scan) b times = ⊥
-IsApplied arrivals (OfSplit blocks) b times = ⊥
+IsApplied _ _ _ _ = ⊥
 
 -- what is known of a station in the middle of a wave
 abbrev pub IsReadyMiddle : Middle → Type 0

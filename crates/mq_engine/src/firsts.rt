@@ -79,7 +79,7 @@ fn part_of(alloc: Global, load: &Load, scan: &Scan, b: u32) -> Result<Part, OutO
             Ok(Part::Product(Box::new(alloc, sum)?))
         }
         Scan::OfSplit(blocks) => Ok(Part::Routed(routed(alloc, load, blocks, b)?)),
-        Scan::OfServer(_) | Scan::OfForkJoin(_) => unreachable!(),
+        _ => unreachable!(),
     }
 }
 
@@ -136,8 +136,7 @@ fn those_routed(alloc: Global, group: List<Part>) -> Result<List<List<Stream>>, 
     'parts: for part in group.into_vec() {
         match part {
             Part::Routed(streams) => all.push_reserved(streams),
-            Part::Whole(_worked) => unreachable!(),
-            Part::Product(_sum) => unreachable!(),
+            _ => unreachable!(),
         }
     }
     Ok(List::from_vec(all))
@@ -158,7 +157,7 @@ fn tandem_sums(
     for b in 0..group.len() {
         match group.get(b) {
             Part::Product(sum) => sums.push(**sum)?,
-            Part::Whole(_) | Part::Routed(_) => unreachable!(),
+            _ => unreachable!(),
         }
     }
     Ok(sums)

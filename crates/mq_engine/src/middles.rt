@@ -66,9 +66,7 @@ fn applied(
 {
     match scan {
         Scan::OfTandem(scan) => tandem_times(alloc, load.arrivals, scan, latest_of(interim), b),
-        Scan::Unscanned | Scan::OfServer(_) | Scan::OfForkJoin(_) | Scan::OfSplit(_) => {
-            unreachable!()
-        }
+        _ => unreachable!(),
     }
 }
 
@@ -79,7 +77,7 @@ fn latest_of(interim: &Interim) -> &List<Latest>
 {
     match interim {
         Interim::Latest(carries) => carries,
-        Interim::Ended(_) | Interim::Parted(_) | Interim::Unbegun => unreachable!(),
+        _ => unreachable!(),
     }
 }
 
@@ -162,9 +160,7 @@ fn the_end(interim: Interim) -> Worked
 {
     match interim {
         Interim::Ended(worked) => worked,
-        Interim::Latest(_carries) => unreachable!(),
-        Interim::Parted(_streams) => unreachable!(),
-        Interim::Unbegun => unreachable!(),
+        _ => unreachable!(),
     }
 }
 
@@ -175,8 +171,6 @@ fn the_parts(interim: Interim) -> List<Stream>
 {
     match interim {
         Interim::Parted(streams) => streams,
-        Interim::Ended(_worked) => unreachable!(),
-        Interim::Latest(_carries) => unreachable!(),
-        Interim::Unbegun => unreachable!(),
+        _ => unreachable!(),
     }
 }
