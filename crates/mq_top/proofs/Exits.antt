@@ -24,25 +24,13 @@ use Rattle.mq_words.specs.declared.fault.UsageFault.TheVariants.{Words}
 by_call : (words : List (List ℕ)) (P : Outcome → Type 0) (o : Outcome) → ((f : UsageFault) → usage_fault words ≡ Some f → P (Usage f)) → (refuses_words words ≡ false → P Memory) → RefusesCall words o → P o
 by_call words P (Usage f) usage memory r = usage f r
 by_call words P Memory usage memory r = memory r
-by_call words P Done usage memory r = elim r [ ]
-by_call words P (Model _) usage memory r = elim r [ ]
-by_call words P (Trace _) usage memory r = elim r [ ]
-by_call words P (Past _) usage memory r = elim r [ ]
-by_call words P (Over _) usage memory r = elim r [ ]
-by_call words P (ReadFault _) usage memory r = elim r [ ]
-by_call words P WriteFault usage memory r = elim r [ ]
+by_call words P _ usage memory r = elim r [ ]
 
 by_model : (told : Option (List ℕ)) (P : Outcome → Type 0) (o : Outcome) → ((f : ModelFault) → IfSome told (λ bytes. model_fault bytes ≡ Some f) → P (Model f)) → P (ReadFault false) → P Memory → RefusesModel o told → P o
 by_model told P (Model f) refused unread memory r = refused f r.1
 by_model told P (ReadFault false) refused unread memory r = unread
 by_model told P Memory refused unread memory r = memory
-by_model told P Done refused unread memory r = elim r [ ]
-by_model told P (Usage _) refused unread memory r = elim r [ ]
-by_model told P (Trace _) refused unread memory r = elim r [ ]
-by_model told P (Past _) refused unread memory r = elim r [ ]
-by_model told P (Over _) refused unread memory r = elim r [ ]
-by_model told P (ReadFault true) refused unread memory r = elim r [ ]
-by_model told P WriteFault refused unread memory r = elim r [ ]
+by_model told P _ refused unread memory r = elim r [ ]
 
 -- want of memory, and a fault of the first read, may come on the way to each answer
 at_memory : (a : Answer) (t : Taken) → Ends a Memory t
@@ -118,9 +106,7 @@ late_reads (Over _) before now e late = e
 late_reads (ReadFault true) before now e late = e
 late_reads WriteFault before now e late = e
 late_reads Memory before now e late = inr (inr e)
-late_reads (Usage _) before now e late = elim late [ ]
-late_reads (Model _) before now e late = elim late [ ]
-late_reads (ReadFault false) before now e late = elim late [ ]
+late_reads _ before now e late = elim late [ ]
 
 -- ---- a made input
 

@@ -13,7 +13,7 @@ use Rattle.mq_top.specs.declared.stages.Wanted.{Wanted}
 use Rattle.mq_top.specs.Ends.{Ends, IsOfMade, Taken}
 use Rattle.mq_outcome.specs.Lines.{line_text, name_of}
 use Rattle.mq_outcome.specs.declared.outcome.Outcome.{Outcome}
-use Rattle.mq_outcome.specs.declared.outcome.Outcome.TheVariants.{Done, Usage, Model, Trace, Past, Over, ReadFault, WriteFault, Memory}
+use Rattle.mq_outcome.specs.declared.outcome.Outcome.TheVariants.{Done, ReadFault, WriteFault, Memory}
 
 pub some_is_none : {A : Type 0} {B : Type 0} (o : Option A) (x : A) → o ≡ Some x → o ≡ None → B
 some_is_none o x some none = absurd (true≢false (sym (ap is_some some) ∙ ap is_some none))
@@ -38,23 +38,14 @@ made_outcome model trace wanted o t a ends unread = go o (subst (λ b. Ends b o 
     go WriteFault e u = tt
     go Memory e u = tt
     go (ReadFault second) e u = absurd (u second refl)
-    go (Usage _) e u = elim e [ ]
-    go (Model _) e u = elim e [ ]
-    go (Trace _) e u = elim e [ ]
-    go (Past _) e u = elim e [ ]
-    go (Over _) e u = elim e [ ]
+    go _ e u = elim e [ ]
 
 -- its line speaks of no name
 pub made_line : (net : Network) (o : Outcome) → IsOfMade o → line_text (name_of net o) o ≡ line_text [] o
 made_line net Done made = refl
 made_line net WriteFault made = refl
 made_line net Memory made = refl
-made_line net (ReadFault _) made = elim made [ ]
-made_line net (Usage _) made = elim made [ ]
-made_line net (Model _) made = elim made [ ]
-made_line net (Trace _) made = elim made [ ]
-made_line net (Past _) made = elim made [ ]
-made_line net (Over _) made = elim made [ ]
+made_line net _ made = elim made [ ]
 
 -- the answer for one number, with a report as it is wanted
 pub same_answer : (number asked : ℕ) (wanted said : Wanted) → number ≡ asked → wanted ≡ said → answer (made_model asked) (made_trace asked) said ≡ answer (made_model number) (made_trace number) wanted

@@ -13,7 +13,7 @@ use Rattle.mq_top.specs.Answer.{answer, answer_over, model_answer, run_answer, t
 use Rattle.mq_top.specs.declared.stages.Wanted.{Wanted}
 use Rattle.mq_top.specs.Ends.{Ends, RefusesModel, RefusesTrace, Taken}
 use Rattle.mq_outcome.specs.declared.outcome.Outcome.{Outcome}
-use Rattle.mq_outcome.specs.declared.outcome.Outcome.TheVariants.{Done, Usage, Model, Trace, Past, Over, ReadFault, WriteFault, Memory}
+use Rattle.mq_outcome.specs.declared.outcome.Outcome.TheVariants.{Model, Trace, ReadFault, Memory}
 
 pub if_told : (told : Option (List ℕ)) (P Q : List ℕ → Type 0) → IfSome told P → ((bytes : List ℕ) → P bytes → Q bytes) → IfSome told Q
 if_told None P Q h k = tt
@@ -34,26 +34,14 @@ model_refused o (Some bytes) read is refused = subst (λ text. RefusesModel o (S
 model_refused (Model f) None read is refused = (refused.0, tt)
 model_refused (ReadFault false) None read is refused = tt
 model_refused Memory None read is refused = tt
-model_refused Done None read is refused = elim refused [ ]
-model_refused (Usage _) None read is refused = elim refused [ ]
-model_refused (Trace _) None read is refused = elim refused [ ]
-model_refused (Past _) None read is refused = elim refused [ ]
-model_refused (Over _) None read is refused = elim refused [ ]
-model_refused (ReadFault true) None read is refused = elim refused [ ]
-model_refused WriteFault None read is refused = elim refused [ ]
+model_refused _ None read is refused = elim refused [ ]
 
 pub trace_refused : (net : Network) (o : Outcome) (told : Option (List ℕ)) (read : List ℕ) → IfSome told (λ bytes. read ≡ bytes) → RefusesTrace net o (Some read) → RefusesTrace net o told
 trace_refused net o (Some bytes) read is refused = subst (λ text. RefusesTrace net o (Some text)) is refused
 trace_refused net (Trace f) None read is refused = (refused.0, tt)
 trace_refused net (ReadFault true) None read is refused = tt
 trace_refused net Memory None read is refused = tt
-trace_refused net Done None read is refused = elim refused [ ]
-trace_refused net (Usage _) None read is refused = elim refused [ ]
-trace_refused net (Model _) None read is refused = elim refused [ ]
-trace_refused net (Past _) None read is refused = elim refused [ ]
-trace_refused net (Over _) None read is refused = elim refused [ ]
-trace_refused net (ReadFault false) None read is refused = elim refused [ ]
-trace_refused net WriteFault None read is refused = elim refused [ ]
+trace_refused net _ None read is refused = elim refused [ ]
 
 pub told_is : (told : Option (List ℕ)) (bytes : List ℕ) (P : List ℕ → Type 0) → told ≡ Some bytes → IfSome told P → P bytes
 told_is told bytes P is h = subst (λ o. IfSome o P) is h
@@ -87,10 +75,4 @@ refused_ends net None wanted o t refused = tt
 refused_ends net (Some trace) wanted (Trace f) t refused = subst (λ fault. Ends (trace_answer net trace wanted fault) (Trace f) t) (sym refused.1) refl
 refused_ends net (Some trace) wanted (ReadFault true) t refused = unread_ends net trace wanted (trace_fault net trace) t
 refused_ends net (Some trace) wanted Memory t refused = memory_ends net trace wanted (trace_fault net trace) t
-refused_ends net (Some trace) wanted Done t refused = elim refused [ ]
-refused_ends net (Some trace) wanted (Usage _) t refused = elim refused [ ]
-refused_ends net (Some trace) wanted (Model _) t refused = elim refused [ ]
-refused_ends net (Some trace) wanted (Past _) t refused = elim refused [ ]
-refused_ends net (Some trace) wanted (Over _) t refused = elim refused [ ]
-refused_ends net (Some trace) wanted (ReadFault false) t refused = elim refused [ ]
-refused_ends net (Some trace) wanted WriteFault t refused = elim refused [ ]
+refused_ends net (Some trace) wanted _ t refused = elim refused [ ]

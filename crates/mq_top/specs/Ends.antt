@@ -1,4 +1,4 @@
--- How a call may end, for each answer of the definitions.
+-- How a call may end, for each answer of the definitions. Where the last row of a table is ⊥, no outcome without a row above it can be.
 use Rattle.std.specs.Prelude.{◌≡◌, ◌≢◌, ◌⊎◌, ◌<◌, ◌+◌, ◌^◌, ℕ, true, false, List, Option, Some, IfSome}
 use Rattle.std.specs.Io.KnownBytes.{append_known}
 use Rattle.mq_outside.specs.Outside.{TakesPrefix, next_count}
@@ -25,46 +25,25 @@ pub record Taken : Type 0 where
 abbrev pub takings : {S : Type 0} (taken : S → Option (List ℕ)) (sure : S → ℕ) (before now : S) → Taken
 takings taken sure before now = record { before = taken before; now = taken now; sure_before = sure before; sure_now = sure now }
 
--- the call ends with the answer, or with a fault of a device or want of memory on the way to it; the output gained the
--- whole report after Done, and a first part of it after a fault of the output
+-- The call ends with the answer, or with a fault of a device or want of memory on the way to it; the output gained the
+-- whole report after Done, and a first part of it after a fault of the output. Nothing else can be: no Usage, no Model, Trace,
+-- Past or Over but the answer's, no Done or WriteFault where it has one of these, and no fault of the second read where it has Model.
 abbrev pub Ends : Answer → Outcome → Taken → Type 0
 Ends (ModelRefused f) (Model g) t = f ≡ g
 Ends (ModelRefused f) (ReadFault false) t = Unit {0}
 Ends (ModelRefused f) Memory t = Unit {0}
-Ends (ModelRefused f) Done t = ⊥
-Ends (ModelRefused f) (Usage g) t = ⊥
-Ends (ModelRefused f) (Trace g) t = ⊥
-Ends (ModelRefused f) (Past g) t = ⊥
-Ends (ModelRefused f) (Over g) t = ⊥
-Ends (ModelRefused f) (ReadFault true) t = ⊥
-Ends (ModelRefused f) WriteFault t = ⊥
 Ends (TraceRefused f) (Trace g) t = f ≡ g
 Ends (TraceRefused f) (ReadFault second) t = Unit {0}
 Ends (TraceRefused f) Memory t = Unit {0}
-Ends (TraceRefused f) Done t = ⊥
-Ends (TraceRefused f) (Usage g) t = ⊥
-Ends (TraceRefused f) (Model g) t = ⊥
-Ends (TraceRefused f) (Past g) t = ⊥
-Ends (TraceRefused f) (Over g) t = ⊥
-Ends (TraceRefused f) WriteFault t = ⊥
 Ends (Refused why) (Past f) t = why ≡ PastRefusal (record { node = f.node; position = f.position; time = f.time })
 Ends (Refused why) (Over f) t = why ≡ OverRefusal f.node f.count
 Ends (Refused why) (ReadFault second) t = Unit {0}
 Ends (Refused why) Memory t = Unit {0}
-Ends (Refused why) Done t = ⊥
-Ends (Refused why) (Usage g) t = ⊥
-Ends (Refused why) (Model g) t = ⊥
-Ends (Refused why) (Trace g) t = ⊥
-Ends (Refused why) WriteFault t = ⊥
 Ends (Reported text) Done t = t.now ≡ append_known t.before text
 Ends (Reported text) WriteFault t = TakesPrefix t.before t.now t.sure_before t.sure_now text
 Ends (Reported text) (ReadFault second) t = Unit {0}
 Ends (Reported text) Memory t = Unit {0}
-Ends (Reported text) (Usage g) t = ⊥
-Ends (Reported text) (Model g) t = ⊥
-Ends (Reported text) (Trace g) t = ⊥
-Ends (Reported text) (Past g) t = ⊥
-Ends (Reported text) (Over g) t = ⊥
+Ends _ _ _ = ⊥
 
 -- no read, one or two
 abbrev pub AtMostTwo : ℕ → ℕ → Type 0
@@ -83,17 +62,12 @@ Reads (Over f) before now = now ≡ next_count (next_count before)
 Reads (ReadFault true) before now = now ≡ next_count (next_count before)
 Reads WriteFault before now = now ≡ next_count (next_count before)
 
--- an outcome of a made input, which is never refused and reads no file
+-- an outcome of a made input, which is never refused and reads no file: no Usage, Model, Trace, Past, Over or ReadFault can be
 abbrev pub IsOfMade : Outcome → Type 0
 IsOfMade Done = Unit {0}
 IsOfMade WriteFault = Unit {0}
 IsOfMade Memory = Unit {0}
-IsOfMade (Usage f) = ⊥
-IsOfMade (Model f) = ⊥
-IsOfMade (Trace f) = ⊥
-IsOfMade (Past f) = ⊥
-IsOfMade (Over f) = ⊥
-IsOfMade (ReadFault second) = ⊥
+IsOfMade _ = ⊥
 
 -- The count of faults rose in this read of a call, from 1. It is stated where the number of reads is below 2 ^ 63 at entry.
 abbrev pub FailedAt : (nth reads reads' faults' : ℕ) → Type 0
@@ -111,45 +85,27 @@ Untouched (Over f) before now = now ≡ before
 Untouched (ReadFault second) before now = now ≡ before
 Untouched Memory before now = now ≡ before
 
--- how a command may end before the model is read; want of memory comes only where the words meet the rule
+-- how a command may end before the model is read: by nothing but Usage and Memory, and want of memory comes only where the words meet the rule
 abbrev pub RefusesCall : List (List ℕ) → Outcome → Type 0
 RefusesCall words (Usage f) = usage_fault words ≡ Some f
 RefusesCall words Memory = refuses_words words ≡ false
-RefusesCall words Done = ⊥
-RefusesCall words (Model f) = ⊥
-RefusesCall words (Trace f) = ⊥
-RefusesCall words (Past f) = ⊥
-RefusesCall words (Over f) = ⊥
-RefusesCall words (ReadFault second) = ⊥
-RefusesCall words WriteFault = ⊥
+RefusesCall _ _ = ⊥
 
--- how an accepted command may end before the trace is read, where this is told of the model
+-- how an accepted command may end before the trace is read, where this is told of the model: by nothing but Model, Memory and a fault of the first read
 abbrev pub RefusesModel : Outcome → Option (List ℕ) → Type 0
 RefusesModel (Model f) told = (f ≢ model.Memory) × IfSome told (λ bytes. model_fault bytes ≡ Some f)
 RefusesModel (ReadFault false) told = Unit {0}
 RefusesModel Memory told = Unit {0}
-RefusesModel Done told = ⊥
-RefusesModel (Usage f) told = ⊥
-RefusesModel (Trace f) told = ⊥
-RefusesModel (Past f) told = ⊥
-RefusesModel (Over f) told = ⊥
-RefusesModel (ReadFault true) told = ⊥
-RefusesModel WriteFault told = ⊥
+RefusesModel _ _ = ⊥
 
--- how it may end before the run, where this is told of the trace
+-- how it may end before the run, where this is told of the trace: by nothing but Trace, Memory and a fault of the second read
 abbrev pub RefusesTrace : Network → Outcome → Option (List ℕ) → Type 0
 RefusesTrace net (Trace f) told = (f ≢ trace.Memory) × IfSome told (λ bytes. trace_fault net bytes ≡ Some f)
 RefusesTrace net (ReadFault true) told = Unit {0}
 RefusesTrace net Memory told = Unit {0}
-RefusesTrace net Done told = ⊥
-RefusesTrace net (Usage f) told = ⊥
-RefusesTrace net (Model f) told = ⊥
-RefusesTrace net (Past f) told = ⊥
-RefusesTrace net (Over f) told = ⊥
-RefusesTrace net (ReadFault false) told = ⊥
-RefusesTrace net WriteFault told = ⊥
+RefusesTrace _ _ _ = ⊥
 
--- an outcome that comes once the model was accepted
+-- an outcome that comes once the model was accepted: no Usage, no Model and no fault of the first read can be
 abbrev pub IsLate : Outcome → Type 0
 IsLate Done = Unit {0}
 IsLate (Trace f) = f ≢ trace.Memory
@@ -158,6 +114,4 @@ IsLate (Over f) = Unit {0}
 IsLate (ReadFault true) = Unit {0}
 IsLate WriteFault = Unit {0}
 IsLate Memory = Unit {0}
-IsLate (Usage f) = ⊥
-IsLate (Model f) = ⊥
-IsLate (ReadFault false) = ⊥
+IsLate _ = ⊥
