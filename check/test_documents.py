@@ -23,7 +23,7 @@ NAMED = re.compile(r"((?:`[\w-]+`(?:,| and| of)\s+)*`[\w-]+`)\s+\(`(crates/[\w./
 DEFINES = {".antt": r" *(?:(?:(?:abbrev|unfoldable|pub|record|data) )+{0} [:({{]|{0} :)", ".rt": r" *(?:pub )?(?:ensures|enum|fn|struct|trait) {0}\b"}
 # The other blocks of code that have texts of the examples, or what a program writes: for each the command that shows it.
 SHOWN = {
-    ("README.md", "An example"): ["cat callcentre/model.txt", "cat callcentre/trace.csv", "cat callcentre/report.txt"],
+    ("README.md", "A sample"): ["cat callcentre/model.txt", "cat callcentre/trace.csv", "cat callcentre/report.txt"],
     ("docs/MODEL.md", "The model by example"): ["cat callcentre/model.txt"],
     ("docs/MODEL.md", "The trace"): ["cat callcentre/trace.csv"],
     ("docs/EDITS.md", "One caller comes later"): ["cat edits/late-caller/edits.txt"],
@@ -143,6 +143,8 @@ class Documents(Check):
         self.holds(f"{len(marked)} blocks are marked", len(marked) <= 3)
         commands = {block.heading for block in blocks("docs/MODEL.md") if is_command(block)}
         self.same("headings of docs/MODEL.md with commands", sorted(commands), RECIPES)
+        left = [it for it in SHOWN if it[1] not in headings(it[0])]
+        self.same("headings whose texts are shown, and that aren't there", left, [])
 
     def test_files_that_are_named(self):
         """Links of pages lead to files and headings, and files of the repository that they name are there."""
