@@ -2,7 +2,8 @@
 
 A block of code that begins with a command is run as a shell reads it, in a folder that is like the top one. The blocks behind it, up to the next command
 or heading, have lines of what it writes, on its output or into files. A line above a block that a check can't run says so (pages.py). The recipes of
-docs/MODEL.md have a check of their own, which takes every block below their headings.
+docs/MODEL.md have a check of their own, which takes every block below their headings. The names on docs/DEFINITIONS.md are defined in the files that stand
+behind them.
 """
 import os
 import re
@@ -16,9 +17,13 @@ PAGES = ["README.md", "CHANGELOG.md", "CONTRIBUTING.md", *(f"docs/{file.name}" f
 COMMANDS = ["awk", "cat", "cd", "cp", "diff", "for", "gzip", "install", "man", "python3", "rt", "sed", "sh", "tar"]
 # Headings of docs/MODEL.md whose commands test_recipes.py runs.
 RECIPES = ["A trace from a log", "Several servers at one queue"]
+# On docs/DEFINITIONS.md: one name or several, and behind them the file that defines them.
+NAMED = re.compile(r"((?:`[\w-]+`(?:,| and| of)\s+)*`[\w-]+`)\s+\(`(crates/[\w./-]+)`\)")
+# The begin of a line that defines a name: a definition, a record's field or a case in specs and proofs, and a clause or an item in code.
+DEFINES = {".antt": r" *(?:(?:(?:abbrev|unfoldable|pub|record|data) )+{0} [:({{]|{0} :)", ".rt": r" *(?:pub )?(?:ensures|enum|fn|struct|trait) {0}\b"}
 # The other blocks of code that have texts of the examples, or what a program writes: for each the command that shows it.
 SHOWN = {
-    ("README.md", "An example"): ["cat callcentre/model.txt", "cat callcentre/trace.csv", "cat callcentre/report.txt"],
+    ("README.md", "A sample"): ["cat callcentre/model.txt", "cat callcentre/trace.csv", "cat callcentre/report.txt"],
     ("docs/MODEL.md", "The model by example"): ["cat callcentre/model.txt"],
     ("docs/MODEL.md", "The trace"): ["cat callcentre/trace.csv"],
     ("docs/EDITS.md", "One caller comes later"): ["cat edits/late-caller/edits.txt"],
@@ -31,6 +36,18 @@ SHOWN = {
     ],
     ("docs/REPORT.md", "An edited trace"): ["echo add src 3 2 >edits.txt; ../mpedit desk/model.txt desk/trace.csv edits.txt"],
     ("docs/SWEEPS.md", "An example"): ["cat sweep/agents-12.txt"],
+    ("docs/DEFINITIONS.md", "Case: a server"): ["../mpsim desk/model.txt desk/trace.csv"],
+    ("docs/DEFINITIONS.md", "Case: a loss station"): [
+        "printf 'model 1\\nsource src\\nloss l 2 =3 from src\\n' >model.txt; "
+        "printf 'source,time\\nsrc,0\\nsrc,1\\nsrc,2\\nsrc,3\\n' >trace.csv; ../mpsim model.txt trace.csv"
+    ],
+    ("docs/DEFINITIONS.md", "Case: a trunk group"): ["cd cases/trunk; ../../../mpsim model.txt trace.csv"],
+    ("docs/DEFINITIONS.md", "Case: a tandem that blocks"): ["cd cases/tandem-keeps-a-finished-job; ../../../mpsim model.txt trace.csv"],
+    ("docs/DEFINITIONS.md", "Case: a fork and a join"): [
+        "cd cases/parts-put-together; ../../../mpsim model.txt trace.csv",
+        "cd cases/part-held; ../../../mpsim model.txt trace.csv",
+    ],
+    ("docs/DEFINITIONS.md", "Case: an edit"): ["echo add src 3 2 >edits.txt; ../mpedit desk/model.txt desk/trace.csv edits.txt"],
 }
 
 
@@ -126,6 +143,8 @@ class Documents(Check):
         self.holds(f"{len(marked)} blocks are marked", len(marked) <= 3)
         commands = {block.heading for block in blocks("docs/MODEL.md") if is_command(block)}
         self.same("headings of docs/MODEL.md with commands", sorted(commands), RECIPES)
+        left = [it for it in SHOWN if it[1] not in headings(it[0])]
+        self.same("headings whose texts are shown, and that aren't there", left, [])
 
     def test_files_that_are_named(self):
         """Links of pages lead to files and headings, and files of the repository that they name are there."""
@@ -140,6 +159,19 @@ class Documents(Check):
                     self.holds(f"{page}: {link}#{anchor} isn't there", anchor in names)
             for name in re.findall(r"`((?:\.ci|check|tools|bench|docs|examples|completions)/[\w./*-]+)[` ]", text):
                 self.holds(f"{page}: {name} isn't there", any(ROOT.glob(name)))
+
+    def test_names_of_definitions(self):
+        """Each name with a file on docs/DEFINITIONS.md is defined in that file, and no file stands there without a name."""
+        page = (ROOT / "docs" / "DEFINITIONS.md").read_text()
+        found = NAMED.findall(page)
+        self.same("files behind names", len(found), page.count("(`crates/"))
+        for name in re.findall(r"`(crates/[\w./-]+)`", page):
+            self.holds(f"{name} isn't there", (ROOT / name).exists())
+        for names, file in found:
+            path = ROOT / file
+            for name in re.findall(r"`([\w-]+)`", names):
+                line = DEFINES[path.suffix].format(re.escape(name))
+                self.holds(f"{file} doesn't define {name}", re.search(f"^{line}", path.read_text(), flags=re.MULTILINE))
 
 
 for page in PAGES:
