@@ -11,7 +11,7 @@ use Rattle.mq_sweep.specs.Sweep.{AreFiles, all_done, answer_unless, first_long, 
 use Rattle.mq_sweep.specs.Sweep.SweepAnswer.{Swept}
 use Rattle.mq_sweep.specs.Ends.{AreRead, AreShort, HasRead, IsLong, ReadsUpTo, Reads, RefusesRead, RefusesReading, SweepEnds}
 use Rattle.mq_sweep.specs.declared.outcome.SweepOutcome.{SweepOutcome}
-use Rattle.mq_sweep.specs.declared.outcome.SweepOutcome.TheVariants.{Done, Refused, Usage, TooLong, ReadFault, WriteFault, Memory}
+use Rattle.mq_sweep.specs.declared.outcome.SweepOutcome.TheVariants.{TooLong, ReadFault, Memory}
 use Rattle.mq_top.specs.Ends.{Taken}
 
 -- ---- the first file that is too long
@@ -122,10 +122,7 @@ refused_here words index told (TooLong w) less short r =
     subst (λ (n : ℕ). ReadsUpTo words n told × IsLong n (told_of_word told n)) (sym r.0) (reached words index told less short, long)
 refused_here words index told (ReadFault w) less short r = subst (λ (n : ℕ). ReadsUpTo words n told) (sym r) (reached words index told less short)
 refused_here words index told Memory less short r = tt
-refused_here words index told Done less short r = elim r [ ]
-refused_here words index told Refused less short r = elim r [ ]
-refused_here words index told Usage less short r = elim r [ ]
-refused_here words index told WriteFault less short r = elim r [ ]
+refused_here words index told _ less short r = elim r [ ]
 
 pub one_read : (index before between now : ℕ) → index < 65 → HasRead index before between → now ≡ next_count between → HasRead (index + 1) before now
 one_read index before between now small read e few = let h = read few in omega arith
@@ -135,10 +132,7 @@ pub reads_here : (words index before between now : ℕ) (told : Option (List ℕ
 reads_here words index before between now told (TooLong w) less small read e r = subst (λ (n : ℕ). HasRead n before now) (sym r.0) (one_read index before between now (omega arith) read e)
 reads_here words index before between now told (ReadFault w) less small read e r = subst (λ (n : ℕ). HasRead n before now) (sym r) (one_read index before between now (omega arith) read e)
 reads_here words index before between now told Memory less small read e r = (index + 1, omega arith, one_read index before between now (omega arith) read e)
-reads_here words index before between now told Done less small read e r = elim r [ ]
-reads_here words index before between now told Refused less small read e r = elim r [ ]
-reads_here words index before between now told Usage less small read e r = elim r [ ]
-reads_here words index before between now told WriteFault less small read e r = elim r [ ]
+reads_here words index before between now told _ less small read e r = elim r [ ]
 
 -- a word of which all are sure
 pub sure_at : (sure : List ℕ → Bool) (words : List (Bor (List ℕ))) (i : ℕ) (d : Bor (List ℕ)) → i < length words → list_all sure (texts words) ≡ true → sure (get_or words i d).now ≡ true
@@ -197,7 +191,4 @@ refused_ends words told files (ReadFault w) t are long r =
     let all : length files ≡ words = sym (told_long told files are) ∙ long in
     unread_at w files t (first_long 1 files) (λ found e. let h = behind 1 (w - 1) found files (within told files are (w - 1) (omega arith) r.short) e in omega arith)
 refused_ends words told files Memory t are long r = memory_at files t (first_long 1 files)
-refused_ends words told files Done t are long r = elim r [ ]
-refused_ends words told files Refused t are long r = elim r [ ]
-refused_ends words told files Usage t are long r = elim r [ ]
-refused_ends words told files WriteFault t are long r = elim r [ ]
+refused_ends words told files _ t are long r = elim r [ ]

@@ -7,7 +7,7 @@ use Rattle.mq_outside.specs.Memory.{SinkState}
 use Rattle.mq_outside.specs.Outside.{Rose}
 use Rattle.mq_outcome.specs.Status.{status_of}
 use Rattle.mq_outcome.specs.declared.outcome.Outcome.{Outcome}
-use Rattle.mq_outcome.specs.declared.outcome.Outcome.TheVariants.{Done, Usage, Model, Trace, Past, Over, ReadFault, WriteFault, Memory}
+use Rattle.mq_outcome.specs.declared.outcome.Outcome.TheVariants.{Done, Model, Trace, Past, Over, ReadFault, WriteFault, Memory}
 use Rattle.mq_top.specs.Answer.{Answer}
 use Rattle.mq_top.specs.Answer.Answer.{ModelRefused, TraceRefused, Refused, Reported}
 use Rattle.mq_top.specs.Ends.{Ends, Taken, Untouched}
@@ -15,33 +15,15 @@ use Rattle.mq_sweep.specs.Scenario.{line_of, outcome_of, outcome_of_refusal, out
 
 -- without a fault of a device and want of memory, the outcome is that of the answer
 pub ended : (a : Answer) (o : Outcome) (t : Taken) → Ends a o t → o ≢ Memory → o ≢ WriteFault → ((second : Bool) → o ≢ ReadFault second) → o ≡ outcome_of a
+ended (ModelRefused f) (Model g) t e m w u = ap Model (sym e)
+ended (TraceRefused f) (Trace g) t e m w u = ap Trace (sym e)
+ended (Refused why) (Past f) t e m w u = sym (ap outcome_of_refusal e)
+ended (Refused why) (Over f) t e m w u = sym (ap outcome_of_refusal e)
+ended (Reported text) Done t e m w u = refl
 ended a Memory t e m w u = absurd (m refl)
 ended a WriteFault t e m w u = absurd (w refl)
 ended a (ReadFault second) t e m w u = absurd (u second refl)
-ended (ModelRefused f) (Model g) t e m w u = ap Model (sym e)
-ended (ModelRefused f) Done t e m w u = elim e [ ]
-ended (ModelRefused f) (Usage _) t e m w u = elim e [ ]
-ended (ModelRefused f) (Trace _) t e m w u = elim e [ ]
-ended (ModelRefused f) (Past _) t e m w u = elim e [ ]
-ended (ModelRefused f) (Over _) t e m w u = elim e [ ]
-ended (TraceRefused f) (Trace g) t e m w u = ap Trace (sym e)
-ended (TraceRefused f) Done t e m w u = elim e [ ]
-ended (TraceRefused f) (Usage _) t e m w u = elim e [ ]
-ended (TraceRefused f) (Model _) t e m w u = elim e [ ]
-ended (TraceRefused f) (Past _) t e m w u = elim e [ ]
-ended (TraceRefused f) (Over _) t e m w u = elim e [ ]
-ended (Refused why) (Past f) t e m w u = sym (ap outcome_of_refusal e)
-ended (Refused why) (Over f) t e m w u = sym (ap outcome_of_refusal e)
-ended (Refused why) Done t e m w u = elim e [ ]
-ended (Refused why) (Usage _) t e m w u = elim e [ ]
-ended (Refused why) (Model _) t e m w u = elim e [ ]
-ended (Refused why) (Trace _) t e m w u = elim e [ ]
-ended (Reported text) Done t e m w u = refl
-ended (Reported text) (Usage _) t e m w u = elim e [ ]
-ended (Reported text) (Model _) t e m w u = elim e [ ]
-ended (Reported text) (Trace _) t e m w u = elim e [ ]
-ended (Reported text) (Past _) t e m w u = elim e [ ]
-ended (Reported text) (Over _) t e m w u = elim e [ ]
+ended _ _ t e m w u = elim e [ ]
 
 -- what an empty sink took then is what the answer writes on the output
 wrote : (a : Answer) (before now : SinkState) (t : Taken) → before.taken ≡ [] → t.before ≡ Some before.taken → t.now ≡ Some now.taken → Ends a (outcome_of a) t → Untouched (outcome_of a) before now → now.taken ≡ output_of a

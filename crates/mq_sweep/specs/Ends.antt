@@ -1,4 +1,4 @@
--- How a sweep may end, for each answer, and what it leaves.
+-- How a sweep may end, for each answer, and what it leaves. Where the last row of a table is ⊥, no outcome without a row above it can be.
 use Rattle.std.specs.Prelude.{◌≡◌, ◌≤◌, ◌<◌, ◌+◌, ◌-◌, ◌^◌, ℕ, true, false, List, [], ◌∷◌, ◌++◌, length, codes, decimal, Option, Some, None, IfSome, slice_index_or}
 use Rattle.std.specs.Io.KnownBytes.{append_known}
 use Rattle.mq_outside.specs.Outside.{TakesPrefix}
@@ -8,25 +8,20 @@ use Rattle.mq_sweep.specs.Sweep.SweepAnswer.{LongFile, Swept}
 use Rattle.mq_sweep.specs.declared.outcome.SweepOutcome.{SweepOutcome}
 use Rattle.mq_sweep.specs.declared.outcome.SweepOutcome.TheVariants.{Done, Refused, Usage, TooLong, ReadFault, WriteFault, Memory}
 
--- the sweep ends with the answer, or with a fault of a device or want of memory on the way to it; the output gained the
--- whole text after Done and Refused, and a first part of it after a fault of the output
+-- The sweep ends with the answer, or with a fault of a device or want of memory on the way to it; the output gained the
+-- whole text after Done and Refused, and a first part of it after a fault of the output. Nothing else can be: no Usage, no TooLong
+-- but the answer's, no Done, Refused or WriteFault where a file is too long, no Refused where each status is 0, and no Done where one isn't.
+-- The rows that don't look at `done` stand before those that do, so that they tell whatever it is.
 abbrev pub SweepEnds : SweepAnswer → SweepOutcome → Taken → Type 0
 SweepEnds (LongFile word) (TooLong found) t = found ≡ word
 SweepEnds (LongFile word) (ReadFault failed) t = failed ≤ word
 SweepEnds (LongFile word) Memory t = Unit {0}
-SweepEnds (LongFile word) Done t = ⊥
-SweepEnds (LongFile word) Refused t = ⊥
-SweepEnds (LongFile word) Usage t = ⊥
-SweepEnds (LongFile word) WriteFault t = ⊥
-SweepEnds (Swept text true) Done t = t.now ≡ append_known t.before text
-SweepEnds (Swept text true) Refused t = ⊥
-SweepEnds (Swept text false) Done t = ⊥
-SweepEnds (Swept text false) Refused t = t.now ≡ append_known t.before text
 SweepEnds (Swept text done) WriteFault t = TakesPrefix t.before t.now t.sure_before t.sure_now text
 SweepEnds (Swept text done) (ReadFault failed) t = Unit {0}
 SweepEnds (Swept text done) Memory t = Unit {0}
-SweepEnds (Swept text done) Usage t = ⊥
-SweepEnds (Swept text done) (TooLong found) t = ⊥
+SweepEnds (Swept text true) Done t = t.now ≡ append_known t.before text
+SweepEnds (Swept text false) Refused t = t.now ≡ append_known t.before text
+SweepEnds _ _ _ = ⊥
 
 -- after every outcome but Done, Refused and WriteFault nothing changed
 abbrev pub Untouched : {A : Type 0} → SweepOutcome → A → A → Type 0
@@ -64,15 +59,12 @@ AreRead count told files = (i : ℕ) (bytes : List ℕ) → i < count → slice_
 abbrev pub IsLong : ℕ → Option (List ℕ) → Type 0
 IsLong word told = IfSome told (λ bytes. limit_of word < length bytes)
 
--- how the read of one word may be refused
+-- how the read of one word may be refused: by nothing but TooLong, ReadFault and Memory
 abbrev pub RefusesRead : ℕ → Option (List ℕ) → SweepOutcome → Type 0
 RefusesRead word told (TooLong found) = (found ≡ word) × IsLong word told
 RefusesRead word told (ReadFault failed) = failed ≡ word
 RefusesRead word told Memory = Unit {0}
-RefusesRead word told Done = ⊥
-RefusesRead word told Refused = ⊥
-RefusesRead word told Usage = ⊥
-RefusesRead word told WriteFault = ⊥
+RefusesRead _ _ _ = ⊥
 
 -- the reading came up to this word, of so many: the files of those before it aren't too long
 pub record ReadsUpTo (words word : ℕ) (told : List (Option (List ℕ))) : Type 0 where
@@ -80,25 +72,19 @@ pub record ReadsUpTo (words word : ℕ) (told : List (Option (List ℕ))) : Type
   pub most : word ≤ words
   pub short : AreShort (word - 1) told
 
--- how the reading of so many words may be refused
+-- how the reading of so many words may be refused: by nothing but TooLong, ReadFault and Memory
 abbrev pub RefusesReading : ℕ → List (Option (List ℕ)) → SweepOutcome → Type 0
 RefusesReading words told (TooLong word) = ReadsUpTo words word told × IsLong word (told_of_word told word)
 RefusesReading words told (ReadFault word) = ReadsUpTo words word told
 RefusesReading words told Memory = Unit {0}
-RefusesReading words told Done = ⊥
-RefusesReading words told Refused = ⊥
-RefusesReading words told Usage = ⊥
-RefusesReading words told WriteFault = ⊥
+RefusesReading _ _ _ = ⊥
 
--- the sweep ends by this word at the latest, before any run
+-- the sweep ends by this word at the latest, before any run: no Done, Refused, Usage or WriteFault can be
 abbrev pub StopsBy : ℕ → SweepOutcome → Type 0
 StopsBy word (TooLong found) = found ≤ word
 StopsBy word (ReadFault failed) = failed ≤ word
 StopsBy word Memory = Unit {0}
-StopsBy word Done = ⊥
-StopsBy word Refused = ⊥
-StopsBy word Usage = ⊥
-StopsBy word WriteFault = ⊥
+StopsBy _ _ = ⊥
 
 -- the status with which the program ends
 abbrev pub sweep_status : SweepOutcome → ℕ
@@ -120,12 +106,10 @@ sweep_line (ReadFault word) = codes "mpsweep: cannot read file " ++ decimal word
 sweep_line WriteFault = codes "mpsweep: cannot write the reports" ++ 10 ∷ []
 sweep_line Memory = codes "mpsweep: out of memory" ++ 10 ∷ []
 
--- an outcome that comes once all files were read
+-- an outcome that comes once all files were read: no Usage, TooLong or ReadFault can be
 abbrev pub IsOfRun : SweepOutcome → Type 0
 IsOfRun Done = Unit {0}
 IsOfRun Refused = Unit {0}
 IsOfRun WriteFault = Unit {0}
 IsOfRun Memory = Unit {0}
-IsOfRun Usage = ⊥
-IsOfRun (TooLong word) = ⊥
-IsOfRun (ReadFault word) = ⊥
+IsOfRun _ = ⊥
