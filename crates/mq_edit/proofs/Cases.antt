@@ -38,72 +38,40 @@ writes_nothing taken sure faults out o text un = record {
 
 pub trace_count : (o : EditOutcome) → IsBehindTrace o → IsReadCount o 3
 trace_count Done h = refl
-trace_count Usage h = elim h [ ]
-trace_count (Model f) h = elim h [ ]
-trace_count (Trace f) h = elim h [ ]
 trace_count (Edits f) h = refl
 trace_count (Over edited f) h = refl
 trace_count (Past edited f) h = refl
 trace_count (ReadFault file) h = (omega (arith, h), omega (arith, h))
 trace_count WriteFault h = refl
 trace_count Memory h = omega arith
+trace_count _ h = elim h [ ]
 
 pub model_refusal_unwritten : (told : Option (List ℕ)) (o : EditOutcome) → RefusesModel told o → IsUnwritten o
-model_refusal_unwritten told Done h = elim h [ ]
-model_refusal_unwritten told Usage h = elim h [ ]
 model_refusal_unwritten told (Model f) h = (λ e. cc, λ e. cc)
-model_refusal_unwritten told (Trace f) h = elim h [ ]
-model_refusal_unwritten told (Edits f) h = elim h [ ]
-model_refusal_unwritten told (Over edited f) h = elim h [ ]
-model_refusal_unwritten told (Past edited f) h = elim h [ ]
 model_refusal_unwritten told (ReadFault file) h = (λ e. cc, λ e. cc)
-model_refusal_unwritten told WriteFault h = elim h [ ]
 model_refusal_unwritten told Memory h = (λ e. cc, λ e. cc)
+model_refusal_unwritten told _ h = elim h [ ]
 
 pub model_refusal_count : (told : Option (List ℕ)) (o : EditOutcome) → RefusesModel told o → IsReadCount o 1
-model_refusal_count told Done h = elim h [ ]
-model_refusal_count told Usage h = elim h [ ]
 model_refusal_count told (Model f) h = refl
-model_refusal_count told (Trace f) h = elim h [ ]
-model_refusal_count told (Edits f) h = elim h [ ]
-model_refusal_count told (Over edited f) h = elim h [ ]
-model_refusal_count told (Past edited f) h = elim h [ ]
 model_refusal_count told (ReadFault file) h = (omega (arith, h), omega (arith, h))
-model_refusal_count told WriteFault h = elim h [ ]
 model_refusal_count told Memory h = omega arith
+model_refusal_count told _ h = elim h [ ]
 
 pub trace_refusal_unwritten : (net : Network) (told : Option (List ℕ)) (o : EditOutcome) → RefusesTrace net told o → IsUnwritten o
-trace_refusal_unwritten net told Done h = elim h [ ]
-trace_refusal_unwritten net told Usage h = elim h [ ]
-trace_refusal_unwritten net told (Model f) h = elim h [ ]
 trace_refusal_unwritten net told (Trace f) h = (λ e. cc, λ e. cc)
-trace_refusal_unwritten net told (Edits f) h = elim h [ ]
-trace_refusal_unwritten net told (Over edited f) h = elim h [ ]
-trace_refusal_unwritten net told (Past edited f) h = elim h [ ]
 trace_refusal_unwritten net told (ReadFault file) h = (λ e. cc, λ e. cc)
-trace_refusal_unwritten net told WriteFault h = elim h [ ]
 trace_refusal_unwritten net told Memory h = (λ e. cc, λ e. cc)
+trace_refusal_unwritten net told _ h = elim h [ ]
 
 pub trace_refusal_count : (net : Network) (told : Option (List ℕ)) (o : EditOutcome) → RefusesTrace net told o → IsReadCount o 2
-trace_refusal_count net told Done h = elim h [ ]
-trace_refusal_count net told Usage h = elim h [ ]
-trace_refusal_count net told (Model f) h = elim h [ ]
 trace_refusal_count net told (Trace f) h = refl
-trace_refusal_count net told (Edits f) h = elim h [ ]
-trace_refusal_count net told (Over edited f) h = elim h [ ]
-trace_refusal_count net told (Past edited f) h = elim h [ ]
 trace_refusal_count net told (ReadFault file) h = (omega (arith, h), omega (arith, h))
-trace_refusal_count net told WriteFault h = elim h [ ]
 trace_refusal_count net told Memory h = omega arith
+trace_refusal_count net told _ h = elim h [ ]
 
 pub edits_refusal_unwritten : (net : Network) (n : ℕ) (told : Option (List ℕ)) (o : EditOutcome) → RefusesEdits net n told o → IsUnwritten o
-edits_refusal_unwritten net n told Done h = elim h [ ]
-edits_refusal_unwritten net n told Usage h = elim h [ ]
-edits_refusal_unwritten net n told (Model f) h = elim h [ ]
-edits_refusal_unwritten net n told (Trace f) h = elim h [ ]
 edits_refusal_unwritten net n told (Edits f) h = (λ e. cc, λ e. cc)
-edits_refusal_unwritten net n told (Over edited f) h = elim h [ ]
-edits_refusal_unwritten net n told (Past edited f) h = elim h [ ]
 edits_refusal_unwritten net n told (ReadFault file) h = (λ e. cc, λ e. cc)
-edits_refusal_unwritten net n told WriteFault h = elim h [ ]
 edits_refusal_unwritten net n told Memory h = (λ e. cc, λ e. cc)
+edits_refusal_unwritten net n told _ h = elim h [ ]

@@ -27,7 +27,7 @@ use Rattle.mq_edit.specs.Ends.{Breaks, Ends, IsText, RefusesModel}
 use Rattle.mq_edit.specs.Words.{name_at, refuses_words}
 use Rattle.mq_edit.proofs.FileFacts.{if_told}
 use Rattle.mq_edit.specs.declared.outcome.EditOutcome.{EditOutcome}
-use Rattle.mq_edit.specs.declared.outcome.EditOutcome.TheVariants.{Done, Usage, Model, Trace, Edits, Over, Past, ReadFault, WriteFault, Memory}
+use Rattle.mq_edit.specs.declared.outcome.EditOutcome.TheVariants.{Done, Model, ReadFault, WriteFault, Memory}
 
 -- ---- the text of an answer
 
@@ -64,14 +64,7 @@ edits_breaks net rows bytes (Some f) o b = inr b
 breaks_more : (n m : ℕ) (o : EditOutcome) → n ≤ m → Breaks n o → Breaks m o
 breaks_more n m (ReadFault file) less b = omega (arith, less, b)
 breaks_more n m Memory less b = tt
-breaks_more n m Done less b = elim b [ ]
-breaks_more n m Usage less b = elim b [ ]
-breaks_more n m (Model f) less b = elim b [ ]
-breaks_more n m (Trace f) less b = elim b [ ]
-breaks_more n m (Edits f) less b = elim b [ ]
-breaks_more n m (Over edited f) less b = elim b [ ]
-breaks_more n m (Past edited f) less b = elim b [ ]
-breaks_more n m WriteFault less b = elim b [ ]
+breaks_more n m _ less b = elim b [ ]
 
 edits_told_breaks : (net : Network) (rows : Rows) (edits : Option (List ℕ)) (o : EditOutcome) → Breaks 3 o → IfSome (edits_told net rows edits) (λ answer. Ends answer o)
 edits_told_breaks net rows None o b = tt
@@ -136,13 +129,7 @@ model_refused None trace edits o r = tt
 model_refused (Some bytes) trace edits (Model f) r = let is = r.1 in rw is (inl refl)
 model_refused (Some bytes) trace edits (ReadFault file) r = model_breaks bytes trace edits (model_fault bytes) (ReadFault file) (omega (arith, r))
 model_refused (Some bytes) trace edits Memory r = model_breaks bytes trace edits (model_fault bytes) Memory tt
-model_refused (Some bytes) trace edits Done r = elim r [ ]
-model_refused (Some bytes) trace edits Usage r = elim r [ ]
-model_refused (Some bytes) trace edits (Trace f) r = elim r [ ]
-model_refused (Some bytes) trace edits (Edits f) r = elim r [ ]
-model_refused (Some bytes) trace edits (Over edited f) r = elim r [ ]
-model_refused (Some bytes) trace edits (Past edited f) r = elim r [ ]
-model_refused (Some bytes) trace edits WriteFault r = elim r [ ]
+model_refused (Some bytes) trace edits _ r = elim r [ ]
 
 -- ---- the names
 

@@ -1,4 +1,5 @@
--- How a call may end, for each answer of the definitions, and what the files and the output have then.
+-- How a call may end, for each answer of the definitions, and what the files and the output have then. Where the last row of a table
+-- is ⊥, no outcome without a row above it can be.
 use Rattle.std.specs.Prelude.{◌≡◌, ◌≢◌, ◌⊎◌, ◌+◌, ◌<◌, ◌≤◌, ℕ, Bool, true, false, List, length, Option, Some, IfSome, Result, Ok, Err}
 use Rattle.std.specs.Io.KnownBytes.{append_known}
 use Rattle.mq_core.specs.declared.model.Network.{Network}
@@ -58,18 +59,11 @@ abbrev pub stops_unread : {A : Type 0} → Result A EditOutcome → Bool
 stops_unread (Ok x) = false
 stops_unread (Err outcome) = is_unread outcome
 
--- a read of one of so many files failed, or memory ran out
+-- a read of one of so many files failed, or memory ran out; nothing else can be
 abbrev pub Breaks : ℕ → EditOutcome → Type 0
 Breaks files (ReadFault file) = file < files
 Breaks files Memory = Unit {0}
-Breaks files Done = ⊥
-Breaks files Usage = ⊥
-Breaks files (Model f) = ⊥
-Breaks files (Trace f) = ⊥
-Breaks files (Edits f) = ⊥
-Breaks files (Over edited f) = ⊥
-Breaks files (Past edited f) = ⊥
-Breaks files WriteFault = ⊥
+Breaks _ _ = ⊥
 
 -- the call ends with the answer, or with a fault of a device or want of memory on the way to it
 abbrev pub Ends : Answer → EditOutcome → Type 0
@@ -105,59 +99,37 @@ abbrev pub IsText : List ℕ → Answer → Type 0
 IsText text (Refused refusal) = Unit {0}
 IsText text (Reported report) = text ≡ report
 
--- how the call may end at the model, where this is told of it
+-- how the call may end at the model, where this is told of it: by nothing but Model, Memory and a fault of its read
 abbrev pub RefusesModel : Option (List ℕ) → EditOutcome → Type 0
 RefusesModel told (Model f) = (f ≢ model.Memory) × IfSome told (λ bytes. model_fault bytes ≡ Some f)
 RefusesModel told (ReadFault file) = file ≡ 0
 RefusesModel told Memory = Unit {0}
-RefusesModel told Done = ⊥
-RefusesModel told Usage = ⊥
-RefusesModel told (Trace f) = ⊥
-RefusesModel told (Edits f) = ⊥
-RefusesModel told (Over edited f) = ⊥
-RefusesModel told (Past edited f) = ⊥
-RefusesModel told WriteFault = ⊥
+RefusesModel _ _ = ⊥
 
--- at the trace
+-- at the trace: by nothing but Trace, Memory and a fault of its read
 abbrev pub RefusesTrace : Network → Option (List ℕ) → EditOutcome → Type 0
 RefusesTrace net told (Trace f) = (f ≢ trace.Memory) × IfSome told (λ bytes. trace_fault net bytes ≡ Some f)
 RefusesTrace net told (ReadFault file) = file ≡ 1
 RefusesTrace net told Memory = Unit {0}
-RefusesTrace net told Done = ⊥
-RefusesTrace net told Usage = ⊥
-RefusesTrace net told (Model f) = ⊥
-RefusesTrace net told (Edits f) = ⊥
-RefusesTrace net told (Over edited f) = ⊥
-RefusesTrace net told (Past edited f) = ⊥
-RefusesTrace net told WriteFault = ⊥
+RefusesTrace _ _ _ = ⊥
 
--- at the edits of so many rows
+-- at the edits of so many rows: by nothing but Edits, Memory and a fault of their read
 abbrev pub RefusesEdits : Network → ℕ → Option (List ℕ) → EditOutcome → Type 0
 RefusesEdits net rows told (Edits f) = (f ≢ edits.Memory) × IfSome told (λ bytes. edits_fault net rows bytes ≡ Some f)
 RefusesEdits net rows told (ReadFault file) = file ≡ 2
 RefusesEdits net rows told Memory = Unit {0}
-RefusesEdits net rows told Done = ⊥
-RefusesEdits net rows told Usage = ⊥
-RefusesEdits net rows told (Model f) = ⊥
-RefusesEdits net rows told (Trace f) = ⊥
-RefusesEdits net rows told (Over edited f) = ⊥
-RefusesEdits net rows told (Past edited f) = ⊥
-RefusesEdits net rows told WriteFault = ⊥
+RefusesEdits _ _ _ _ = ⊥
 
--- an outcome that comes once all files were accepted
+-- an outcome that comes once all files were accepted: no Usage, Model, Trace, Edits or ReadFault can be
 abbrev pub IsOfRun : EditOutcome → Type 0
 IsOfRun Done = Unit {0}
 IsOfRun (Over edited f) = Unit {0}
 IsOfRun (Past edited f) = Unit {0}
 IsOfRun WriteFault = Unit {0}
 IsOfRun Memory = Unit {0}
-IsOfRun Usage = ⊥
-IsOfRun (Model f) = ⊥
-IsOfRun (Trace f) = ⊥
-IsOfRun (Edits f) = ⊥
-IsOfRun (ReadFault file) = ⊥
+IsOfRun _ = ⊥
 
--- an outcome that comes once the trace was accepted
+-- an outcome that comes once the trace was accepted: no Usage, Model or Trace can be
 abbrev pub IsBehindTrace : EditOutcome → Type 0
 IsBehindTrace (Edits f) = f ≢ edits.Memory
 IsBehindTrace (ReadFault file) = file ≡ 2
@@ -166,11 +138,9 @@ IsBehindTrace (Over edited f) = Unit {0}
 IsBehindTrace (Past edited f) = Unit {0}
 IsBehindTrace WriteFault = Unit {0}
 IsBehindTrace Memory = Unit {0}
-IsBehindTrace Usage = ⊥
-IsBehindTrace (Model f) = ⊥
-IsBehindTrace (Trace f) = ⊥
+IsBehindTrace _ = ⊥
 
--- an outcome that comes once the model was accepted
+-- an outcome that comes once the model was accepted: no Usage or Model can be
 abbrev pub IsBehindModel : EditOutcome → Type 0
 IsBehindModel (Trace f) = f ≢ trace.Memory
 IsBehindModel (Edits f) = f ≢ edits.Memory
@@ -180,5 +150,4 @@ IsBehindModel (Over edited f) = Unit {0}
 IsBehindModel (Past edited f) = Unit {0}
 IsBehindModel WriteFault = Unit {0}
 IsBehindModel Memory = Unit {0}
-IsBehindModel Usage = ⊥
-IsBehindModel (Model f) = ⊥
+IsBehindModel _ = ⊥
