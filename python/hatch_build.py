@@ -18,4 +18,5 @@ class ProgramsHook(BuildHookInterface):
             if not os.access(file, os.X_OK):
                 raise SystemExit(f"there is no program {file}: build it, or name a folder by MPSIM_PROGRAMS")
             build_data["force_include"][os.path.realpath(file)] = f"mpsim/bin/{name}"
+        build_data["force_include"][os.path.join(self.root, "..", "VERSION")] = "mpsim/VERSION"
         build_data["tag"], build_data["pure_python"] = TAG, False

@@ -37,6 +37,7 @@ def build(folder):
     """Builds the wheel of a copy of the package in this folder."""
     copy = pathlib.Path(folder, "python")
     shutil.copytree(PYTHON, copy, ignore=shutil.ignore_patterns("__pycache__", "dist"))
+    shutil.copy(ROOT / "VERSION", folder)
     words = [builder(), "-m", "hatchling", "build", "-t", "wheel", "-d", "../dist"]
     subprocess.run(words, cwd=copy, check=True, stdout=subprocess.DEVNULL, stderr=subprocess.DEVNULL)
     return next(pathlib.Path(folder, "dist").iterdir())
@@ -95,9 +96,10 @@ class Hook(Test):
                     place.mkdir(parents=True, exist_ok=True)
                     shutil.copy(programs.find(name), place / name)
             tag = {"tag": "py3-none-manylinux_2_34_x86_64", "pure_python": False}
-            want = {f"{folder}/named/{name}": f"mpsim/bin/{name}" for name in NAMES}
+            version = {f"{clone}/python/../VERSION": "mpsim/VERSION"}
+            want = {**{f"{folder}/named/{name}": f"mpsim/bin/{name}" for name in NAMES}, **version}
             self.assertEqual(self.hooked(clone / "python", f"{folder}/named"), {"force_include": want, **tag})
-            want = {f"{clone}/crates/{name}/out/{name}": f"mpsim/bin/{name}" for name in NAMES}
+            want = {**{f"{clone}/crates/{name}/out/{name}": f"mpsim/bin/{name}" for name in NAMES}, **version}
             self.assertEqual(self.hooked(clone / "python"), {"force_include": want, **tag})
             (clone / "crates" / "mpedit" / "out" / "mpedit").chmod(0o644)
             with self.assertRaisesRegex(SystemExit, "there is no program .*/mpedit: build it, or name a folder by MPSIM_PROGRAMS"):
@@ -128,7 +130,7 @@ class Project(Test):
         self.assertEqual(found["version"], importlib.import_module("mpsim").__version__)
         found = [it for it in (SOURCES / "mpsim").rglob("*") if it.is_file() and it.suffix != ".pyc" and it.parent.name != "bin"]
         data = sorted(it.name for it in found if it.suffix != ".py")
-        named = ["VERSION", "compared.html", "figures.js", "network.html", "page.css", "page.html", "page.js", "pictures.js", "piece.css"]
+        named = ["compared.html", "figures.js", "network.html", "page.css", "page.html", "page.js", "pictures.js", "piece.css"]
         self.assertEqual(data, named)
         if not (ROOT / ".git").exists() or not shutil.which("git"):
             self.skipTest("it is no clone of git, or git isn't there")
@@ -141,6 +143,7 @@ class Layout(Test):
         """As a wheel lays them out: the package finds its own programs, and no others."""
         with tempfile.TemporaryDirectory() as folder:
             shutil.copytree(SOURCES / "mpsim", os.path.join(folder, "mpsim"))
+            shutil.copy(ROOT / "VERSION", os.path.join(folder, "mpsim"))
             os.mkdir(os.path.join(folder, "mpsim", "bin"))
             for name in NAMES:
                 shutil.copy(programs.find(name), os.path.join(folder, "mpsim", "bin"))
@@ -169,7 +172,7 @@ class Wheel(Test):
             names = sorted(it for it in archive.namelist() if it.startswith("mpsim/bin/"))
             self.assertEqual(names, [f"mpsim/bin/{name}" for name in NAMES])
             sources = {f"mpsim/{it.relative_to(SOURCES / 'mpsim')}" for it in (SOURCES / "mpsim").rglob("*") if it.is_file() and it.suffix != ".pyc"}
-            self.assertEqual({it for it in archive.namelist() if it.startswith("mpsim/")}, sources | set(names))
+            self.assertEqual({it for it in archive.namelist() if it.startswith("mpsim/")}, sources | {"mpsim/VERSION", *names})
             for name, path in zip(NAMES, names):
                 self.assertEqual(archive.getinfo(path).external_attr >> 16 & 0o777, 0o755)
                 self.assertEqual(archive.read(path), pathlib.Path(programs.find(name)).read_bytes())
