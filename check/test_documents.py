@@ -173,6 +173,17 @@ class Documents(Check):
                 line = DEFINES[path.suffix].format(re.escape(name))
                 self.holds(f"{file} doesn't define {name}", re.search(f"^{line}", path.read_text(), flags=re.MULTILINE))
 
+    def test_no_file_is_a_link(self):
+        """No symbolic link stands in the repository: the toolchain refuses a tree with one. Where git isn't there, all is looked at but what is made."""
+        listed = ["git", "ls-files", "-z", "--cached", "--others", "--exclude-standard"]
+        ran = run(*listed) if (ROOT / ".git").exists() and shutil.which("git") else None
+        if ran and ran.status == 0:
+            found = [ROOT / os.fsdecode(it) for it in ran.out.split(b"\0") if it]
+        else:
+            found = [it for it in ROOT.rglob("*") if not {".git", "out", "out-incr", "__pycache__", "dist"} & {*it.relative_to(ROOT).parts}]
+        self.holds(f"only {len(found)} files were looked at", len(found) > 1000)
+        self.same("symbolic links", [str(it.relative_to(ROOT)) for it in found if it.is_symlink()], [])
+
 
 for page in PAGES:
     for heading, found in headings(page).items():
