@@ -26,32 +26,28 @@ def debian():
 
 class Release(Check):
     def clone(self, name, mask):
-        """A folder with what a release is made of, and the programs, written under a mask of modes; its times are its own."""
-        before = os.umask(mask)
-        try:
-            top = self.folder / name
-            (top / "programs").mkdir(parents=True)
-            for source in SOURCES:
-                ignore = shutil.ignore_patterns("__pycache__", "cases", "dist")
-                if (ROOT / source).is_dir():
-                    shutil.copytree(ROOT / source, top / source, symlinks=True, ignore=ignore, copy_function=shutil.copy)
-                else:
-                    shutil.copy(ROOT / source, top / source)
-            for program in SCRIPTS:
-                shutil.copy(executable(program), top / "programs")
-        finally:
-            os.umask(before)
+        """A folder with what a release is made of, and the programs, with modes as under this mask; its times are its own."""
+        top = self.folder / name
+        (top / "programs").mkdir(parents=True)
+        for source in SOURCES:
+            ignore = shutil.ignore_patterns("__pycache__", "cases", "dist")
+            if (ROOT / source).is_dir():
+                shutil.copytree(ROOT / source, top / source, ignore=ignore, copy_function=shutil.copy)
+            else:
+                shutil.copy(ROOT / source, top / source)
+        for program in SCRIPTS:
+            shutil.copy(executable(program), top / "programs")
+        for it in top.rglob("*"):
+            it.chmod(it.stat().st_mode & ~mask)
         return top
 
-    def made(self, name="one", mask=0o022, zone="UTC"):
+    def made(self, name="one", mask=0o022, **settings):
         """The folder of a release that is made in a clone of its own."""
         top = self.clone(name, mask)
-        settings = {"MPSIM_PROGRAMS": str(top / "programs"), "TZ": zone}
-        before = os.umask(mask)
-        try:
-            ran = run(top / "tools" / "release", top / "to", folder=self.folder, settings=settings)
-        finally:
-            os.umask(before)
+        settings = {"MPSIM_PROGRAMS": str(top / "programs"), "TZ": "UTC", **settings}
+        # The mask is that of a process of its own, since the tests run side by side in one.
+        words = ["sh", "-c", 'umask "$1"; exec "$2" "$3"', "sh", f"{mask:03o}", top / "tools" / "release", top / "to"]
+        ran = run(*words, folder=self.folder, settings=settings)
         files = ran.out.decode().splitlines()
         missing = [] if any(it.endswith(".whl") for it in files) else ["release: the wheel is left out: hatchling isn't there"]
         missing = ["release: the Debian package is left out: dpkg-deb isn't there"] * (not debian()) + missing
@@ -66,14 +62,15 @@ class Release(Check):
         return self.folder / "else where" / TREE
 
     def test_the_same_bytes_from_two_folders(self):
-        """Other times, another mask of modes and another zone change nothing."""
-        one, two = self.made(), self.made("another one", 0o077, "Asia/Tokyo")
+        """Other times, another mask of modes, another zone and encoding change nothing."""
+        one, two = self.made(), self.made("another one", 0o077, TZ="Asia/Tokyo", LC_ALL="C", PYTHONUTF8="0", PYTHONCOERCECLOCALE="0")
         names = sorted(it.name for it in one.iterdir())
         self.same("files", sorted(it.name for it in two.iterdir()), names)
         for name in names:
             self.same(name, hashlib.sha256((two / name).read_bytes()).hexdigest(), hashlib.sha256((one / name).read_bytes()).hexdigest())
-            self.same(f"the mode of {name}", (one / name).stat().st_mode & 0o777, 0o644)
-        self.holds("the archive has a sum", ARCHIVE in (one / "SHA256SUMS").read_text())
+            self.same(f"the modes of {name}", [oct((it / name).stat().st_mode & 0o777) for it in (one, two)], ["0o644"] * 2)
+        summed = [line.split()[1] for line in (one / "SHA256SUMS").read_text().splitlines()]
+        self.same("files with a sum", sorted([*summed, "SHA256SUMS"]), names)
         self.did(run("sha256sum", "--quiet", "-c", "SHA256SUMS", folder=one))
         with tarfile.open(one / ARCHIVE) as archive:
             self.same("owners", {(it.uid, it.gid, it.uname) for it in archive}, {(0, 0, "root")})
