@@ -4,6 +4,7 @@ from bisect import bisect_left, bisect_right
 from fractions import Fraction
 
 from ..node_visits import percentile_of
+from ..planner.pooled import visits_at
 
 # How many numbers all pictures of a page have together, some five a piece of the time and two a wait; and what one picture has of these, at least
 # and at most.
@@ -55,12 +56,12 @@ def distribution(visits, most):
     return {"came": len(visits), "wait": kept, "count": [bisect_right(waits, it) for it in kept]}
 
 
-def pictures_of(report, numbers, tick=None):
-    """The pictures of the nodes of a report at which somebody can wait and somebody came, by name; of about so many numbers together. `tick` is how
-    many seconds a tick has, where that is known."""
+def pictures_of(report, nodes, numbers, tick=None):
+    """The pictures of those of some nodes (list of Node) of a report at which somebody can wait and somebody came, by name; of about so many numbers
+    together. `tick` is how many seconds a tick has, where that is known."""
     if report.visits is None:
         return {}
-    drawn = [it for it in report.visits.values() if len(it) and report[it.node].kind not in WITHOUT_WAITS]
+    drawn = [it for it in visits_at(report, [it.name for it in nodes if it.kind not in WITHOUT_WAITS]) if len(it)]
     each = numbers // max(len(drawn), 1)
     pieces, waits = (min(max(each // share, LEAST), most) for share, most in ((8, PIECES), (6, WAITS)))
     found = {}
