@@ -74,6 +74,9 @@ class Looked:
         self.shows(self.text, "expert")
         self.looker.pick("#node", self.texts("#node option").index("wrap"))
         self.shows(self.text, "wrap")
+        self.assertEqual(self.texts("#pictures p"), ["This node has no waits of its own."])
+        self.assertEqual(self.attributes("#pictures svg", "data-picture"), ["number"])
+        self.looker.pick("#node", self.texts("#node option").index("menu"))
         self.assertEqual(self.texts("#pictures p"), ["Nobody can wait at this node, or nobody came."])
 
     def test_node_to_begin_with(self):
@@ -133,6 +136,31 @@ class Looked:
                 want += f"; half waited for {half:,} or less, 9 of 10 for {most:,}, the longest for {waits[-1]:,}"
             self.assertEqual(self.texts("[data-told=time]"), [want])
             self.looker.press("[data-picture=time]", "ArrowRight")
+
+    def test_number_over_time(self):
+        """Piece by piece, from the lines of the jobs, at a node that loses some, and at a delay."""
+        self.looker.show(page([self.report]))
+        span = int(re.search(r" span (\d+)", self.text)[1])
+        for name in "expert", "wrap":
+            self.looker.click("g.node", self.nodes()[name])
+            captions = self.texts("figcaption")
+            width = int(re.search(r"piece of ([\d,]+) ticks", captions[1 if name == "expert" else 0])[1].replace(",", ""))
+            mine = [it for it in map(str.split, self.text.splitlines()) if it[0] == "job" and it[2] == name and it[5] == "wait"]
+            stays = [(int(it[4]), int(it[8])) for it in mine]
+            steps = {}
+            for begin, end in stays:
+                steps[begin], steps[end] = steps.get(begin, 0) + 1, steps.get(end, 0) - 1
+            there, number = [], 0
+            for tick in range(span):
+                number += steps.get(tick, 0)
+                there.append(number)
+            self.looker.press("[data-picture=number]", "Home")
+            for at in range(0, span, width):
+                mine = there[at : at + width]
+                mean = f"{round(sum(mine) / len(mine), 3):.3f}".rstrip("0").rstrip(".")
+                want = f"{at:,} to {at + len(mine):,}: {mean} in the node on average, {max(mine)} at most"
+                self.assertEqual(self.texts("[data-told=number]"), [want])
+                self.looker.press("[data-picture=number]", "ArrowRight")
 
     def test_tables_sort(self):
         self.looker.show(page([self.report]))

@@ -137,8 +137,15 @@ class Whole(WithPool):
             page = self.folder / "page.html"
             planner("page", jobs, "--model", model, "--out", page)
             found = self.data_of(page)["runs"][0]["pictures"]
-            self.assertEqual(list(found), ["desk", "wrap"] if by == "trunk" else ["desk_1", "desk_2", "desk", "wrap"])
-            calls = [int(it.split(",")[1]) for it in text_of(self.folder / "net.csv").splitlines()[1:]]
+            self.assertEqual(list(found), [*(["desk_queue"] if by == "trunk" else ["desk_1", "desk_2"]), "desk", "wrap"])
+            self.assertEqual([it for it in found if "waits" in found[it]], list(found)[by == "trunk" :])
+            calls, talks = zip(*[map(int, it.split(",")[1:3]) for it in text_of(self.folder / "net.csv").splitlines()[1:]])
+            # From coming to the queue to the end of the service.
+            told, span = found["desk"]["number"], next(int(it[3]) for it in words_of(text_of(jobs), "jobs"))
+            stays = [(time, time + wait + talk) for time, wait, talk in zip(calls, waits, talks)]
+            there = [sum(begin <= tick < end for begin, end in stays) for tick in range(span)]
+            pieces = [there[at : at + told["width"]] for at in range(0, span, told["width"])]
+            self.assertEqual((told["mean"], told["max"]), ([round(sum(it) / len(it), 3) for it in pieces], list(map(max, pieces))))
             told = found["desk"]["time"]
             for at, came in enumerate(told["came"]):
                 mine = sorted(wait for time, wait in zip(calls, waits) if time // told["width"] == at)

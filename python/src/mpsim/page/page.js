@@ -25,8 +25,9 @@ function showPictures() {
     by('pictures').replaceChildren(html('p', {}, why));
     return;
   }
-  const figures = [overTime(mine.time, span, data)];
-  if (mine.waits.wait.length) figures.push(byWait(mine.waits, figureOf(state.run, state.node)));
+  const figures = [mine.time ? overTime(mine.time, span, data) : html('p', {}, 'This node has no waits of its own.')];
+  if (mine.number) figures.push(numberOverTime(mine.number, span, data));
+  if (mine.waits && mine.waits.wait.length) figures.push(byWait(mine.waits, figureOf(state.run, state.node)));
   by('pictures').replaceChildren(...figures);
 }
 
