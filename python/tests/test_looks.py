@@ -14,8 +14,6 @@ from test_page import MODEL, figures_of, many, number
 
 import mpsim
 from mpsim.page import page
-from mpsim.planner.pool import Queue
-from mpsim.planner.traces import Trace
 
 CALLS = text_of(MODEL).replace("bound 1000\n", "")
 
@@ -33,8 +31,8 @@ def places(number):
     return CALLS.replace("loss expert 2", f"loss expert {number}")
 
 
-class Looked:
-    """The tests; `make` makes who looks."""
+class Looking:
+    """What the tests stand on; `make` makes who looks."""
 
     @classmethod
     def setUpClass(cls):
@@ -63,6 +61,8 @@ class Looked:
         cards = dict(zip(self.attributes(".card", "data-figure"), values))
         self.assertEqual(cards, {word: (value, value) for word, value in figures_of(text)[name].items()}, name)
 
+
+class Looked(Looking):
     def test_each_node_is_clicked(self):
         self.looker.show(page([self.report]))
         for name, at in self.nodes().items():
@@ -136,31 +136,6 @@ class Looked:
                 want += f"; half waited for {half:,} or less, 9 of 10 for {most:,}, the longest for {waits[-1]:,}"
             self.assertEqual(self.texts("[data-told=time]"), [want])
             self.looker.press("[data-picture=time]", "ArrowRight")
-
-    def test_number_over_time(self):
-        """Piece by piece, from the lines of the jobs, at a node that loses some, and at a delay."""
-        self.looker.show(page([self.report]))
-        span = int(re.search(r" span (\d+)", self.text)[1])
-        for name in "expert", "wrap":
-            self.looker.click("g.node", self.nodes()[name])
-            captions = self.texts("figcaption")
-            width = int(re.search(r"piece of ([\d,]+) ticks", captions[1 if name == "expert" else 0])[1].replace(",", ""))
-            mine = [it for it in map(str.split, self.text.splitlines()) if it[0] == "job" and it[2] == name and it[5] == "wait"]
-            stays = [(int(it[4]), int(it[8])) for it in mine]
-            steps = {}
-            for begin, end in stays:
-                steps[begin], steps[end] = steps.get(begin, 0) + 1, steps.get(end, 0) - 1
-            there, number = [], 0
-            for tick in range(span):
-                number += steps.get(tick, 0)
-                there.append(number)
-            self.looker.press("[data-picture=number]", "Home")
-            for at in range(0, span, width):
-                mine = there[at : at + width]
-                mean = f"{round(sum(mine) / len(mine), 3):.3f}".rstrip("0").rstrip(".")
-                want = f"{at:,} to {at + len(mine):,}: {mean} in the node on average, {max(mine)} at most"
-                self.assertEqual(self.texts("[data-told=number]"), [want])
-                self.looker.press("[data-picture=number]", "ArrowRight")
 
     def test_tables_sort(self):
         self.looker.show(page([self.report]))
@@ -310,36 +285,6 @@ class Looked:
         self.looker.show(page([mpsim.run(CALLS, day())]))
         self.assertIn("This report has no lines of jobs", self.texts("#pictures p")[0])
         self.shows(self.text, self.attributes("g.node.marked", "data-node")[0])
-
-    def test_a_pool(self):
-        """Its box, its cards and its pictures are of the waits in its queue; without the lines of jobs its box has the mean wait, in each run."""
-        rows = [["calls", time, talk] for time, talk in (((at * 37) % 500, 3 + (at * at) % 17) for at in range(120))]
-        trace = Trace("t.csv", ["source", "time", "talk"], [list(map(str, it)) for it in rows])
-        model, trace = Queue("model 1\nsource calls\nserver desk talk from calls\n", trace, "desk").with_pool(3)
-        whole, short = (mpsim.run(model, trace.lines(), jobs=it) for it in (True, False))
-        lines = [it.split() for it in "".join(whole.lines()).splitlines() if it.split()[2:3] == ["desk_queue"] and it.startswith("job ")]
-        waits = sorted(int(it[8]) - int(it[4]) for it in lines)
-        # Of 120 the 60th, the 108th and the 119th.
-        want = {"in": 120, "lost": 0, "mean wait": round(sum(waits) / 120, 3)}
-        want.update(zip(("p50", "p90", "p99", "max"), (waits[it] for it in (59, 107, 118, 119))))
-        self.assertTrue(0 < waits[59] < waits[107] < waits[119])
-        self.looker.show(page([whole, short], ["a", "b"]))
-        self.looker.click("g.node", self.nodes()["desk"])
-        cards = dict(zip(self.attributes(".card", "data-figure"), map(number, self.attributes(".card", "data-v"))))
-        self.assertEqual({name: cards[name] for name in want}, want)
-        self.looker.press("[data-picture=waits]", "End")
-        self.assertEqual(self.texts("[data-told=waits]"), [f"100.0 % waited for {waits[119]:,} or less"])
-        self.looker.type("#ticks", str(waits[59]))
-        self.assertEqual(self.texts("#of-all"), [f"{100 * sum(it <= waits[59] for it in waits) / 120:.1f} %"])
-        box = self.nodes()["desk"]
-        for run, text in (1, f"mean wait {want['mean wait']:,}"), (0, f"p90 {waits[107]:,}"):
-            self.looker.pick("#run", run)
-            self.assertEqual(self.texts("g.node .figures"), ["120 in", "120 in", text])
-            self.assertTrue(self.attributes("g.node", "aria-label")[box].endswith(text))
-        self.looker.pick("#run", 1)
-        self.assertIn("This report has no lines of jobs", self.texts("#pictures p")[0])
-        self.looker.click("g.node", self.nodes()["desk_queue"])
-        self.assertEqual(self.attributes(".card[data-figure=in]", "data-v"), ["120"])
 
     def test_a_run_without_the_node(self):
         """Of another network: what it hasn't is left open."""

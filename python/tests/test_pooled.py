@@ -190,7 +190,7 @@ class Whole(WithPool):
         jobs.write_text("".join(mpsim.run(pool, out, jobs=True).lines()))
         self.tells("page", jobs, "--model", pool, "--out", page, error="planner: desk is a pool: its waits are those of desk_1 to desk_2\n")
         data = self.data_of(page)
-        self.assertEqual(list(data["kinds"].items())[:3], [("phone", "source"), ("desk", "pool"), ("desk_queue", "split")])
+        self.assertEqual(list(data["runs"][0]["kinds"].items())[:3], [("phone", "source"), ("desk", "pool"), ("desk_queue", "split")])
         self.assertEqual(data["runs"][0]["pictures"]["desk"]["waits"]["wait"], sorted(set(waits)))
 
 

@@ -52,6 +52,7 @@ def _data(reports, lines, labels, columns, tick, start):
                 "label": label,
                 "facts": facts(report),
                 "span": report.span,
+                "kinds": {it.name: it.kind for it in mine},
                 "nodes": {it.name: _exact([column.of(report, it) for column in columns]) for it in mine},
                 "pictures": {
                     node: {picture: {name: _exact(it) for name, it in parts.items()} for picture, parts in both.items()}
@@ -63,7 +64,6 @@ def _data(reports, lines, labels, columns, tick, start):
         )
     return {
         "columns": [it.name for it in columns],
-        "kinds": {it.name: it.kind for it in lines[0]},
         "runs": runs,
         "node": _first_node(lines[0]),
         "tick": None if tick is None else float(tick),
