@@ -31,8 +31,8 @@ def places(number):
     return CALLS.replace("loss expert 2", f"loss expert {number}")
 
 
-class Looked:
-    """The tests; `make` makes who looks."""
+class Looking:
+    """What the tests stand on; `make` makes who looks."""
 
     @classmethod
     def setUpClass(cls):
@@ -61,6 +61,8 @@ class Looked:
         cards = dict(zip(self.attributes(".card", "data-figure"), values))
         self.assertEqual(cards, {word: (value, value) for word, value in figures_of(text)[name].items()}, name)
 
+
+class Looked(Looking):
     def test_each_node_is_clicked(self):
         self.looker.show(page([self.report]))
         for name, at in self.nodes().items():
@@ -72,6 +74,9 @@ class Looked:
         self.shows(self.text, "expert")
         self.looker.pick("#node", self.texts("#node option").index("wrap"))
         self.shows(self.text, "wrap")
+        self.assertEqual(self.texts("#pictures p"), ["This node has no waits of its own."])
+        self.assertEqual(self.attributes("#pictures svg", "data-picture"), ["number"])
+        self.looker.pick("#node", self.texts("#node option").index("menu"))
         self.assertEqual(self.texts("#pictures p"), ["Nobody can wait at this node, or nobody came."])
 
     def test_node_to_begin_with(self):

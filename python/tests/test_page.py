@@ -18,10 +18,10 @@ from looking import Tree, elements
 from looking import text_of as text_in
 
 import mpsim
-from mpsim.node_visits import LOST, NodeVisits, Visits
+from mpsim.node_visits import HELD, LOST, NodeVisits, Visits
 from mpsim.page import page, piece
 from mpsim.page.colours import COLOURS, DARK, LIGHT, style
-from mpsim.page.pictures import distribution, nice, over_time
+from mpsim.page.pictures import distribution, nice, number_over_time, over_time
 
 JOBS = EXAMPLES / "callcentre" / "jobs.txt"
 
@@ -71,7 +71,7 @@ def many(nodes, each, longest, seed=2):
         it.job.extend(range(1, each + 1))
         it.arrive.extend(at * longest // each for at in range(each))
         it.wait.extend([draw.randrange(longest) if draw.random() < 0.9 else LOST for _ in range(4096)] * (each // 4096))
-        it.depart.extend(it.arrive)
+        it.depart.extend(min(arrive + max(wait, 0), longest) for arrive, wait in zip(it.arrive, it.wait))
         kind = "source" if name == "s" else "server"
         lines.append(mpsim.Node(name, kind, each, each, 0, 0, longest, longest, longest, longest, longest, longest, longest, 9, 0.5))
     report = mpsim.Report(2, each, longest, lines, [mpsim.Exit(names[-1], 0, each, longest)], visits)
@@ -148,6 +148,49 @@ class Figures(Test):
                 self.assertEqual((came, told["lost"][at]), (len(mine), len(mine) - len(waits)))
                 self.assertEqual([told[it][at] for it in ("p50", "p90", "max")], want)
 
+    def test_number_in_a_node(self):
+        """Beside a count tick by tick, of visits that are lost, held, over in no time, and of those that meet at the borders of pieces."""
+        draw = random.Random(6)
+        for span, width, count in (100, 7, 60), (100, 10, 200), (60, 60, 9), (59, 60, 9), (40, 1, 50), (90, 30, 0):
+            visits = NodeVisits("n")
+            for arrive in sorted(draw.randrange(span + 1) // 2 * 2 for _ in range(count)):
+                wait = draw.choice([LOST, HELD, 0, 1, 2])
+                visits.arrive.append(arrive)
+                visits.wait.append(wait)
+                visits.depart.append(wait if wait < 0 else min(arrive + draw.choice([0, 1, 2, 5, 30]), span))
+            there = []
+            for tick in range(span):
+                stays = zip(visits.arrive, visits.wait, visits.depart)
+                there.append(sum(it != LOST and arrive <= tick and (it == HELD or tick < depart) for arrive, it, depart in stays))
+            pieces = [there[at : at + width] for at in range(0, span, width)]
+            want = {"width": width, "mean": [round(sum(it) / len(it), 3) for it in pieces], "max": [max(it) for it in pieces]}
+            self.assertEqual(number_over_time(visits, span, width), want)
+
+    def test_number_in_each_node_of_a_report(self):
+        """Over the run it is the area of its line, and where each visit takes its time the greatest is the peak."""
+        seen = set()
+        for path in (*EXAMPLES.glob("*/jobs.txt"), *CASES.glob("*/jobs.txt")):
+            text = text_of(path)
+            if not text.startswith("mpsim report "):
+                continue
+            span = int(re.search(r" span (\d+)\n", text)[1])
+            pictures = json.loads(page([mpsim.Report.read(path)]).split('id="data">')[1].split("</script>")[0])["runs"][0]["pictures"]
+            jobs = words_of(text, "job")
+            for node in nodes_of(text) if span else ():
+                mine = [it for it in jobs if it[2] == node["name"]]
+                is_drawn = bool(mine) and node["kind"] not in ("source", "split", "fork")
+                self.assertEqual("number" in pictures.get(node["name"], {}), is_drawn, (path, node["name"]))
+                self.assertEqual("time" in pictures.get(node["name"], {}), is_drawn and node["kind"] != "delay")
+                if is_drawn:
+                    told, seen = pictures[node["name"]]["number"], {*seen, node["kind"]}
+                    lengths = [min(told["width"], span - at) for at in range(0, span, told["width"])]
+                    self.assertEqual(len(told["mean"]), len(lengths))
+                    area = sum(mean * length for mean, length in zip(told["mean"], lengths))
+                    self.assertAlmostEqual(area, int(node["area"]), delta=0.0005 * span + 1e-6)
+                    if all(it[4] != it[-1] for it in mine):
+                        self.assertEqual(max(told["max"]), int(node["peak"]), (path, node["name"]))
+        self.assertGreaterEqual(seen, {"server", "delay", "loss", "tandem", "join"})
+
     def test_widths_that_people_like(self):
         self.assertEqual([nice(it) for it in (1, 3, 10, 11, 50, 51, 200001)], [1, 5, 10, 20, 50, 100, 500000])
         # Of seconds minutes, hours and days; the same of ticks of a tenth and of seven seconds, which need not fit.
@@ -182,8 +225,9 @@ class Text(Test):
 
     def test_it_asks_for_nothing(self):
         text = page([mpsim.Report.read(JOBS, MODEL)] * 2)
-        # The name of SVG alone looks like an address.
-        self.assertEqual(re.findall(r"\w+:?//[^\s']*", re.sub(r"^ *//.*$", "", text, flags=re.MULTILINE)), ["http://www.w3.org/2000/svg"])
+        # The name of SVG alone looks like an address, as the sum of the script may by chance.
+        plain = re.sub(r"^ *//.*$|sha256-[\w+/=]+", "", text, flags=re.MULTILINE)
+        self.assertEqual(re.findall(r"\w+:?//[^\s']*", plain), ["http://www.w3.org/2000/svg"])
         for word in "url(", "@import", "fetch(", "XMLHttpRequest", "WebSocket", "import(", "sendBeacon", "EventSource", "eval(":
             self.assertNotIn(word, text)
         for element in elements(Tree(text).root):

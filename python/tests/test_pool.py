@@ -190,7 +190,22 @@ class Pool(Test):
         self.assertRaisesRegex(ValueError, "no pool 'door'", pooled, report, "door")
 
 
-class Commands(InFolder):
+class WithPool(InFolder):
+    """A folder with a pool of two agents, as `planner pool` makes it."""
+
+    def made(self, by="trunk", agents=2):
+        """A model behind whose pool of two agents is a server, its trace, its report and the waits at the pool by the queue written by hand."""
+        model = self.file("net.txt", "model 1\nsource phone\nserver desk talk from phone\nserver wrap =1 from desk\n")
+        draw = random.Random(8)
+        rows = sorted((draw.randrange(320), draw.randrange(1, 12)) for _ in range(90))
+        trace = self.file("net.csv", "source,time,talk\n" + "".join(f"phone,{time},{talk}\n" for time, talk in rows))
+        out, pool, jobs = (self.folder / f"{by}{it}" for it in (".csv", ".txt", ".jobs"))
+        self.tells("pool", model, trace, "--node", "desk", "--agents", agents, "--by", by, "--out", out, "--out-model", pool)
+        jobs.write_text("".join(mpsim.run(pool, out, jobs=True).lines()))
+        return pool, out, jobs, by_hand(rows, agents)
+
+
+class Commands(WithPool):
     def setUp(self):
         super().setUp()
         self.model = self.file("m.txt", "model 1\nsource phone\nsource web\nserver desk talk from phone web\n")
@@ -254,17 +269,6 @@ class Commands(InFolder):
         report = EXAMPLES / "callcentre" / "report.txt"
         self.refuses(f"{report}: it has no lines of jobs: mpsim writes them with --jobs", "pool", "--report", report, "--node", "desk")
 
-    def made(self, by="trunk", agents=2):
-        """A model behind whose pool of two agents is a server, its trace, its report and the waits at the pool by the queue written by hand."""
-        model = self.file("net.txt", "model 1\nsource phone\nserver desk talk from phone\nserver wrap =1 from desk\n")
-        draw = random.Random(8)
-        rows = sorted((draw.randrange(400), draw.randrange(1, 12)) for _ in range(90))
-        trace = self.file("net.csv", "source,time,talk\n" + "".join(f"phone,{time},{talk}\n" for time, talk in rows))
-        out, pool, jobs = (self.folder / f"{by}{it}" for it in (".csv", ".txt", ".jobs"))
-        self.tells("pool", model, trace, "--node", "desk", "--agents", agents, "--by", by, "--out", out, "--out-model", pool)
-        jobs.write_text("".join(mpsim.run(pool, out, jobs=True).lines()))
-        return pool, out, jobs, by_hand(rows, agents)
-
     def test_a_pool_that_is_named_as_a_node(self):
         """What `--node desk` tells is of the queue, by its names, and a line says so."""
         for by, where in ("trunk", "desk_queue"), ("agents", "desk_1 to desk_2"):
@@ -313,7 +317,7 @@ class Commands(InFolder):
         """Days and pages tell it in one line."""
         for by, where in ("trunk", "desk_queue"), ("agents", "desk_1 to desk_2"):
             model, trace, jobs, waits = self.made(by)
-            told = f"desk is a pool: its waits are in {where}"
+            told = f"desk is a pool: its waits are those of {where}"
             self.tells("days", model, trace, "--every", 1000, error=f"planner: {told}\n")
             self.tells("days", model, trace, "--every", 1000, "--node", "wrap")
             page = self.folder / "page.html"
@@ -333,7 +337,8 @@ class Commands(InFolder):
         warning = f"planner: warning: {trace} {why}\n"
         status, _, told = planner("scale", trace, "--by", "1/2", "--out", self.folder / "half.csv")
         self.assertEqual((status, told.split("\n")[0] + "\n"), (0, warning))
-        self.tells("sweep", model, trace, error=warning)
+        more = "planner: desk is a pool: its waits are those of desk_queue\nplanner: of a pool max, p50, p90 and p99 want the lines of jobs: "
+        self.tells("sweep", model, trace, error=warning + more + "planner sweep has them with --within\n")
         # Nothing is said where there is no pool, or only one of its columns.
         plain = self.file("plain.csv", "source,time,talk,desk_wait,other_agent\nphone,0,4,0,0\n")
         self.tells("sweep", self.folder / "net.txt", plain)

@@ -57,6 +57,17 @@ class Example(InFolder):
         self.assertEqual([it for it in told if "row" in it], ["planner: 1 row is left out", "planner: 1 row: long is empty (row 3)"])
         self.assertEqual(told[-1], "planner: 1 record, 1 source")
 
+    def test_flights(self):
+        """As public data of flights have them; the option stands before the export as well."""
+        rows = "2015,6,30,2400,SEA,12", "2015,6,30,5,SEA,21", "2015,6,31,5,SEA,1"
+        export = self.file("flights.csv", table(*rows, header="YEAR,MONTH,DAY_OF_MONTH,CRS_DEP_TIME,ORIGIN,TAXI_OUT").decode())
+        words = "--day", "YEAR", "MONTH", "DAY_OF_MONTH", export, "--time", "CRS_DEP_TIME", "--format", "hmm", "--demand", "TAXI_OUT=taxi:min"
+        lines = self.folder / "lines.txt"
+        status, out, err = planner("prepare", *words, "--source", "ORIGIN", "--zone", "America/Los_Angeles", "--first-lines", lines)
+        self.assertEqual((status, out), (0, "source,time,taxi\nsea,300,1260\nsea,86400,720\n"), err)
+        self.assertIn("planner: 1 row: DAY_OF_MONTH: no day of its month (row 4, '31')\n", err)
+        self.assertEqual(told_in(text_of(lines)), (10**6, "2015-06-30T00:00:00-07:00", "America/Los_Angeles"))
+
     def test_the_output(self):
         status, out, err = planner("prepare", EXPORT / "calls.csv", *ASKED)
         self.assertEqual((status, out), (0, text_of(EXPORT, "trace.csv")), err)
@@ -149,6 +160,52 @@ class Times(Test):
         self.assertEqual(list(prepare(numbers, "clock", date="day", format="hmm").times), [300, 23400])
         # A date may have a midnight with it.
         self.assertEqual(list(prepare(table("2026-03-02 00:00:00,8:05", header="day,clock"), "clock", date="day").times), [300])
+
+    def test_a_day_in_three_columns(self):
+        """By their names, in any order; 5 is five minutes past midnight, and 2400 the midnight behind the day."""
+        head, given = "DAY_OF_MONTH,YEAR,DEP,MONTH", {"day": ["YEAR", "MONTH", "DAY_OF_MONTH"], "begin": "day"}
+        rows = table("30,2015,5,06", "30,2015,2359,6", "30,2015,2400,6", "01,2015,0,7", " 1 ,2015, 1430 ,7", header=head)
+        made = prepare(rows, "DEP", format="hmm", **given)
+        self.assertEqual((list(made.times), made.left, made.zero), ([300, 86340, 86400, 86400, 138600], {}, "2015-06-30T00:00:00"))
+        # Times that tell their format; February of a leap year has 29 days.
+        for texts in ("0:05", "8:05", "24:00"), ("00:05:00", "08:05:00", "24:00:00"):
+            rows = table(f"28,2016,{texts[0]},2", f"29,2016,{texts[1]},2", f"29,2016,{texts[2]},2", header=head)
+            made = prepare(rows, "DEP", **given)
+            self.assertEqual((list(made.times), made.left), ([300, 86400 + 29100, 2 * 86400], {}))
+        # Days of a spreadsheet: a quarter of one. A day on which clocks are set forward has 23 hours, and the hour that it skips isn't there.
+        self.assertEqual(list(prepare(table("2,2026,0.25,3", header=head), "DEP", format="excel", **given).times), [21600])
+        rows = table("29,2026,300,3", "29,2026,2400,3", "29,2026,230,3", header=head)
+        made = prepare(rows, "DEP", format="hmm", zone="Europe/Berlin", **given)
+        self.assertEqual((list(made.times), made.left), ([7200, 82800], {"DEP: in the hour that 2026-03-29 skips in Europe/Berlin": 1}))
+        # What ends behind midnight.
+        rows = table("31,2015,2350,12,110", header=f"{head},ARR")
+        self.assertEqual(prepare(rows, "DEP", format="hmm", end=["ARR=fly"], tick="1min", **given).values[0].tolist(), [80])
+
+    def test_days_and_times_that_there_are_not(self):
+        """Each is a row that is left out, counted by its reason, and told with its row, its column and its value."""
+        rows = ["2015,4,30,5", "2015,13,1,5", "2015,0,1,5", "2015,4,31,5", "2015,2,29,5", "2015,4,32,5", "2015,4,0,5", "15,4,1,5", "x,4,1,5"]
+        rows += ["2015,,1,5", "2015,4,30.0,5", "2015,4,1,1260", "2015,4,1,2401", "2015,4,1,", "2015,4,1,-5", "2015,31,4,5"]
+        out = io.StringIO()
+        made = prepare(table(*rows, header="Y,M,D,DEP"), "DEP", day=["Y", "M", "D"], format="hmm", left_out=out)
+        self.assertEqual((len(made), made.zero, list(made.times)), (1, "2015-04-30T00:00:00", [300]))
+        one = {"M is empty": "row 11", "DEP is empty": "row 15", "DEP: no number as hmm": "row 16, '-5'"}
+        more = {
+            "M: no month from 1 to 12": (3, "row 3, '13'"),
+            "D: no day from 1 to 31": (3, "row 7, '32'"),
+            "D: no day of its month": (2, "row 5, '31'"),
+            "Y: no year of four digits": (2, "row 9, '15'"),
+            "DEP: no time of the day": (2, "row 13, '1260'"),
+        }
+        self.assertEqual(made.left, {**{why: count for why, (count, _) in more.items()}, **dict.fromkeys(one, 1)})
+        for why, where in one.items():
+            self.assertIn(f"1 row: {why} ({where})", made.told)
+        for why, (count, where) in more.items():
+            self.assertIn(f"{count} rows: {why}; the first is {where}", made.told)
+        written = out.getvalue().splitlines()
+        self.assertEqual(written[0], "row,reason,Y,M,D,DEP")
+        self.assertEqual((written[1], written[-1]), ("3,M: no month from 1 to 12,2015,13,1,5", "17,M: no month from 1 to 12,2015,31,4,5"))
+        with self.assertRaisesRegex(ValueError, "no row is left; 1 row: D: no year of four digits \\(row 2, '4'\\)"):
+            prepare(table("4,5,2015,5", header="D,M,Y,DEP"), "DEP", day=["D", "M", "Y"], format="hmm")
 
     def test_a_date_with_a_time(self):
         rows = table("2026-03-02 00:00:00,8:05", "2026-03-02 00:05:00,8:05", header="day,clock")

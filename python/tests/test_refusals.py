@@ -12,6 +12,7 @@ prepare = module.prepare
 
 MODEL = "model 1\nsource a\nserver desk d from a\n"
 ROW = "8:00,a,1"
+DAY = "--day", "when", "who", "long"
 
 
 def table(*rows, header="when,who,long"):
@@ -90,6 +91,11 @@ class Refusals(InFolder):
             ("--date-format says nothing without --date", table(ROW), "--date-format", "iso"),
             ("--answered says nothing without --end", table(ROW), "--answered", "when"),
             ("column 'when' has more than the time of the day, so that --date says nothing", table("2026-03-02,a,1"), "--date", "when"),
+            ("column 'when' has more than the time of the day, so that --day says nothing", table("2026-03-02,a,1"), *DAY),
+            ("--date and --day are two ways: one of them is given", table(ROW), "--date", "who", *DAY),
+            ("--day who long who: it is three columns, of the year, the month and the day", table(ROW), "--day", "who", "long", "who"),
+            ("there is no column 'year'; it has 'when', 'who', 'long'", table(ROW), "--day", "year", "who", "long"),
+            ("--date-format says nothing without --date", table(ROW), *DAY, "--date-format", "iso"),
             (
                 "row 2, column 'who', '8:01': of the format clock, which has no day: --date-format says another",
                 table("8:00,8:01,1"),

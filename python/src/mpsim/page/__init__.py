@@ -8,7 +8,7 @@ from html import escape
 from string import Template
 
 from ..planner.files import written
-from ..planner.pooled import pool_lines
+from ..planner.pooled import beside_pools, pool_lines
 from .colours import in_light, style
 from .flows import flows
 from .network import asked_of, network, nodes_that_are_drawn
@@ -30,9 +30,9 @@ def _policy(script):
     return f"default-src 'none'; style-src 'unsafe-inline'; script-src 'sha256-{digest}'; base-uri 'none'; form-action 'none'"
 
 
-def _first_node(report):
+def _first_node(nodes):
     """The node to begin with: where somebody waits that with the longest p90, else the busiest one, or one that has servers."""
-    return max(report.nodes, key=lambda it: (it.p90 or 0, it.max, it.lost, it.util or 0, it.util is not None)).name
+    return max(nodes, key=lambda it: (it.p90 or 0, it.max or 0, it.lost, it.util or 0, it.util is not None)).name
 
 
 def _exact(value):
@@ -42,20 +42,21 @@ def _exact(value):
     return str(value) if isinstance(value, int) and value >= 1 << 53 else value
 
 
-def _data(reports, labels, columns, tick, start):
-    """What the script works on: the figures and pictures of each run, in the order of the columns."""
+def _data(reports, lines, labels, columns, tick, start):
+    """What the script works on: the figures and pictures of the nodes of each run (`lines`, lists of Node), in the order of the columns."""
     runs = []
-    for label, report in zip(labels, reports):
+    for label, report, mine in zip(labels, reports, lines):
         nodes = nodes_that_are_drawn(report)
         runs.append(
             {
                 "label": label,
                 "facts": facts(report),
                 "span": report.span,
-                "nodes": {it.name: _exact([column.of(report, it) for column in columns]) for it in report.nodes},
+                "kinds": {it.name: it.kind for it in mine},
+                "nodes": {it.name: _exact([column.of(report, it) for column in columns]) for it in mine},
                 "pictures": {
                     node: {picture: {name: _exact(it) for name, it in parts.items()} for picture, parts in both.items()}
-                    for node, both in pictures_of(report, NUMBERS // len(reports), tick).items()
+                    for node, both in pictures_of(report, mine, NUMBERS // len(reports), tick).items()
                 },
                 "asked": {it.name: asked_of(it) for it in nodes},
                 "flows": {f"{name}.{output}": count for (name, output), count in flows(nodes, report).items()},
@@ -63,9 +64,8 @@ def _data(reports, labels, columns, tick, start):
         )
     return {
         "columns": [it.name for it in columns],
-        "kinds": {it.name: it.kind for it in reports[0].nodes},
         "runs": runs,
-        "node": _first_node(reports[0]),
+        "node": _first_node(lines[0]),
         "tick": None if tick is None else float(tick),
         "date": start and start.date().isoformat(),
         "start": start.hour * 3600 + start.minute * 60 + start.second if start else 0,
@@ -78,7 +78,7 @@ def _options(names, chosen=None):
 
 def page(reports, labels=None, title=None, tick=None, start=None, within=None):
     """The page (str) of a report, or of several side by side, under their labels (1, 2 and so on where none are given). The network and the rows of
-    the tables are those of the first one; figures follow the run that is chosen.
+    the tables are those of the first one; figures follow the run that is chosen. A pool is a node as a whole: the figures of its name are its own.
 
     With `tick`, the seconds of a tick (a number), axes have times of the day, with `start`, the datetime of time 0 on the clock of the place, dates
     too. With `within` (int, ticks) the share of all that came who are served within that time is a figure as others are: for that each report needs
@@ -91,21 +91,21 @@ def page(reports, labels=None, title=None, tick=None, start=None, within=None):
     labels = [str(it).encode(errors="surrogateescape").decode(errors="replace") for it in labels or range(1, len(reports) + 1)]
     first, is_several = reports[0], len(reports) > 1
     title = (title or (f"{len(reports)} runs" if is_several else "Run")).encode(errors="surrogateescape").decode(errors="replace")
-    columns = columns_of(reports, within)
-    data = _data(reports, labels, columns, tick, start)
+    columns, lines = columns_of(reports, within), [beside_pools(it) for it in reports]
+    data = _data(reports, lines, labels, columns, tick, start)
     script = "(() => {\n'use strict';\n" + "".join(map(_part, SCRIPTS)) + "})();\n"
-    svg = network(first, data["node"])
+    svg = network(first, lines[0], data["node"])
     return Template(_part("page.html")).substitute(
         policy=escape(_policy(script)),
         title=escape(title),
         style=style() + _part("piece.css") + _part("page.css"),
         facts=facts(first),
-        pools="".join(f"\n<p>{escape(it)}</p>" for it in pool_lines(reports, verb="are in")),
+        pools="".join(f"\n<p>{escape(it)}</p>" for it in pool_lines(reports, lacks=True)),
         runs=f'<label>Run <select id="run">{_options(labels)}</select></label>' if is_several else "",
         network=Template(_part("network.html")).substitute(legend=legend(), svg=svg) if svg else "",
         compared=_part("compared.html") if is_several else "",
-        nodes=_options([it.name for it in first.nodes], data["node"]),
-        tables=nodes_table(first, columns),
+        nodes=_options([it.name for it in lines[0]], data["node"]),
+        tables=nodes_table(first, lines[0], columns),
         exits="" if is_several else exits_table(first),
         # Nothing in a text may end the element that it stands in.
         data=json.dumps(data, separators=(",", ":"), allow_nan=False).replace("<", "\\u003c"),
@@ -122,7 +122,7 @@ def save(path, reports, labels=None, title=None, **options):
 
 def drawing(report):
     """The network alone (str), as an SVG file for documents: in light colours. Raises ValueError where the report's model isn't known."""
-    svg = network(report, is_still=True)
+    svg = network(report, beside_pools(report), is_still=True)
     if not svg:
         raise ValueError("the network wants the model of the report")
     head, body = svg.split(">", 1)
@@ -134,8 +134,9 @@ def drawing(report):
 
 def piece(report):
     """What a notebook shows (str): the network and the tables, without a script."""
-    svg = network(report, is_still=True)
+    lines = beside_pools(report)
+    svg = network(report, lines, is_still=True)
     drawn = f'{legend()}<div class="scroll">{svg}</div>' if svg else ""
-    tables = nodes_table(report, columns_of([report]), is_still=True) + exits_table(report, is_still=True)
+    tables = nodes_table(report, lines, columns_of([report]), is_still=True) + exits_table(report, is_still=True)
     text = f'<p>{facts(report)}</p>{drawn}<div class="scroll">{tables}</div>'
     return f'<div class="mpsim piece"><style>{style()}{_part("piece.css")}</style>{text}</div>'

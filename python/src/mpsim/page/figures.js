@@ -50,7 +50,7 @@ function shareOf([low, high], whole) {
 const TOLD_BY_IN = ['source', 'split', 'fork', 'delay', 'trunk'];
 const stepOf = util => util === null || util === undefined ? 0 : Math.min(Math.floor(util * 5), 4) + 1;
 function figuresOf(kind, figure) {
-  const name = TOLD_BY_IN.includes(kind) ? 'in' : figure('p90') === null ? 'max' : 'p90';
+  const name = TOLD_BY_IN.includes(kind) ? 'in' : ['p90', 'max'].find(it => figure(it) !== null) ?? 'mean wait';
   const text = name === 'in' ? `${shown(figure('in'))} in` : `${name} ${shown(figure(name))}`;
   return text + (figure('lost') ? `, lost ${shown(figure('lost'))}` : figure('held') ? `, held ${shown(figure('held'))}` : '');
 }

@@ -5,6 +5,7 @@ from html import escape
 from ..model import nodes_of
 from .flows import flows
 from .layers import HIGH, WIDE, Layout
+from .tables import shown
 
 # The steps of the scale of loads.
 STEPS = 5
@@ -37,6 +38,9 @@ def figures_of(line):
     """The third line of a box, of a line of the report."""
     if line.kind in TOLD_BY_IN:
         text = f"{line.in_:,} in"
+    elif line.p90 is None and line.max is None:
+        # Of a pool without lines of jobs the mean alone is known.
+        text = f"mean wait {shown(None if line.mean_wait is None else round(line.mean_wait, 3))}"
     else:
         text = f"max {line.max:,}" if line.p90 is None else f"p90 {line.p90:,}"
     return text + (f", lost {line.lost:,}" if line.lost else f", held {line.held:,}" if line.held else "")
@@ -47,9 +51,10 @@ def said_of(line):
     return f"{line.name}, {line.kind}, {'no servers' if line.util is None else f'util {line.util:.4f}'}, {figures_of(line)}"
 
 
-def network(report, chosen=None, is_still=False):
-    """The SVG (str), with the chosen node marked; "" where the report's model isn't known. In one that is still no node is a button."""
-    nodes = nodes_that_are_drawn(report)
+def network(report, lines, chosen=None, is_still=False):
+    """The SVG (str), with the figures of `lines` (list of Node) and the chosen node marked; "" where the report's model isn't known. In one that is
+    still no node is a button."""
+    nodes, figures = nodes_that_are_drawn(report), {it.name: it for it in lines}
     if not nodes:
         return ""
     layout, counts, outputs = Layout(nodes), flows(nodes, report), {it.name: it.outputs for it in nodes}
@@ -58,7 +63,7 @@ def network(report, chosen=None, is_still=False):
     size = f'viewBox="0 0 {layout.width:.0f} {layout.height:.0f}" width="{layout.width:.0f}" style="min-width:{0.72 * layout.width:.0f}px"'
     parts = [f'<svg class="network" {size} role="group" aria-label="Network of {len(nodes)} nodes">']
     parts += [_line(it, [layout.places[name] for name in it.path], counts.get(it.output), most, outputs[it.output[0]]) for it in layout.lines]
-    parts += [_box(report[it.name], it, layout.places[it.name], it.name == chosen, is_still) for it in nodes]
+    parts += [_box(figures[it.name], it, layout.places[it.name], it.name == chosen, is_still) for it in nodes]
     return "".join(parts) + "</svg>"
 
 

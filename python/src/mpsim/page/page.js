@@ -25,8 +25,9 @@ function showPictures() {
     by('pictures').replaceChildren(html('p', {}, why));
     return;
   }
-  const figures = [overTime(mine.time, span, data)];
-  if (mine.waits.wait.length) figures.push(byWait(mine.waits, figureOf(state.run, state.node)));
+  const figures = [mine.time ? overTime(mine.time, span, data) : html('p', {}, 'This node has no waits of its own.')];
+  if (mine.number) figures.push(numberOverTime(mine.number, span, data));
+  if (mine.waits && mine.waits.wait.length) figures.push(byWait(mine.waits, figureOf(state.run, state.node)));
   by('pictures').replaceChildren(...figures);
 }
 
@@ -61,19 +62,22 @@ function show() {
 
 // The table of nodes and the network were written for the first run; these write them for the one that is chosen.
 function refillTable() {
-  document.querySelectorAll('#nodes tbody tr').forEach(row => valuesOf(state.run, row.dataset.node).forEach((value, at) => {
-    fill(row.cells[at + 2], { 'data-v': value ?? '' }, []).textContent = shown(value);
-  }));
+  document.querySelectorAll('#nodes tbody tr').forEach(row => {
+    row.cells[1].textContent = data.runs[state.run].kinds[row.dataset.node] ?? '–';
+    valuesOf(state.run, row.dataset.node).forEach((value, at) => {
+      fill(row.cells[at + 2], { 'data-v': value ?? '' }, []).textContent = shown(value);
+    });
+  });
 }
 function refillBoxes() {
-  const { nodes, asked } = data.runs[state.run];
+  const { nodes, asked, kinds } = data.runs[state.run];
   document.querySelectorAll('g.node').forEach(box => {
     const name = box.dataset.node, figure = figureOf(state.run, name), util = figure('util'), part = kind => box.querySelector(kind);
     box.classList.remove(...[0, 1, 2, 3, 4, 5].map(step => `load${step}`));
     box.classList.add(`load${stepOf(util)}`);
     part('.kind').textContent = asked[name] ?? '–';
-    part('.figures').textContent = nodes[name] ? figuresOf(data.kinds[name], figure) : '–';
-    const said = nodes[name] ? saidOf(name, data.kinds[name], figure) : `${name}, not in this run`;
+    part('.figures').textContent = nodes[name] ? figuresOf(kinds[name], figure) : '–';
+    const said = nodes[name] ? saidOf(name, kinds[name], figure) : `${name}, not in this run`;
     box.setAttribute('aria-label', said);
     part('title').textContent = said;
     if (part('.meter')) {

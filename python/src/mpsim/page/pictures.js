@@ -50,10 +50,13 @@ function picture(name, says, x, y, places, read) {
 }
 
 // Waits over time: a step a piece, a gap where nobody departed; below them bars of who came, and of these who was lost or held.
-function pieceTold({ width, came, lost, p50, p90, max }, at, calendar, isLong) {
-  const time = tick => clock(tick, calendar, isLong ? 'both' : 'time');
+function timesTold(begin, end, span, calendar) {
+  const time = tick => clock(tick, calendar, span * calendar.tick > DAY ? 'both' : 'time');
+  return `${time(begin)} to ${time(end)}`;
+}
+function pieceTold({ width, came, lost, p50, p90, max }, at, span, calendar) {
   const gone = lost[at] ? `, ${shown(lost[at])} lost or held` : '';
-  const text = `${time(at * width)} to ${time((at + 1) * width)}: ${shown(came[at])} came${gone}`;
+  const text = `${timesTold(at * width, (at + 1) * width, span, calendar)}: ${shown(came[at])} came${gone}`;
   if (p50[at] === null) return text;
   return `${text}; half waited for ${shown(p50[at])} or less, 9 of 10 for ${shown(p90[at])}, the longest for ${shown(max[at])}`;
 }
@@ -69,31 +72,51 @@ function stairs(values, width, across, up) {
   });
   return { path, end };
 }
+const timeAxis = (end, calendar, name) => ({ low: 0, high: end, calendar, name,
+  text: value => clock(value, calendar, end * calendar.tick < 4 * DAY ? 'time' : 'date') });
+// Lines over time, of pairs of a name and a class, each with its name at its end.
+function drawLines(p, series, kinds) {
+  const ends = [];
+  for (const [name, kind] of kinds) {
+    const line = stairs(series[name], series.width, p.across, p.up);
+    p.root.append(svg('path', { class: kind, d: line.path }));
+    if (line.end) ends.push([name, kind, line.end[1]]);
+  }
+  // Names of lines that end near one another stand one below the other.
+  ends.sort((one, other) => one[2] - other[2]);
+  ends.forEach((it, at) => { if (at) it[2] = Math.max(it[2], ends[at - 1][2] + 12); });
+  const past = Math.max(0, ...ends.map(it => it[2] - FLOOR));
+  for (const [name, kind, y] of ends) p.root.append(svg('text', { class: kind, x: WIDE - RIGHT + 4, y: y - past + 4 }, name));
+}
 function overTime(series, span, calendar) {
-  const { width, came, lost } = series, end = came.length * width, isLong = span * calendar.tick > DAY;
+  const { width, came, lost } = series, end = came.length * width;
   const top = Math.max(1, ...series.max.map(Number)), most = Math.max(1, ...came);
-  const axis = { low: 0, high: end, calendar, name: calendar.tick ? 'time of arrival' : 'arrival, ticks',
-    text: value => clock(value, calendar, end * calendar.tick < 4 * DAY ? 'time' : 'date') };
+  const axis = timeAxis(end, calendar, calendar.tick ? 'time of arrival' : 'arrival, ticks');
   const p = picture('time', 'Waits by the time at which jobs came', axis, { high: top, text: shown }, came.map((_, at) => (at + .5) * width),
-    at => pieceTold(series, at, calendar, isLong));
+    at => pieceTold(series, at, span, calendar));
   const bar = (value, kind, at) => {
     const high = 46 * value / most, wide = Math.max(p.across(width) - p.across(0) - .4, .6);
     if (value) p.root.append(svg('rect', { class: kind, x: p.across(at * width), y: FLOOR - high, width: wide, height: high }));
   };
   came.forEach((value, at) => { bar(value, 'came', at); bar(lost[at], 'lost', at); });
-  const ends = [];
-  for (const kind of ['max', 'p90', 'p50']) {
-    const line = stairs(series[kind], width, p.across, p.up);
-    p.root.append(svg('path', { class: kind, d: line.path }));
-    if (line.end) ends.push([kind, line.end[1]]);
-  }
-  // Names of lines that end near one another stand one below the other.
-  ends.sort(([, one], [, other]) => one - other);
-  ends.forEach((it, at) => { if (at) it[1] = Math.max(it[1], ends[at - 1][1] + 12); });
-  const past = Math.max(0, ...ends.map(([, y]) => y - FLOOR));
-  for (const [kind, y] of ends) p.root.append(svg('text', { class: kind, x: WIDE - RIGHT + 4, y: y - past + 4 }, kind));
+  drawLines(p, series, [['max', 'max'], ['p90', 'p90'], ['p50', 'p50']]);
   const bars = `Bars: how many came${lost.some(it => it) ? ', and in the darker colour how many of them were lost or held' : ''}.`;
   return html('figure', {}, html('h3', {}, 'Waits over time'), p.root, p.told, html('figcaption', {}, `Pieces of ${shown(width)} ticks. ${bars}`));
+}
+
+// How many are in the node over time: of each piece the mean and the greatest. The last piece ends with the run; the axis is that of the waits.
+function numberTold({ width, mean, max }, at, span, calendar) {
+  const times = timesTold(at * width, Math.min((at + 1) * width, span), span, calendar);
+  return `${times}: ${shown(mean[at])} in the node on average, ${shown(max[at])} at most`;
+}
+function numberOverTime(series, span, calendar) {
+  const { width, mean, max } = series, end = (Math.floor(span / width) + 1) * width;
+  const axis = timeAxis(end, calendar, calendar.tick ? 'time' : 'time, ticks'), y = { high: Math.max(1, ...max), text: shown };
+  const p = picture('number', 'Number in the node over time', axis, y, mean.map((_, at) => (at + .5) * width),
+    at => numberTold(series, at, span, calendar));
+  drawLines(p, series, [['max', 'max'], ['mean', 'p50']]);
+  return html('figure', {}, html('h3', {}, 'Number in the node over time'), p.root, p.told,
+    html('figcaption', {}, `Of each piece of ${shown(width)} ticks the mean, and the most at one time. Who is lost isn't in it.`));
 }
 
 // The share by wait, of those that departed; and a field that tells the share served within a time, of all that came as well.

@@ -1,19 +1,21 @@
 """What the pictures of a page draw, worked out of a report: small, however many visits there are."""
 
+from array import array
 from bisect import bisect_left, bisect_right
 from fractions import Fraction
 
-from ..node_visits import percentile_of
+from ..node_visits import HELD, LOST, percentile_of
+from ..planner.pooled import visits_at
 
-# How many numbers all pictures of a page have together, some five a piece of the time and two a wait; and what one picture has of these, at least
+# How many numbers all pictures of a page have together, some seven a piece of the time and two a wait; and what one picture has of these, at least
 # and at most.
 NUMBERS, LEAST, PIECES, WAITS = 6000, 20, 240, 200
 # A piece of the time has so many visits on average, or its percentiles say little.
 VISITS = 20
 # Widths of less than a day that people like, in seconds.
 CLOCK, DAY = [1, 2, 5, 10, 15, 20, 30, 60, 120, 300, 600, 900, 1800, 3600, 7200, 10800, 21600, 43200], 86400
-# Nobody waits at these.
-WITHOUT_WAITS = "source", "split", "fork", "delay"
+# Nobody waits at these, and nobody is in these for any time.
+WITHOUT_WAITS, PASSED = ("source", "split", "fork", "delay"), ("source", "split", "fork")
 
 
 def nice(least, tick=None):
@@ -27,10 +29,15 @@ def nice(least, tick=None):
     return -(-seconds // tick)
 
 
+def width_of(span, pieces, tick=None):
+    """How wide (int, ticks) a piece of the time is, of about so many."""
+    return nice(-(-max(span, 1) // pieces), tick)
+
+
 def over_time(visits, span, pieces, tick=None):
     """The visits of a node by the time at which they came, in about so many pieces of one width: how many came, how many of these were lost or held,
     and of the waits of those that departed p50, p90 and the greatest, None where none did."""
-    width = nice(-(-max(span, 1) // pieces), tick)
+    width = width_of(span, pieces, tick)
     told = {"width": width, "came": [], "lost": [], "p50": [], "p90": [], "max": []}
     begin = 0
     for end_time in range(width, span + width + 1, width):
@@ -44,6 +51,42 @@ def over_time(visits, span, pieces, tick=None):
     return told
 
 
+def number_over_time(visits, span, width):
+    """How many of the visits of a node were in it, in pieces of the time of one width (int, ticks), of which the last ends with the span: the mean of
+    each piece, to three digits, and the greatest number. Who was lost is never in it, who is held is there to the end. At a moment who leaves is gone
+    and who comes is there, so that a visit that takes no time isn't seen.
+
+    >>> import mpsim
+    >>> report = mpsim.run("model 1\\nsource door\\nserver desk =4 from door\\n", [("door", 0), ("door", 1), ("door", 4)], jobs=True)
+    >>> number_over_time(report.visits["desk"], report.span, 5)
+    {'width': 5, 'mean': [1.8, 1.6, 1.0], 'max': [2, 2, 1]}
+    """
+    begins = array("q", (arrive for arrive, wait in zip(visits.arrive, visits.wait) if wait != LOST))
+    ends = array("q", sorted(span if wait == HELD else depart for depart, wait in zip(visits.depart, visits.wait) if wait != LOST))
+    told, came, gone = {"width": width, "mean": [], "max": []}, 0, 0
+    for begin in range(0, span, width):
+        end, first, before = min(begin + width, span), came, gone
+        came, gone = bisect_left(begins, end, first), bisect_left(ends, end, before)
+        # Who was there at the begin is there for all of the piece, but for what is behind a departure; who comes, from the arrival on.
+        within = (first - before) * (end - begin) + (came - first - gone + before) * end - sum(begins[first:came]) + sum(ends[before:gone])
+        told["mean"].append(round(within / (end - begin), 3))
+        told["max"].append(_greatest(begins, ends, begin, range(first, came), before))
+    return told
+
+
+def _greatest(begins, ends, begin, numbers, gone):
+    """The greatest number that is there at once within a piece: at its begin, or when one of those of these numbers (a range) has come. So many were
+    gone before."""
+    gone = bisect_right(ends, begin, gone)
+    most = numbers.start - gone
+    for number in numbers:
+        moment = begins[number]
+        while gone < len(ends) and ends[gone] <= moment:
+            gone += 1
+        most = max(most, number + 1 - gone)
+    return most
+
+
 def distribution(visits, most):
     """How many visits came, and of those that departed some of their waits, rising, with how many waited for no longer. Each count is exact. They
     are all waits where these are few; else those at equal ranks, at percentiles that people ask for, and at ranks that close in on the greatest."""
@@ -55,16 +98,21 @@ def distribution(visits, most):
     return {"came": len(visits), "wait": kept, "count": [bisect_right(waits, it) for it in kept]}
 
 
-def pictures_of(report, numbers, tick=None):
-    """The pictures of the nodes of a report at which somebody can wait and somebody came, by name; of about so many numbers together. `tick` is how
-    many seconds a tick has, where that is known."""
+def pictures_of(report, nodes, numbers, tick=None):
+    """The pictures of those of some nodes (list of Node) of a report in which somebody can be and to which somebody came, by name; of about so many
+    numbers together. `tick` is how many seconds a tick has, where that is known."""
     if report.visits is None:
         return {}
-    drawn = [it for it in report.visits.values() if len(it) and report[it.node].kind not in WITHOUT_WAITS]
+    waited = {it.name: it.kind not in WITHOUT_WAITS for it in nodes if it.kind not in PASSED}
+    drawn = [it for it in visits_at(report, waited) if len(it)]
     each = numbers // max(len(drawn), 1)
-    pieces, waits = (min(max(each // share, LEAST), most) for share, most in ((8, PIECES), (6, WAITS)))
+    pieces, waits = (min(max(each // share, LEAST), most) for share, most in ((10, PIECES), (7, WAITS)))
     found = {}
     for it in drawn:
-        over = over_time(it, report.span, max(min(pieces, len(it) // VISITS), 10), tick)
-        found[it.node] = {"time": over, "waits": distribution(it, waits)}
+        count, mine = max(min(pieces, len(it) // VISITS), 10), found.setdefault(it.node, {})
+        if waited[it.node]:
+            mine["time"] = over_time(it, report.span, count, tick)
+            mine["waits"] = distribution(it, waits)
+        if report.span:
+            mine["number"] = number_over_time(it, report.span, width_of(report.span, count, tick))
     return found

@@ -4,7 +4,7 @@ from html import escape
 from typing import Callable, NamedTuple
 
 from ..lines import Node
-from ..planner.pooled import pooled, pools
+from ..planner.pooled import pooled
 from ..planner.reports import PASSED
 from ..report import Report
 
@@ -50,8 +50,8 @@ def columns_of(reports, within=None):
 
 
 def _share(report, node, within):
-    """The share that is served within so many ticks, of a pool with the waits in its queue; None where nobody ever waits or is lost."""
-    if node.name in pools(report):
+    """The share that is served within so many ticks; None where nobody ever waits or is lost."""
+    if node.kind == "pool":
         return pooled(report, node.name).share_within(within)
     return None if node.kind in (*PASSED, "delay") else report.visits[node.name].share_within(within)
 
@@ -83,10 +83,10 @@ def _table(name, caption, words, rows, is_still):
     return f"<table{identity}><caption>{caption}</caption><thead>{head}</thead><tbody>{''.join(rows)}</tbody></table>"
 
 
-def nodes_table(report, columns, is_still=False):
-    """The table of the nodes of a report."""
+def nodes_table(report, nodes, columns, is_still=False):
+    """The table of these nodes (list of Node) of a report."""
     rows = []
-    for it in report.nodes:
+    for it in nodes:
         cells = "".join(_cell(column.of(report, it)) for column in columns)
         rows.append(f'<tr data-node="{it.name}"><th scope="row">{it.name}</th><td>{it.kind}</td>{cells}</tr>')
     words = [("node", "name"), ("kind", "kind"), *((it.name, it.says) for it in columns)]

@@ -10,7 +10,7 @@ from ..sweeps import Scenario, Sweep
 from . import calendar
 from .files import say, text_of, written
 from .hours import days_until
-from .pooled import pool_lines
+from .pooled import pool_lines, pools
 from .progress import Progress
 from .table import table
 from .times import DAY, clock
@@ -32,7 +32,7 @@ class Day(NamedTuple):
 def words(parser):
     parser.add_argument("model")
     parser.add_argument("trace")
-    parser.add_argument("--node", action="append", default=[], metavar="NAME", help="rows of this node alone; may be repeated")
+    parser.add_argument("--node", action="append", default=[], metavar="NAME", help="rows of this node, or pool, alone; may be repeated")
     parser.add_argument("--open", metavar="H:MM", help="time 0 of each day; else it is the first record of the day")
     parser.add_argument("--close", metavar="H:MM", help="records of this time and later are left out, and counted")
     parser.add_argument("--every", type=int, metavar="TICKS", help="no days, but pieces of so many ticks from time 0 on")
@@ -93,10 +93,12 @@ def days(model, trace, pieces, tell=lambda done: None, path=None):
     times, sweep, over = trace.times(), Sweep(), 0
     for done, it in enumerate(pieces):
         tell(done)
-        rows = ([trace.rows[at][0], times[at] - it.zero, *trace.rows[at][2:]] for at in it.records)
+        rows = [trace.header, *([trace.rows[at][0], times[at] - it.zero, *trace.rows[at][2:]] for at in it.records)]
         try:
             with told_of(trace, it.records, path):
-                report = run(model, [trace.header, *rows])
+                report = run(model, rows)
+                # The percentiles of a pool want its visits.
+                report = run(model, rows, jobs=True) if pools(report) else report
         except (BoundError, VisitsError) as fault:
             sweep[it.name] = Scenario(it.name, fault.status, None, fault)
             continue
@@ -116,7 +118,7 @@ def main(asked):
         sweep, over = days(text, trace, pieces, tell, asked.model)
     with written() as file:
         csv.writer(file, lineterminator="\n").writerows(table(sweep, nodes=asked.node, head="day"))
-    for line in pool_lines(list(sweep.reports().values()), asked.node, "are in"):
+    for line in pool_lines(sweep.reports().values(), asked.node):
         say(line)
     if left:
         say(f"{left} records come before a day opens or after it closes, and are left out")

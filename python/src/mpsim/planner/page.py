@@ -38,8 +38,8 @@ def _labelled(path):
 
 
 def tell_pools(reports):
-    """Says of which nodes of reports a page has the waits elsewhere."""
-    for line in pool_lines(reports, verb="are in"):
+    """Says which nodes of reports a page has as pools."""
+    for line in pool_lines(reports, lacks=True):
         say(line)
 
 

@@ -5,7 +5,7 @@ from .formats import found_format, judged_format
 from .lengths import GREATEST_VALUE, Lengths, found_decimal
 from .moments import Moments
 from .names import is_name, name_for
-from .records import Code, Constant, Demand, End, Records, Sum, Times
+from .records import Code, Constant, Dates, Demand, End, Numbers, Records, Sum, Times
 from .times import given, length
 from .zones import Zone
 
@@ -47,17 +47,30 @@ class Plan:
             raise ValueError(f"column {name!r} is read as {how.form}, and column {self.export.header[self.time.column]!r} as {self.time.how.form}")
         return Times(column, how, self.place)
 
-    def times(self, time, date, date_format, answered):
-        """When jobs come, and when services begin."""
-        column, dates = self.export.column(time), None
-        how = self._moments(column, self.format)
+    def _dates(self, date, date_format, day):
+        """What has the day of a time, or None; and by which option (str)."""
+        if date is not None and day is not None:
+            raise ValueError("--date and --day are two ways: one of them is given")
         if date is not None:
             at = self.export.column(date)
-            dates = at, self._moments(at, date_format and judged_format(date_format), "--date-format")
+            return Dates(at, self._moments(at, date_format and judged_format(date_format), "--date-format")), "--date"
+        if day is None:
+            return None, None
+        columns = list(map(self.export.column, day))
+        if len(set(columns)) != 3 or len(columns) != 3:
+            raise ValueError(f"--day {' '.join(day)}: it is three columns, of the year, the month and the day")
+        return Numbers(columns), "--day"
+
+    def times(self, time, date, date_format, day, answered):
+        """When jobs come, and when services begin."""
+        column = self.export.column(time)
+        how = self._moments(column, self.format)
+        dates, option = self._dates(date, date_format, day)
+        if dates:
             if not how.is_of_day and how.form != "excel":
-                raise ValueError(f"column {time!r} has more than the time of the day, so that --date says nothing")
+                raise ValueError(f"column {time!r} has more than the time of the day, so that {option} says nothing")
             how.make_of_day()
-        self.has_day, self.is_ticks = not how.is_of_day or date is not None, how.form == "ticks"
+        self.has_day, self.is_ticks = not how.is_of_day or dates is not None, how.form == "ticks"
         if self.place.name and (self.is_ticks or not self.has_day):
             raise ValueError(f"column {time!r} has {'ticks' if self.is_ticks else 'no day'}, so that --zone says nothing")
         if date_format and not date:

@@ -1,5 +1,6 @@
 """The visits of a pool: all agents who share one queue, together. `planner pool` makes the model of one, and the names of its nodes are these."""
 
+import contextlib
 from array import array
 
 from ..lines import Node
@@ -84,25 +85,60 @@ def pools(report):
     return [it for it in _named_as_pools(report) if not _lost(report, it)]
 
 
+def know_model(report, text):
+    """Has a report in which something is named as a pool know the text (str) of its model, by which a delay of another length is told from the queue
+    of one."""
+    if report.model is None and any(_named_as_pools(report)):
+        # What the reader of models can't take leaves it as it was.
+        with contextlib.suppress(ValueError):
+            report.model = text.removeprefix("\ufeff")
+
+
 def _lost(report, pool):
     return report[pool].lost if _kind(report, pool) == "trunk" else 0
 
 
-def pool_lines(reports, names=(), verb="are those of"):
-    """What there is to say of the pools of reports, of those of some names alone where any are given: a line (str) for each."""
-    found = {}
-    for report in reports:
+class PoolLines:
+    """What there is to say of the pools of reports that are seen one by one, of those of some names (of str) alone where any are given."""
+
+    def __init__(self, names=()):
+        self._names, self._where, self._lost, self._lacks = names, {}, {}, False
+
+    def see(self, report):
+        """Looks at a report (Report), and keeps nothing of it but this."""
         for pool in _named_as_pools(report):
-            found.setdefault(pool, []).append(report)
-    for pool, some in found.items():
-        agents, lost = _agents_of(some[0], pool), max(_lost(it, pool) for it in some)
-        if names and pool not in names:
-            continue
-        if lost:
-            yield f"warning: {pool} loses {lost} calls: if it is a pool, its trace was made for another number of agents, and no figure of it holds"
-        else:
-            is_trunk = _kind(some[0], pool) == "trunk"
-            yield f"{pool} is a pool: its waits {verb} {queue_name(pool) if is_trunk else f'{agents[0]} to {agents[-1]}'}"
+            if self._names and pool not in self._names:
+                continue
+            agents = _agents_of(report, pool)
+            where = queue_name(pool) if _kind(report, pool) == "trunk" else f"{agents[0]} to {agents[-1]}"
+            self._where.setdefault(pool, where)
+            self._lost[pool] = max(self._lost.get(pool, 0), _lost(report, pool))
+            self._lacks |= report.visits is None and not _lost(report, pool)
+
+    def lines(self):
+        """A line (str) for each pool."""
+        for pool, where in self._where.items():
+            if lost := self._lost[pool]:
+                why = "if it is a pool, its trace was made for another number of agents, and no figure of it holds"
+                yield f"warning: {pool} loses {lost} calls: {why}"
+            else:
+                yield f"{pool} is a pool: its waits are those of {where}"
+
+    def lacks(self, how="mpsim writes them with --jobs"):
+        """Where a pool lacks figures, a line (str) that says why, and how the lines of jobs come to be there; else none."""
+        if self._lacks:
+            yield f"of a pool max, p50, p90 and p99 want the lines of jobs: {how}"
+
+
+def pool_lines(reports, names=(), lacks=False):
+    """What there is to say of the pools of reports, of those of some names alone where any are given: a line (str) for each; and one where figures of
+    them lack, if that is to be said (`lacks`, bool)."""
+    told = PoolLines(names)
+    for report in reports:
+        told.see(report)
+    yield from told.lines()
+    if lacks:
+        yield from told.lacks()
 
 
 def parts(report, pool):
@@ -112,12 +148,47 @@ def parts(report, pool):
     return [queue_name(pool), pool, *(() if _kind(report, pool) == "trunk" else ends)]
 
 
-def with_pools(report):
-    """The nodes of a report by their names (a dict of str to Node), in its order, with a Node of the kind "pool" in place of the `parts` of each
-    pool. Without visits it has no percentiles and no `max`, and it never has a `peak`: they are None."""
+def names_of(report, nodes=()):
+    """The names of the nodes of a report (list of str), in its order, with that of each pool in place of its `parts`; of some names alone where any
+    are given, which may be those of parts too. Raises ValueError for one that isn't there.
+
+    >>> import mpsim
+    >>> from mpsim.planner.pooled import names_of
+    >>> model = "model 2\\nsource door\\ndelay desk_queue desk_wait from door\\ntrunk desk 1 talk from desk_queue\\n"
+    >>> report = mpsim.run(model, [("source", "time", "talk", "desk_wait"), ("door", 0, 9, 0), ("door", 2, 4, 7)])
+    >>> names_of(report), names_of(report, ["desk_queue"])
+    (['door', 'desk'], ['desk_queue'])
+    """
     place = {part: pool for pool in pools(report) for part in parts(report, pool)}
-    names = dict.fromkeys(place.get(it.name, it.name) for it in report.nodes)
-    return {name: _node(report, name) if name in place.values() else report[name] for name in names}
+    names = list(dict.fromkeys(place.get(it.name, it.name) for it in report.nodes))
+    if not nodes:
+        return names
+    every = dict.fromkeys([*(it.name for it in report.nodes), *names])
+    for name in nodes:
+        if name not in every:
+            raise ValueError(f"there is no node {name!r}; the report has {', '.join(it.name for it in report.nodes)}")
+    return [name for name in every if name in nodes]
+
+
+def with_pools(report, nodes=()):
+    """The nodes of a report by their names (a dict of str to Node), those that `names_of` gives, with a Node of the kind "pool" in place of the
+    `parts` of each pool. Without visits it has no percentiles and no `max`, and it never has a `peak`: they are None."""
+    known = pools(report)
+    return {name: _node(report, name) if name in known else report[name] for name in names_of(report, nodes)}
+
+
+def beside_pools(report):
+    """All nodes of a report (list of Node), in its order, with each pool as a whole in place of the node of its name, or before its queue where there
+    is none of that name. The other nodes of a pool stay: a network draws them."""
+    made = {it: _node(report, it) for it in pools(report)}
+    before = {queue_name(name): it for name, it in made.items() if name not in report}
+    return [node for it in report.nodes for node in (before.get(it.name), made.get(it.name, it)) if node is not None]
+
+
+def visits_at(report, names):
+    """The visits (a list of NodeVisits) to nodes of a report with visits, or to pools, by their names."""
+    known = pools(report)
+    return [pooled(report, it) if it in known else report.visits[it] for it in names]
 
 
 def _node(report, pool):

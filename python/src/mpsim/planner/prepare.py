@@ -37,6 +37,7 @@ def words(parser):
     add("--format", metavar="FORMAT", help=f"of the time: as strptime has it, iso, rfc, clock (h:mm:ss) or {', '.join(NUMBERS)}; else it is found")
     add("--date", metavar="COLUMN", help="the day, where the time is in a column of its own")
     add("--date-format", metavar="FORMAT", help="of the day; else it is found")
+    add("--day", nargs=3, metavar=("YEAR", "MONTH", "DAY"), help="the day, where it is in three columns of numbers; the time is in a further one")
     add("--zone", metavar="NAME", help="the time zone of times without an offset, as Europe/Berlin; without it days have 24 hours")
     add("--twice", choices=list(TWICE), help="which hour is meant where clocks are set back; order: the second from where the file goes back")
     add("--tick", default="1s", metavar="LENGTH", help="what a tick is: 1s (where it isn't given), 100ms, 1min")
@@ -102,6 +103,7 @@ def prepare(
     format=None,
     date=None,
     date_format=None,
+    day=None,
     zone=None,
     twice=None,
     tick="1s",
@@ -122,9 +124,9 @@ def prepare(
     model=None,
     left_out=None,
 ):
-    """The trace (Prepared) of an export, which is a path or bytes. The others are the options of `planner prepare`, as texts; but `model` is the text
-    of a model, and `left_out` an open file for the rows that are left out. Raises OSError where the export can't be read, and ValueError where an
-    option is none, more has to be said, or no row is left.
+    """The trace (Prepared) of an export, which is a path or bytes. The others are the options of `planner prepare`, as texts; but `day` is a list of
+    three, `model` the text of a model, and `left_out` an open file for the rows that are left out. Raises OSError where the export can't be read, and
+    ValueError where an option is none, more has to be said, or no row is left.
 
     >>> export = b"When;Who;Long\\n02.03.2026 08:00:17;Desk;1,5\\n02.03.2026 08:00:05;Desk;0,5\\n"
     >>> list(prepare(export, "When", source="Who", demand=["Long=talk:min"]).rows())
@@ -137,7 +139,7 @@ def prepare(
     data = bytes(export) if isinstance(export, (bytes, bytearray)) else bytes_of(export)
     try:
         plan = Plan(Export(data, encoding, delimiter, skip, header), place, per, format, decimal, model)
-        plan.times(time, date, date_format, answered)
+        plan.times(time, date, date_format, day, answered)
         plan.values(demand, end, constant, code, empty)
         plan.sources(source, rename)
         return _finished(plan, _read(plan, left_out), begin)

@@ -1,16 +1,70 @@
 """How a row of an export becomes a record of a trace."""
 
+import re
+
 from .lengths import GREATEST_VALUE
 from .names import name_for
-from .times import DAY, Asks, Cache, Unread
+from .times import DAY, Asks, Cache, Unread, day_of
 
 # Moments are kept as numbers of 64 bits.
 MOST = 1 << 62
 
 
+class Dates:
+    """A column of dates: `column` (int) and `how` it is read (Moments)."""
+
+    def __init__(self, column, how):
+        self.column, self.how = column, how
+
+    def midnight(self, row):
+        """What the clock shows at the midnight of a row's day (int, microseconds since 1970). Raises Unread and Asks with the `column`."""
+        try:
+            return self.how.dates[row[self.column]]
+        except ValueError as fault:
+            fault.column = self.column
+            raise
+
+
+class Numbers:
+    """Three columns of numbers that make a day: `columns` (int) of its year, its month and its day.
+
+    >>> from mpsim.planner.records import Numbers
+    >>> Numbers([2, 0, 1]).midnight(["3", "02", "1970"]) // DAY
+    60
+    """
+
+    def __init__(self, columns):
+        self.columns, self._midnights = tuple(columns), Cache(self._work)
+
+    def midnight(self, row):
+        """As that of Dates."""
+        year, month, day = self.columns
+        return self._midnights[row[year], row[month], row[day]]
+
+    def _work(self, texts):
+        year = self._number(0, texts, r"[1-9]\d{3}", "no year of four digits")
+        month = self._number(1, texts, r"0?[1-9]|1[0-2]", "no month from 1 to 12")
+        day = self._number(2, texts, r"0?[1-9]|[12]\d|3[01]", "no day from 1 to 31")
+        try:
+            return day_of(year, month, day)
+        except Unread:
+            raise self._fault(2, "no day of its month") from None
+
+    def _number(self, at, texts, pattern, why):
+        text = texts[at].strip()
+        if not re.fullmatch(pattern, text, re.ASCII):
+            raise self._fault(at, why if text else "empty")
+        return int(text)
+
+    def _fault(self, at, why):
+        fault = Unread(why)
+        fault.column = self.columns[at]
+        return fault
+
+
 class Times:
-    """A column of times: `column` (int) and `how` it is read (Moments), in a Zone; where it has the time of the day alone, `dates` has the day: a
-    pair of a column and how that is read, or None."""
+    """A column of times: `column` (int) and `how` it is read (Moments), in a Zone; where it has the time of the day alone, `dates` (Dates, Numbers or
+    None) has the day."""
 
     def __init__(self, column, how, zone, dates=None):
         self.column, self.how, self.zone, self.dates = column, how, zone, dates
@@ -20,13 +74,7 @@ class Times:
         """The moment of a row. Without a date it is of day 0."""
         if self.dates is None:
             return self.how.of(row[self.column])
-        column, how = self.dates
-        try:
-            day = how.dates[row[column]]
-        except ValueError as fault:
-            fault.column = column
-            raise
-        return self.zone.utc(day + self.how.of(row[self.column]), self._seen)
+        return self.zone.utc(self.dates.midnight(row) + self.how.of(row[self.column]), self._seen)
 
     def later(self, row, than):
         """The moment of a row that isn't before another one: a time of the day alone is the next one from that on."""

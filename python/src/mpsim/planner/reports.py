@@ -4,7 +4,7 @@ from ..node_visits import NodeVisits, Visits
 from ..report import Report
 from ..runs import run
 from .files import say
-from .pooled import parts, pool_lines, pooled, pools
+from .pooled import names_of, pool_lines, pooled, pools, visits_at
 
 # At these nobody waits, and nobody is lost.
 PASSED = "source", "split", "fork"
@@ -42,15 +42,13 @@ def visits_of(report, asked):
             raise ValueError(f"{asked.report}: there is no node {name!r}; it has {', '.join(it.name for it in report.nodes)}")
     for line in pool_lines([report], asked.node) if asked.node else ():
         say(line)
-    return [pooled(report, it) if it in known else report.visits[it] for it in asked.node] + [pooled(report, it) for it in asked.pool]
+    return visits_at(report, asked.node) + [pooled(report, it) for it in asked.pool]
 
 
 def all_visits(report):
     """The visits (a list of NodeVisits) to all nodes at which somebody may wait, with those to each pool in place of its queue and its trunk group;
     a line says so."""
     known = pools(report)
-    place = {part: pool for pool in known for part in parts(report, pool)}
-    names = dict.fromkeys(place.get(it.name, it.name) for it in report.nodes if it.kind not in PASSED or it.name in place)
     for line in pool_lines([report]):
         say(line)
-    return [pooled(report, it) if it in known else report.visits[it] for it in names]
+    return visits_at(report, [it for it in names_of(report) if it in known or report[it].kind not in PASSED])

@@ -13,6 +13,7 @@ from ..errors import Error
 from ..runs import sweep_text
 from ..sweeps import Sweep
 from .scenarios import Plan, sum_of
+from .pooled import know_model
 from .table import rows
 
 
@@ -132,19 +133,22 @@ def told_of(fault):
     return (str(fault) or type(fault).__name__).split("\n", 1)[0]
 
 
-def rows_of(plan, trace, at, scenario, nodes=()):
-    """The rows (lists) of a scenario in the table, of the model of this number: one a node, or one that tells why it was refused."""
-    label, values, _ = plan.model(at)
+def rows_of(plan, trace, at, scenario, told, nodes=()):
+    """The rows (lists) of a scenario in the table, of the model of this number: one a node or a pool, or one that tells why it was refused. `told`
+    (PoolLines) sees what there is to say of pools."""
+    label, values, text = plan.model(at)
     head = [trace["label"], label, *values.values(), scenario.status]
     if scenario.report is None:
         width = len(plan.head()) - len(head) - 1
         return [[*head, *[None] * width, scenario.refusal.told]]
+    know_model(scenario.report, text)
+    told.see(scenario.report)
     return [[*head, scenario.report.span, *it, None] for it in rows(scenario.report, nodes=nodes)]
 
 
-def gather(folder, damaged, nodes=()):
+def gather(folder, damaged, told, nodes=()):
     """The header and the rows of the table, of all shards that are done, in the order of the scenarios, whoever ran them when. Those that are damaged
-    have no rows; they go into `damaged` (a dict by number), with what is wrong."""
+    have no rows; they go into `damaged` (a dict by number), with what is wrong. `told` (PoolLines) sees what there is to say of pools."""
     yield folder.plan.head()
     for shard in range(1, folder.plan.shards + 1):
         trace, models = folder.plan.shard(shard)
@@ -156,4 +160,4 @@ def gather(folder, damaged, nodes=()):
             damaged[shard] = told_of(fault)
             continue
         for at, scenario in sweep.items():
-            yield from rows_of(folder.plan, trace, at, scenario, nodes)
+            yield from rows_of(folder.plan, trace, at, scenario, told, nodes)

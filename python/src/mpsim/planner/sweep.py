@@ -10,8 +10,9 @@ from ..sweeps import Sweep, scenarios_of
 from . import shards
 from .elsewhere import by_parallel, by_slurm
 from .files import say, written
-from .scenarios import Plan, files_of, sets_of
+from .pooled import PoolLines, names_of, visits_at
 from .progress import Progress
+from .scenarios import Plan, files_of, sets_of
 from .traces import header_of, pool_warning
 
 EXAMPLE = """planner sweep model.txt trace.csv --set agents=20..40 --page sweep.html >table.csv
@@ -25,7 +26,7 @@ def words(parser):
     parser.add_argument("--set", action="append", default=[], metavar="NAME=VALUES", help="20..40, 20..40..5 or 1,2,5; each with each of others")
     parser.add_argument("--model", dest="models", action="extend", nargs="+", default=[], metavar="FILE", help="further models, or a pattern of them")
     parser.add_argument("--trace", dest="traces", action="extend", nargs="+", default=[], metavar="FILE", help="further traces, or a pattern of them")
-    parser.add_argument("--node", action="append", default=[], metavar="NAME", help="rows of this node alone; may be repeated")
+    parser.add_argument("--node", action="append", default=[], metavar="NAME", help="rows of this node, or pool, alone; may be repeated")
     parser.add_argument("--within", type=int, metavar="TICKS", help="with two columns of the share served within so many ticks; takes longer")
     parser.add_argument("--page", metavar="FILE", help="an HTML file with curves over the values as well")
     folder = parser.add_argument_group("any number of scenarios, on any machines")
@@ -61,11 +62,15 @@ def _plan(asked):
 
 def _shares(report, ticks, nodes):
     """For each row of a report the two shares that are served within so many ticks."""
-    for it in report.nodes:
-        if not nodes or it.name in nodes:
-            visits = report.visits[it.name]
-            shares = visits.share_within(ticks), visits.share_within(ticks, departed=True)
-            yield [None if share is None else round(share, 6) for share in shares]
+    for it in visits_at(report, names_of(report, nodes)):
+        shares = it.share_within(ticks), it.share_within(ticks, departed=True)
+        yield [None if share is None else round(share, 6) for share in shares]
+
+
+def _tell_pools(told, how):
+    """Says what was seen of pools (PoolLines), and where figures of them lack how they come to be there."""
+    for line in [*told.lines(), *told.lacks(how)]:
+        say(line)
 
 
 def _scenarios(plan, shard, with_jobs):
@@ -81,7 +86,7 @@ def _scenarios(plan, shard, with_jobs):
 
 def _in_memory(asked):
     """One shard after another; rows are written as they come, and reports kept for a page alone."""
-    plan, kept, refused = _plan(asked), Sweep(), False
+    plan, kept, refused, told = _plan(asked), Sweep(), False, PoolLines(asked.node)
     head = plan.head()
     if asked.within is not None:
         head[-1:-1] = [f"within_{asked.within}_of_all", f"within_{asked.within}_of_departed"]
@@ -91,7 +96,7 @@ def _in_memory(asked):
         for shard in range(1, plan.shards + 1):
             trace = plan.shard(shard)[0]
             for at, it in _scenarios(plan, shard, asked.within is not None):
-                found = shards.rows_of(plan, trace, at, it, asked.node)
+                found = shards.rows_of(plan, trace, at, it, told, asked.node)
                 if asked.within is not None:
                     shares = _shares(it.report, asked.within, asked.node) if it.report is not None else [[None, None]]
                     found = [[*row[:-1], *both, row[-1]] for row, both in zip(found, shares)]
@@ -100,6 +105,7 @@ def _in_memory(asked):
                 if asked.page:
                     kept[_label(plan, trace, at)] = it
                 tell(done)
+    _tell_pools(told, "planner sweep has them with --within")
     if asked.page:
         kept.save(asked.page, title=" ".join(asked.set) or None, within=asked.within)
     return 11 if refused else 0
@@ -198,12 +204,13 @@ def _in_folder(asked):
         return 0
     if not asked.table:
         _run(asked, folder)
-    damaged, refused, status = {}, False, folder.plan.head().index("status")
+    damaged, refused, status, told = {}, False, folder.plan.head().index("status"), PoolLines(asked.node)
     with written() as file:
         writer = csv.writer(file, lineterminator="\n")
-        for at, row in enumerate(shards.gather(folder, damaged, asked.node)):
+        for at, row in enumerate(shards.gather(folder, damaged, told, asked.node)):
             writer.writerow(row)
             refused = refused or at > 0 and row[status] != 0
+    _tell_pools(told, "planner sweep has them with --within, and without --folder")
     return 1 if _tell_lacking(folder, damaged) else 11 if refused else 0
 
 

@@ -6,7 +6,8 @@ from ..lines import NUMBERS
 from ..node_visits import Visit
 from ..runs import run
 from ..sweeps import Sweep, load
-from .files import written
+from .files import say, written
+from .pooled import names_of, pool_lines, visits_at, with_pools
 
 EXAMPLE = """planner table report.txt >nodes.csv
          planner table model.txt trace.csv --of visits --node desk >visits.csv
@@ -17,7 +18,7 @@ def words(parser):
     parser.add_argument("report", help="a report, or a sweep; or a model")
     parser.add_argument("trace", nargs="?", help="behind a model: its trace, which is run")
     parser.add_argument("--of", choices=["nodes", "exits", "visits"], default="nodes")
-    parser.add_argument("--node", action="append", default=[], metavar="NAME", help="rows of this node alone; may be repeated")
+    parser.add_argument("--node", action="append", default=[], metavar="NAME", help="rows of this node, or pool, alone; may be repeated")
     parser.add_argument("--labels", nargs="+", metavar="LABEL", help="what the scenarios of a sweep are called, as the names of their models")
 
 
@@ -27,19 +28,17 @@ def heads(of="nodes"):
 
 
 def rows(report, of="nodes", nodes=()):
-    """The rows (lists) of a report: of its nodes, its exits or its visits, in the order of its lines, where `nodes` are named of those alone. A
-    figure that there isn't is None. Raises ValueError for a node that isn't there, and where there are no visits."""
-    for name in nodes:
-        if name not in report:
-            raise ValueError(f"there is no node {name!r}; the report has {', '.join(it.name for it in report.nodes)}")
+    """The rows (lists) of a report: of its nodes, its exits or its visits, in the order of its lines, where `nodes` are named of those alone. A pool
+    stands in place of its queue and its trunk group, but for exits (`pooled.with_pools`). A figure that there isn't is None. Raises ValueError for a
+    node that isn't there, and where there are no visits."""
+    names = names_of(report, nodes)
     if of == "visits" and report.visits is None and report.jobs:
         raise ValueError("the report has no lines of jobs: mpsim writes them with --jobs")
-    names = set(nodes or (it.name for it in report.nodes))
     if of == "visits":
-        return (list(it) for name, visits in (report.visits or {}).items() if name in names for it in visits)
+        return (list(it) for visits in (visits_at(report, names) if report.visits else ()) for it in visits)
     if of == "exits":
-        return (list(it) for it in report.exits if it.name in names)
-    return ([*it[:-1], None if it.util is None else f"{it.util:.4f}"] for it in report.nodes if it.name in names)
+        return (list(it) for it in report.exits if not nodes or it.name in nodes)
+    return ([*it[:-1], None if it.util is None else f"{it.util:.4f}"] for it in with_pools(report, nodes).values())
 
 
 def table(told, of="nodes", nodes=(), head="scenario"):
@@ -82,5 +81,10 @@ def main(asked):
         told = load(asked.report, asked.labels)
     if asked.labels and not isinstance(told, Sweep):
         raise ValueError("--labels are those of a sweep, and this is one report")
+    # Each report is asked before a row is written.
+    found = table(told, asked.of, asked.node)
+    reports = list(told.reports().values()) if isinstance(told, Sweep) else [told]
+    for line in pool_lines(reports, asked.node, asked.of == "nodes") if asked.of != "exits" else ():
+        say(line)
     with written() as file:
-        csv.writer(file, lineterminator="\n").writerows(table(told, asked.of, asked.node))
+        csv.writer(file, lineterminator="\n").writerows(found)
