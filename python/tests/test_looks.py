@@ -194,7 +194,7 @@ class Looked(Looking):
             values = [it["expert"][word] for it in figures]
             dots = dict(zip(self.attributes("#curve circle", "data-label"), map(number, self.attributes("#curve circle", "data-v"))))
             self.assertEqual(dots, dict(zip("236", values)))
-            rows = [[number(it) for it in self.texts(f"#compared tr[data-run={run}] td")] for run in range(3)]
+            rows = [[number(it) for it in self.texts(f"#compared tr[data-run='{run}'] td")] for run in range(3)]
             self.assertEqual([row[1:] for row in rows], [[it["expert"][one] for one in words] for it in figures])
             self.assertEqual([row[0] for row in rows], [round(it - values[0], 4) for it in values])
         for at, report in enumerate(self.several):
@@ -293,7 +293,7 @@ class Looked(Looking):
         self.looker.pick("#run", 1)
         self.looker.click("g.node", self.nodes()["expert"])
         self.assertEqual(set(self.texts(".card b")), {"–"})
-        self.assertEqual(self.texts("#compared tr[data-run=1] td")[0], "–")
+        self.assertEqual(self.texts("#compared tr[data-run='1'] td")[0], "–")
 
 
 @unittest.skipUnless(NODE, "node isn't there")
