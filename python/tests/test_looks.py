@@ -311,6 +311,14 @@ class ByBrowser(Looked, Test):
         self.assertEqual(driver.execute_script('return performance.getEntriesByType("resource").length'), 0)
         self.assertEqual([it for it in driver.get_log("browser") if "favicon" not in it["message"]], [])
 
+    def test_nothing_is_cut_off(self):
+        """In a window of 1200 by 1000, with a further column, nothing is wider than its place."""
+        sweep = mpsim.sweep(day(), {it: places(it) for it in (1, 2, 4)}, jobs=True)
+        for made in page([self.report]), page(sweep.reports().values(), sweep, within=600):
+            self.looker.show(made)
+            script = "return [...document.querySelectorAll('html, .scroll, figure, p')].filter(it => it.scrollWidth > it.clientWidth).map(it => it.outerHTML)"
+            self.assertEqual(self.looker.driver.execute_script(script), [])
+
     def test_its_policy_lets_it_ask_for_nothing(self):
         """The same page from a server: its own server isn't asked either."""
         made = page([self.report])
