@@ -1,6 +1,6 @@
 """The Python package: each file of python/tests is run by unittest, in a process of its own, over the programs that the other checks run.
 
-A case is a test there; one that is left out, since pandas, numpy or hatchling isn't there, is told here.
+A case is a test there; one that is left out, since pandas, a browser, hatchling, GNU parallel or Slurm isn't there, is told here.
 """
 import re
 import sys

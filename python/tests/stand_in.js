@@ -60,7 +60,9 @@ class Element {
       if (part[0] === '.') return this.classList.contains(part.slice(1));
       if (part[0] !== '[') return this.name === part;
       const [name, value] = part.slice(1, -1).split('=');
-      return value === undefined ? this.hasAttribute(name) : this.getAttribute(name) === value;
+      // As a browser: a value that begins with a digit stands in quotes.
+      if (/^\d/.test(value)) throw new Error(`a value without quotes: ${word}`);
+      return value === undefined ? this.hasAttribute(name) : this.getAttribute(name) === value.replace(/^'(.*)'$/, '$1');
     });
   }
   querySelectorAll(selector) { return [...this.all()].filter(it => it.matches(selector)); }

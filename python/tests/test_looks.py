@@ -194,7 +194,7 @@ class Looked(Looking):
             values = [it["expert"][word] for it in figures]
             dots = dict(zip(self.attributes("#curve circle", "data-label"), map(number, self.attributes("#curve circle", "data-v"))))
             self.assertEqual(dots, dict(zip("236", values)))
-            rows = [[number(it) for it in self.texts(f"#compared tr[data-run={run}] td")] for run in range(3)]
+            rows = [[number(it) for it in self.texts(f"#compared tr[data-run='{run}'] td")] for run in range(3)]
             self.assertEqual([row[1:] for row in rows], [[it["expert"][one] for one in words] for it in figures])
             self.assertEqual([row[0] for row in rows], [round(it - values[0], 4) for it in values])
         for at, report in enumerate(self.several):
@@ -293,7 +293,7 @@ class Looked(Looking):
         self.looker.pick("#run", 1)
         self.looker.click("g.node", self.nodes()["expert"])
         self.assertEqual(set(self.texts(".card b")), {"–"})
-        self.assertEqual(self.texts("#compared tr[data-run=1] td")[0], "–")
+        self.assertEqual(self.texts("#compared tr[data-run='1'] td")[0], "–")
 
 
 @unittest.skipUnless(NODE, "node isn't there")
@@ -310,6 +310,14 @@ class ByBrowser(Looked, Test):
         driver = self.looker.driver
         self.assertEqual(driver.execute_script('return performance.getEntriesByType("resource").length'), 0)
         self.assertEqual([it for it in driver.get_log("browser") if "favicon" not in it["message"]], [])
+
+    def test_nothing_is_cut_off(self):
+        """In a window of 1200 by 1000, with a further column, nothing is wider than its place."""
+        sweep = mpsim.sweep(day(), {it: places(it) for it in (1, 2, 4)}, jobs=True)
+        for made in page([self.report]), page(sweep.reports().values(), sweep, within=600):
+            self.looker.show(made)
+            script = "return [...document.querySelectorAll('html, .scroll, figure, p')].filter(it => it.scrollWidth > it.clientWidth).map(it => it.outerHTML)"
+            self.assertEqual(self.looker.driver.execute_script(script), [])
 
     def test_its_policy_lets_it_ask_for_nothing(self):
         """The same page from a server: its own server isn't asked either."""

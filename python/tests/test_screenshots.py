@@ -2,6 +2,8 @@
 
 import os
 import pathlib
+import shutil
+import struct
 import subprocess
 import sys
 import tempfile
@@ -28,6 +30,18 @@ class Screenshots(Test):
             self.assertTrue(found[it["name"]].startswith(f"{it['name']}{it['kind']}{it['in']}{it['out']}{it['lost']}"), found)
         run = next(it for it in elements(sweep, "select") if it[1]["id"] == "run")
         self.assertEqual([text_in(it) for it in elements(run, "option")], [str(it) for it in range(8, 16)])
+
+    @unittest.skipUnless(shutil.which("chromium"), "Chromium isn't there")
+    def test_pictures(self):
+        """Those of docs are as wide and as high as the ones that Chromium makes, and none is large."""
+        with tempfile.TemporaryDirectory() as folder:
+            ran = subprocess.run([sys.executable, "-B", ROOT / "tools" / "screenshots", folder], stderr=subprocess.PIPE)
+            self.assertEqual((ran.returncode, ran.stderr), (0, b""))
+            for name, size in ("callcentre", (1200, 1320)), ("sweep", (1200, 990)):
+                for path in pathlib.Path(folder, f"{name}.png"), ROOT / "docs" / f"{name}.png":
+                    picture = path.read_bytes()
+                    self.assertEqual((picture[:8], struct.unpack(">II", picture[16:24])), (b"\x89PNG\r\n\x1a\n", size))
+                    self.assertLess(len(picture), 160_000)
 
     def test_without_chromium(self):
         words = [sys.executable, "-B", ROOT / "tools" / "screenshots", "/nowhere"]

@@ -101,7 +101,7 @@ function overTime(series, span, calendar) {
   came.forEach((value, at) => { bar(value, 'came', at); bar(lost[at], 'lost', at); });
   drawLines(p, series, [['max', 'max'], ['p90', 'p90'], ['p50', 'p50']]);
   const bars = `Bars: how many came${lost.some(it => it) ? ', and in the darker colour how many of them were lost or held' : ''}.`;
-  return html('figure', {}, html('h3', {}, 'Waits over time'), p.root, p.told, html('figcaption', {}, `Pieces of ${shown(width)} ticks. ${bars}`));
+  return html('figure', {}, html('h3', {}, 'Waits over time'), p.root, p.told, html('figcaption', {}, `Pieces of ${shown(width)} ticks. Lines: the waits, in ticks. ${bars}`));
 }
 
 // How many are in the node over time: of each piece the mean and the greatest. The last piece ends with the run; the axis is that of the waits.

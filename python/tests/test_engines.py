@@ -1,0 +1,105 @@
+"""planner sweep by GNU parallel and by Slurm themselves, where they are there (test_shards.py has scripts in their place): what a shard that is killed
+leaves, and that the table is that of single runs in the end."""
+
+import os
+import shutil
+import signal
+import subprocess
+import time
+import unittest
+
+from ground import heeds_signals, stand_in
+from test_shards import InFolder
+
+from mpsim import programs
+
+SHORT = "planner: 1 of 4 shards aren't in the table: planner sweep --folder {} --resume runs them"
+
+
+def is_gnu_parallel():
+    """Whether the `parallel` of the path is that of GNU."""
+    return bool(shutil.which("parallel")) and b"GNU parallel" in subprocess.run(["parallel", "--version"], stdout=subprocess.PIPE).stdout
+
+
+def has_slurm():
+    """Whether a Slurm answers that has a node to run on."""
+    if not shutil.which("sbatch"):
+        return False
+    try:
+        told = subprocess.run(["sinfo", "--noheader", "--states=idle,mixed,allocated", "--format=%D"], stdout=subprocess.PIPE, stderr=subprocess.PIPE, timeout=20)
+    except subprocess.TimeoutExpired:
+        return False
+    return told.returncode == 0 and bool(told.stdout.strip())
+
+
+class Engine:
+    """The tests; `ways` are the words that name the engine."""
+
+    def setUp(self):
+        super().setUp()
+        for it in self.path.iterdir():
+            it.unlink()
+        self.programs = self.folder / "programs"
+        self.programs.mkdir()
+
+    def test_a_shard_that_is_killed(self):
+        """With all that it started, and then its mpsweep alone."""
+        words, want = self.variants()
+        once = self.folder / "once"
+        for way in self.ways:
+            for killed in "$PPID", "$$":
+                stand_in(self.programs, "mpsweep", f'mkdir {once} 2>/dev/null && kill -9 {killed}\nexec {programs.find("mpsweep")} "$@"')
+                at = self.folder / f"a {killed[1:]} {self.ways.index(way)}"
+                status, out, lines = self.told(*words, "--folder", at, way, settings={"MPSIM_PROGRAMS": str(self.programs)})
+                self.assertEqual(status, 1, lines)
+                self.assertIn(SHORT.format(f"'{at}'"), lines)
+                self.assertEqual(sum("nothing is left: not begun, or killed" in it for it in lines), killed == "$PPID", lines)
+                shards = [it.name for it in (at / "0000").glob("*.txt")]
+                self.assertEqual(len(shards), 3)
+                table = set(want.splitlines())
+                self.assertTrue(table.issuperset(out.splitlines()))
+                self.assertEqual(self.told("--folder", at, "--resume", way)[:2], (11, want))
+                self.assertEqual([it for it in at.rglob("*") if it.suffix in (".part", ".failed")], [])
+                once.rmdir()
+
+
+@unittest.skipUnless(is_gnu_parallel(), "GNU parallel isn't there")
+class Parallel(Engine, InFolder):
+    ways = "--parallel=--jobs 2", "--parallel=--sshlogin :"
+
+    def test_stopped(self):
+        """By Ctrl-C and by a signal: nothing of the shards that ran is left, and none runs on."""
+        words, want = self.variants(130)
+        stand_in(self.programs, "mpsweep", f"echo scenario 1 status 0; sleep 1; echo >{self.folder}/runs; exec sleep 61.25")
+        for number, status in (signal.SIGINT, 130), (signal.SIGTERM, 143):
+            begin = ["--resume"] if self.at.exists() else words
+            settings = {"MPSIM_PROGRAMS": str(self.programs)}
+            with self.begun(*begin, "--folder", self.at, "--parallel=--jobs 2", settings=settings, preexec_fn=heeds_signals) as process:
+                for _ in range(600):
+                    if (self.folder / "runs").exists():
+                        break
+                    time.sleep(0.05)
+                process.send_signal(number)
+                _, line = process.communicate()
+            self.assertEqual(process.returncode, status, line)
+            left = [it for it in os.listdir("/proc") if it.isdigit() and self.words_of(it) == b"sleep\x0061.25\x00"]
+            self.assertEqual(left, [])
+            self.assertEqual([it.name for it in self.at.rglob("*") if it.is_file()], ["plan.json"])
+            (self.folder / "runs").unlink()
+        self.assertEqual(self.told("--folder", self.at, "--resume", "--parallel")[:2], (11, want))
+
+    def words_of(self, process):
+        try:
+            with open(f"/proc/{process}/cmdline", "rb") as file:
+                return file.read()
+        except OSError:
+            return b""
+
+
+@unittest.skipUnless(has_slurm(), "no Slurm answers")
+class Slurm(Engine, InFolder):
+    ways = "--slurm", "--slurm=--time=10"
+
+
+if __name__ == "__main__":
+    unittest.main()
