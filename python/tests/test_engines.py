@@ -1,5 +1,5 @@
-"""planner sweep by GNU parallel and by Slurm themselves, where they are there (test_shards.py has scripts in their place): what a shard that is killed
-leaves, and that the table is that of single runs in the end."""
+"""planner sweep by GNU parallel and by Slurm themselves, where they are there (test_shards.py has scripts in their place): what a shard that is
+killed leaves, and that the table is that of single runs in the end."""
 
 import os
 import shutil
@@ -26,7 +26,8 @@ def has_slurm():
     if not shutil.which("sbatch"):
         return False
     try:
-        told = subprocess.run(["sinfo", "--noheader", "--states=idle,mixed,allocated", "--format=%D"], stdout=subprocess.PIPE, stderr=subprocess.PIPE, timeout=20)
+        words = ["sinfo", "--noheader", "--states=idle,mixed,allocated", "--format=%D"]
+        told = subprocess.run(words, stdout=subprocess.PIPE, stderr=subprocess.PIPE, timeout=20)
     except subprocess.TimeoutExpired:
         return False
     return told.returncode == 0 and bool(told.stdout.strip())

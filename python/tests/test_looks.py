@@ -316,7 +316,10 @@ class ByBrowser(Looked, Test):
         sweep = mpsim.sweep(day(), {it: places(it) for it in (1, 2, 4)}, jobs=True)
         for made in page([self.report]), page(sweep.reports().values(), sweep, within=600):
             self.looker.show(made)
-            script = "return [...document.querySelectorAll('html, .scroll, figure, p')].filter(it => it.scrollWidth > it.clientWidth).map(it => it.outerHTML)"
+            script = (
+                "return [...document.querySelectorAll('html, .scroll, figure, p')]"
+                ".filter(it => it.scrollWidth > it.clientWidth).map(it => it.outerHTML)"
+            )
             self.assertEqual(self.looker.driver.execute_script(script), [])
 
     def test_its_policy_lets_it_ask_for_nothing(self):

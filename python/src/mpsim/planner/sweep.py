@@ -186,7 +186,8 @@ def _tell_lacking(folder, damaged):
         say(f"{missing:,} of {folder.plan.shards:,} shards aren't in the table: {again} runs them")
         parts = len(folder.parts())
         if parts:
-            say(f"{parts:,} files .part are of shards that still run, or were killed" if parts > 1 else "1 file .part is of a shard that still runs, or was killed")
+            several = f"{parts:,} files .part are of shards that still run, or were killed"
+            say(several if parts > 1 else "1 file .part is of a shard that still runs, or was killed")
     return missing
 
 
