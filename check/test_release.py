@@ -154,7 +154,9 @@ class Release(Check):
             for name in "info", "updates", "triggers", "parts":
                 (root / "var" / "lib" / "dpkg" / name).mkdir(parents=True, exist_ok=True)
             (root / "var" / "lib" / "dpkg" / "status").touch()
-            ran = run("dpkg", f"--root={root}", "--force-depends", "--log=/dev/null", "--install", package)
+            # It wants programs of folders that not everyone has on the path.
+            paths = {"PATH": f"{os.environ.get('PATH', os.defpath)}:/usr/local/sbin:/usr/sbin:/sbin"}
+            ran = run("dpkg", f"--root={root}", "--force-depends", "--log=/dev/null", "--install", package, settings=paths)
             self.same(f"{ran.command}\n{ran.line.decode()}", ran.status, 0)
             shown = run("dpkg-query", f"--admindir={root}/var/lib/dpkg", "-W", "-f", "${Package} ${Version} ${Status}", "mpsim").out.decode()
             self.same("what dpkg says", shown, f"mpsim {VERSION} install ok installed")
