@@ -32,7 +32,7 @@ use std::thread::Threads;
 pub fn arrivals_of<'a, R: Threads + Sync, G: Gate>(
     rt: &R,
     alloc: Global,
-    arriving: &Arriving<'a>,
+    arriving: &Arriving<'a, '_>,
     gate: &G,
 ) -> Result<List<Arrived<'a>>, OutOfMemory>
     requires { IsArriving arriving.now }

@@ -108,7 +108,7 @@ fn reads(node: &Node, port: usize) -> bool
 }
 
 // What comes to a node by its first two ports, or to a source.
-fn opening<'a>(alloc: Global, arriving: &Arriving<'a>, number: u32) -> Coming<'a>
+fn opening<'a>(alloc: Global, arriving: &Arriving<'a, '_>, number: u32) -> Coming<'a>
     requires arriving { IsArriving arriving.now }
     requires ready { Contains arriving.now.ready.now number }
     ensures { IsComing arriving.now 2 result }
@@ -122,7 +122,7 @@ fn opening<'a>(alloc: Global, arriving: &Arriving<'a>, number: u32) -> Coming<'a
 }
 
 // What comes to a node by its first port: what that reads.
-fn by_first_port<'a>(alloc: Global, arriving: &Arriving<'a>, node: &Node) -> Arrivals<'a>
+fn by_first_port<'a>(alloc: Global, arriving: &Arriving<'a, '_>, node: &Node) -> Arrivals<'a>
     requires ordered { AreOrdered arriving.now.outputs.now }
     requires there { (input : TheInput) → slice_get node.now.inputs 0 ≡ Some input → IsThere arriving.now.outputs.now input }
     ensures stream { IsStream (stream_in result) }
@@ -146,7 +146,7 @@ fn nothing(alloc: Global) -> Stream
 }
 
 // What comes by their first two ports to the nodes that are ready, or to the sources among them.
-fn openings<'a>(alloc: Global, arriving: &Arriving<'a>) -> Result<List<Coming<'a>>, OutOfMemory>
+fn openings<'a>(alloc: Global, arriving: &Arriving<'a, '_>) -> Result<List<Coming<'a>>, OutOfMemory>
     requires arriving { IsArriving arriving.now }
     ensures len { IfOk result (λ all. length all ≡ length arriving.now.ready.now) }
     ensures each { IfOk result (λ all. AllByRecursion (IsComing arriving.now 2) all) }
@@ -233,7 +233,7 @@ fn behind(alloc: Global, blocks: &Blocks, group: &List<Stream>) -> Result<Stream
 
 // What comes to a node by one port more, where it has one, and what came before.
 fn further<'a>(
-    arriving: &Arriving<'a>,
+    arriving: &Arriving<'a, '_>,
     number: u32,
     before: Arrivals<'a>,
     port: usize,
@@ -287,7 +287,7 @@ pub fn all_merged<'a>(
 // What comes to the nodes by one port more, where they have one, and what came before, put together from its pieces.
 fn all_further<'a>(
     alloc: Global,
-    arriving: &Arriving<'a>,
+    arriving: &Arriving<'a, '_>,
     comings: List<Coming<'a>>,
     groups: List<List<Stream>>,
     port: usize,
@@ -313,7 +313,7 @@ fn all_further<'a>(
 pub fn comings_of<'a, R: Threads + Sync, G: Gate>(
     rt: &R,
     alloc: Global,
-    arriving: &Arriving<'a>,
+    arriving: &Arriving<'a, '_>,
     gate: &G,
 ) -> Result<List<Coming<'a>>, OutOfMemory>
     requires { IsArriving arriving.now }

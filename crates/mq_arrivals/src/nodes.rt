@@ -5,13 +5,13 @@ use mq_merge::Arrivals;
 
 /// The nodes that are ready, and the streams of those that are done.
 #[derive(Clone, Copy)]
-pub struct Arriving<'a> {
+pub struct Arriving<'a, 'r> {
     pub plan: &'a Plan,
     pub rows: &'a Rows,
     /// What left each node, by output: of one that isn't done there is none.
     pub outputs: &'a [List<Stream>],
     /// The nodes that are ready, at most 64, by order of declaration.
-    pub ready: &'a [u32],
+    pub ready: &'r [u32],
     /// How many workers there are: 1 to 64.
     pub workers: u32,
     /// How many items a block has at least: 1 at least.

@@ -40,6 +40,8 @@ pub record Behaviour : Type 1 where
   pub mentioned : List ℕ
   -- how long a job stays that never waits
   pub bare : Rows → ℕ → ℕ
+  -- the emission with which the visit at a position leaves, once it has
+  pub exit : Station Local → ℕ → Option Emission
   -- what an emission says of its visit
   pub fate : Emission → Fate
   -- What its recurrence says, which the event list doesn't read: laws tie the two.
@@ -57,8 +59,6 @@ pub record Behaviour : Type 1 where
   pub order : EmissionOrder
   -- how many jobs one event may let out at most
   pub copies : ℕ
-  -- the emission with which the visit at a position leaves, once it has
-  pub exit : Station Local → ℕ → Option Emission
   -- whether a visit that leaves with an emission is still there for one that comes at a time, at a position
   pub there : ℕ → ℕ → Emission → Bool
   -- visits may stay for good

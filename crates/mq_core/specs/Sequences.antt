@@ -58,7 +58,8 @@ time_of_fate (Departs time) = time
 time_of_fate Lost = 0
 time_of_fate Held = 0
 
--- jobs and times by position, in the order in which they leave: by time and then position at a delay or a trunk group, else by position
+-- jobs and times of one output by position, in the order in which they leave by it: by time and then position at a delay or a trunk group, else by position (a loss
+-- station lets out by time over both outputs, and so by position on each)
 abbrev pub stream_in_order : Kind → Stream → Stream
 stream_in_order kind stream = stream_by (behaviour_of kind).order stream
 

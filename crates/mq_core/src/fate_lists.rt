@@ -204,6 +204,15 @@ impl<'a> Model for FateSlice<'a> {
 }
 
 impl<'a> FateSlice<'a> {
+    /// The fates of neighbouring visits that depart at these times, in ticks: none is lost or held.
+    pub fn departures(times: &'a [u64]) -> Self
+        ensures { result ≡ map (λ time. Departs time) times.now }
+    {
+        FateSlice {
+            kept: KeptSlice::Departures(times),
+        }
+    }
+
     /// The fate of the visit at an index, from 0, which is below the number of visits.
     // Each slice is bound once more, since of a variable the check knows that the slice fits memory.
     #[inline]

@@ -9,6 +9,7 @@ use Rattle.mq_base.proofs.lemmas.Lists.{some_inj}
 use Rattle.mq_crew.specs.Crew.{AreAll, total_size}
 use Rattle.mq_counts.proofs.Lists.{among-all, pushed-at}
 use Rattle.mq_counts.proofs.Pieces.{few-pieces, pieces-all}
+use Rattle.mq_counts.specs.Seen.{visits_in}
 use Rattle.mq_counts.specs.Tails.{AreCountedOf, IsTailIn}
 use Rattle.mq_counts.specs.TailPieces.{AreNodeWaits, AreWaitsIn, IsPieceCounts, IsWaited, counted_pieces, waits_in_piece}
 use Rattle.mq_counts.specs.Totals.{IsSumIn, pieces_in, start_of}
@@ -31,34 +32,34 @@ counts-there node group b counts all here = (counts-at node group b (Some counts
 
 -- the counts of the waits before a piece
 abbrev pub AreCountsBefore : NodeWaits → ℕ → WaitCounts → Type 0
-AreCountsBefore node b counts = AreCounts (waits_at node.rows.now node.kind.now (visits_between 0 (start_of node.size (length node.visits.now.job) b) node.visits.now)) counts
+AreCountsBefore node b counts = AreCounts (waits_at node.rows.now node.kind.now (visits_between 0 (start_of node.size (length (visits_in node.visits).job) b) (visits_in node.visits))) counts
 
 -- no wait is before the first
 pub counts-none : WaitsJoin → (node : NodeWaits) (sum : WaitCounts) → AreCounts [] sum → AreCountsBefore node 0 sum
 counts-none law node sum h =
-    let none : 0 ≡ start_of node.size (length node.visits.now.job) 0 = omega arith in
-    subst (λ n. AreCounts (waits_at node.rows.now node.kind.now (visits_between 0 n node.visits.now)) sum) none h
+    let none : 0 ≡ start_of node.size (length (visits_in node.visits).job) 0 = omega arith in
+    subst (λ n. AreCounts (waits_at node.rows.now node.kind.now (visits_between 0 n (visits_in node.visits))) sum) none h
 
 pub counts-more : WaitsJoin → (node : NodeWaits) (b : ℕ) (sum piece sum' : WaitCounts) → IsWaited node → AreCountsBefore node b sum → AreCounts (waits_in_piece node b) piece →
     ((waits more : List ℕ) → AreCounts waits sum → AreCounts more piece → AreCounts (waits ++ more) sum') → AreCountsBefore node (b + 1) sum'
 counts-more law node b sum piece sum' waited before its added =
-    let count = length node.visits.now.job in
+    let count = length (visits_in node.visits).job in
     let first : 0 ≤ start_of node.size count b = omega arith in
     let rises : start_of node.size count b ≤ start_of node.size count (b + 1) = omega arith in
     let within : start_of node.size count (b + 1) ≤ count = omega arith in
     subst (λ (waits : List ℕ). AreCounts waits sum')
-    (law.join node.rows.now node.kind.now node.visits.now waited.visits 0 (start_of node.size count b) (start_of node.size count (b + 1)) first rises within) (added _ _ before its)
+    (law.join node.rows.now node.kind.now (visits_in node.visits) waited.visits.visits 0 (start_of node.size count b) (start_of node.size count (b + 1)) first rises within) (added _ _ before its)
 
 -- together they are no more than came
 pub counts-few : WaitsJoin → (node : NodeWaits) (b : ℕ) (sum piece : WaitCounts) → IsWaited node → AreCountsBefore node b sum → AreCounts (waits_in_piece node b) piece → sum.many + piece.many ≤ 1048576
 counts-few law node b sum piece waited before its =
-    let jobs = node.visits.now.job in
+    let jobs = (visits_in node.visits).job in
     let count = length jobs in
-    let few = waited.visits.few in
+    let few = waited.visits.visits.few in
     let rises : start_of node.size count b ≤ start_of node.size count (b + 1) = omega arith in
     let within : start_of node.size count (b + 1) ≤ count = omega arith in
-    let low : length (waits_at node.rows.now node.kind.now (visits_between 0 (start_of node.size count b) node.visits.now)) ≤ length (visits_between 0 (start_of node.size count b) node.visits.now).job = law.few node.rows.now node.kind.now (visits_between 0 (start_of node.size count b) node.visits.now) in
-    let high : length (waits_in_piece node b) ≤ length (visits_between (start_of node.size count b) (start_of node.size count (b + 1)) node.visits.now).job = law.few node.rows.now node.kind.now (visits_between (start_of node.size count b) (start_of node.size count (b + 1)) node.visits.now) in
+    let low : length (waits_at node.rows.now node.kind.now (visits_between 0 (start_of node.size count b) (visits_in node.visits))) ≤ length (visits_between 0 (start_of node.size count b) (visits_in node.visits)).job = law.few node.rows.now node.kind.now (visits_between 0 (start_of node.size count b) (visits_in node.visits)) in
+    let high : length (waits_in_piece node b) ≤ length (visits_between (start_of node.size count b) (start_of node.size count (b + 1)) (visits_in node.visits)).job = law.few node.rows.now node.kind.now (visits_between (start_of node.size count b) (start_of node.size count (b + 1)) (visits_in node.visits)) in
     let came = length-between jobs 0 (start_of node.size count b) (omega arith) (omega arith) in
     let more = length-between jobs (start_of node.size count b) (start_of node.size count (b + 1)) rises within in
     let first = before.many in
@@ -69,11 +70,11 @@ counts-few law node b sum piece waited before its =
 some-pieces : (most pieces : ℕ) → 0 < most → cond {A = ℕ} (most == 0) 0 pieces ≡ pieces
 some-pieces most pieces l = grind (arith, nat_tests)
 
-pub counts-all : WaitsJoin → (node : NodeWaits) (b : ℕ) (sum : WaitCounts) → IsWaited node → 0 < node.most → b ≡ counted_pieces node → AreCountsBefore node b sum → AreCounts (waits_at node.rows.now node.kind.now node.visits.now) sum
+pub counts-all : WaitsJoin → (node : NodeWaits) (b : ℕ) (sum : WaitCounts) → IsWaited node → 0 < node.most → b ≡ counted_pieces node → AreCountsBefore node b sum → AreCounts (waits_at node.rows.now node.kind.now (visits_in node.visits)) sum
 counts-all law node b sum waited some e before =
-    let count = length node.visits.now.job in
+    let count = length (visits_in node.visits).job in
     let end : start_of node.size count b ≡ count = ap (start_of node.size count) (e ∙ some-pieces node.most (pieces_in node.size count) some) ∙ pieces-all node.size count (let least = waited.least in omega arith) in
-    subst (λ v. AreCounts (waits_at node.rows.now node.kind.now v) sum) (ap (λ n. visits_between 0 n node.visits.now) end ∙ law.whole node.rows.now node.kind.now node.visits.now waited.visits) before
+    subst (λ v. AreCounts (waits_at node.rows.now node.kind.now v) sum) (ap (λ n. visits_between 0 n (visits_in node.visits)) end ∙ law.whole node.rows.now node.kind.now (visits_in node.visits) waited.visits.visits) before
 
 -- Nodes. Few visits make few pieces.
 at-most : (b : Bool) (n : ℕ) → n ≤ 128 → cond b 0 n ≤ 128
@@ -83,10 +84,10 @@ at-most false n l = l
 pieces-few : (all : List NodeWaits) → Each IsWaited all → total_size counted_pieces all ≤ length all * 128
 pieces-few [] h = omega arith
 pieces-few (node ∷ all) h =
-    let few = h.0.visits.few in
+    let few = h.0.visits.visits.few in
     let rest = pieces-few all h.1 in
-    let own : pieces_in node.size (length node.visits.now.job) ≤ 128 = few-pieces node.size (length node.visits.now.job) h.0.least h.0.size few in
-    let one : counted_pieces node ≤ 128 = at-most (node.most == 0) (pieces_in node.size (length node.visits.now.job)) own in
+    let own : pieces_in node.size (length (visits_in node.visits).job) ≤ 128 = few-pieces node.size (length (visits_in node.visits).job) h.0.least h.0.size few in
+    let one : counted_pieces node ≤ 128 = at-most (node.most == 0) (pieces_in node.size (length (visits_in node.visits).job)) own in
     omega arith
 
 pub waits-few : (nodes : List NodeVisits) (count : ℕ) (all : List NodeWaits) → AreNodeWaits nodes count all → count < 2 ^ 16 → total_size counted_pieces all < 2 ^ 32
@@ -94,8 +95,8 @@ waits-few nodes count all h few = let len = h.len in let most = pieces-few all h
 
 -- those at the node at an index
 pub waits-of : (nodes : List NodeVisits) (v : ℕ) (node : NodeVisits) (its : NodeWaits) → slice_get nodes v ≡ Some node →
-    waits_at its.rows.now its.kind.now its.visits.now ≡ waits_at node.rows.now node.kind.now node.visits.now → AreWaitsIn nodes v its
-waits-of nodes v node its here e other there = e ∙ ap (λ (n : NodeVisits). waits_at n.rows.now n.kind.now n.visits.now) (some_inj node other (sym here ∙ there))
+    waits_at its.rows.now its.kind.now (visits_in its.visits) ≡ waits_at node.rows.now node.kind.now (visits_in node.visits) → AreWaitsIn nodes v its
+waits-of nodes v node its here e other there = e ∙ ap (λ (n : NodeVisits). waits_at n.rows.now n.kind.now (visits_in n.visits)) (some_inj node other (sym here ∙ there))
 
 -- the visits to no node, and to all nodes
 pub waits-none : (nodes : List NodeVisits) (all : List NodeWaits) → all ≡ [] → AreNodeWaits nodes 0 all
@@ -117,7 +118,7 @@ waits-more nodes v all all' its so_far waited at grown =
     }
 
 -- what was counted of a node
-pub counted-at : (nodes : List NodeVisits) (v : ℕ) (its : NodeWaits) (tail : Option Percentiles) → AreWaitsIn nodes v its → IfSome tail (ArePercentiles (waits_at its.rows.now its.kind.now its.visits.now)) → IfSome tail (IsTailIn nodes v)
+pub counted-at : (nodes : List NodeVisits) (v : ℕ) (its : NodeWaits) (tail : Option Percentiles) → AreWaitsIn nodes v its → IfSome tail (ArePercentiles (waits_at its.rows.now its.kind.now (visits_in its.visits))) → IfSome tail (IsTailIn nodes v)
 counted-at nodes v its None at h = tt
 counted-at nodes v its (Some tail) at h = λ node there. subst (λ (waits : List ℕ). ArePercentiles waits tail) (at node there) h
 
@@ -140,5 +141,5 @@ counted-more nodes v counted counted' tail so_far at grown =
     }
 
 -- the counts that were made with the totals of the node at an index are those of its waits
-pub sum-at : (nodes : List NodeVisits) (v : ℕ) (its : NodeWaits) (sum : BlockCount) (node : NodeVisits) → slice_get nodes v ≡ Some node → AreWaitsIn nodes v its → IsSumIn nodes v sum → IfSome sum.waits (AreCounts (waits_at its.rows.now its.kind.now its.visits.now))
+pub sum-at : (nodes : List NodeVisits) (v : ℕ) (its : NodeWaits) (sum : BlockCount) (node : NodeVisits) → slice_get nodes v ≡ Some node → AreWaitsIn nodes v its → IsSumIn nodes v sum → IfSome sum.waits (AreCounts (waits_at its.rows.now its.kind.now (visits_in its.visits)))
 sum-at nodes v its sum node there at are = subst (λ (waits : List ℕ). IfSome sum.waits (AreCounts waits)) (sym (at node there)) (are node there).waits

@@ -21,6 +21,7 @@ use Rattle.mq_counts.proofs.Lists.{pushed-at}
 use Rattle.mq_counts.specs.Counts.{AreCountable, AreCounts, AreCountsOf, AreNodeCounts, IsCountAt, IsCountOf}
 use Rattle.mq_counts.specs.Later.{HeldStayOn, held_on}
 use Rattle.mq_counts.specs.Runs.{AreFirstSequences, AreSequencesOf}
+use Rattle.mq_counts.specs.Seen.{streams_in, visits_in}
 use Rattle.mq_counts.specs.declared.counts.Counts.{Counts}
 use Rattle.mq_counts.specs.declared.counts.NodeSequences.{NodeSequences}
 use Rattle.mq_counts.specs.declared.counts.NodeCount.{NodeCount}
@@ -62,7 +63,7 @@ node-counts plan rows form all counts sequences are = record {
       let inside : v < length all = subst (λ (n : ℕ). v < n) (sym sequences.len) (slice_get_within plan.net.nodes v node there) in
       let its = get-some all v inside in
       let of = sequences.each v its.0 its.1 node there in
-      let is = subst (λ (c : NodeCount). IsCountOf plan.net.nodes rows form its.0.number its.0.kind.now its.0.visits.now its.0.streams.now c) (get_or_from_slice_get counts v count count here) (are.each v count inside its.0 its.1) in
+      let is = subst (λ (c : NodeCount). IsCountOf plan.net.nodes rows form its.0.number its.0.kind.now (visits_in its.0.visits) (streams_in its.0.streams) c) (get_or_from_slice_get counts v count count here) (are.each v count inside its.0 its.1) in
       subst (λ (p : ℕ × Kind × Visits × List Stream). IsCountOf plan.net.nodes rows form p.0 p.1 p.2 p.3 count) (λ i. (of.number i, of.kind i, of.visits i, of.streams i)) is;
 }
 

@@ -16,6 +16,7 @@ use Rattle.mq_counts.proofs.Lists.{among-all, each-has, pushed-at}
 use Rattle.mq_counts.proofs.Pieces.{few-pieces, pieces-all}
 use Rattle.mq_counts.specs.Counts.{AreExits, is_read}
 use Rattle.mq_counts.specs.Leaving.{AreExitsAt, AreNodeStreams, AreStreams, AreStreamsIn, IsExitAt, IsExitIn, exit_pieces}
+use Rattle.mq_counts.specs.Seen.{streams_in}
 use Rattle.mq_counts.specs.Totals.{start_of}
 use Rattle.mq_counts.specs.declared.counts.NodeSequences.{NodeSequences}
 use Rattle.mq_counts.specs.declared.leaving.NodeStreams.{NodeStreams}
@@ -32,9 +33,9 @@ pub record AreReadTo (nodes : List Node) (v : ℕ) (streams : List Stream) (coun
 pub read-none : (nodes : List Node) (v : ℕ) (streams : List Stream) (read : List Bool) → read ≡ [] → AreReadTo nodes v streams 0 read 0
 read-none nodes v streams read none = rw none (record { len = refl; few = omega arith; each = λ out flag here. absurd cc })
 
-pub read-more : (nodes : List Node) (v : ℕ) (streams : List Stream) (out : ℕ) (read read' : List Bool) (most told most' : ℕ) (flag : Bool) (stream : Stream) → AreReadTo nodes v streams out read most → slice_get streams out ≡ Some stream →
-    flag ≡ is_read nodes v out → (flag ≡ false → told ≡ length stream.job) → told ≤ 1048576 → most' ≡ max most told → read' ≡ read ++ flag ∷ [] → AreReadTo nodes v streams (out + 1) read' most'
-read-more nodes v streams out read read' most told most' flag stream so_far here is all few greater grown =
+pub read-more : (nodes : List Node) (v : ℕ) (streams : List Stream) (out : ℕ) (read read' : List Bool) (most told most' : ℕ) (flag : Bool) → AreReadTo nodes v streams out read most →
+    flag ≡ is_read nodes v out → ((stream : Stream) → slice_get streams out ≡ Some stream → flag ≡ false → told ≡ length stream.job) → told ≤ 1048576 → most' ≡ max most told → read' ≡ read ++ flag ∷ [] → AreReadTo nodes v streams (out + 1) read' most'
+read-more nodes v streams out read read' most told most' flag so_far is all few greater grown =
     let one = length-append read (flag ∷ []) in
     let len = so_far.len in
     let longer = ap length grown in
@@ -46,10 +47,10 @@ read-more nodes v streams out read read' most told most' flag stream so_far here
       few = omega arith;
       each = pushed-at (λ o (x : Bool). (x ≡ is_read nodes v o) × ((s : Stream) → slice_get streams o ≡ Some s → x ≡ false → length s.job ≤ most')) out read read' flag so_far.len
           (λ o x there. ((so_far.each o x there).0, λ s at free. let before = (so_far.each o x there).1 s at free in omega arith))
-          (is, λ s at free. let same : length s.job ≡ told = ap (λ (x : Stream). length x.job) (some_inj s stream (sym at ∙ here)) ∙ sym (all free) in omega arith) grown;
+          (is, λ s at free. let same = all s at free in omega arith) grown;
     }
 
-pub streams-fit : (nodes : List Node) (v out : ℕ) (its : NodeStreams) → AreReadTo nodes v its.streams.now out its.read its.most → out ≡ length its.streams.now → Each (AreLeaving its.rows.now) its.streams.now → AreStreams its
+pub streams-fit : (nodes : List Node) (v out : ℕ) (its : NodeStreams) → AreReadTo nodes v (streams_in its.streams) out its.read its.most → out ≡ length (streams_in its.streams) → Each (AreLeaving its.rows.now) (streams_in its.streams) → AreStreams its
 streams-fit nodes v out its so_far e leaving = record {
   leaving = leaving;
   even = so_far.len ∙ e;
@@ -57,8 +58,8 @@ streams-fit nodes v out its so_far e leaving = record {
   within = λ o stream here free. (so_far.each o false free).1 stream here refl;
 }
 
-pub streams-are : (nodes : List Node) (rows : Rows) (sequences : NodeSequences) (out : ℕ) (its : NodeStreams) → AreReadTo nodes sequences.number sequences.streams.now out its.read its.most → out ≡ length sequences.streams.now →
-    its.rows.now ≡ rows → its.streams.now ≡ sequences.streams.now → AreStreamsIn nodes rows sequences its
+pub streams-are : (nodes : List Node) (rows : Rows) (sequences : NodeSequences) (out : ℕ) (its : NodeStreams) → AreReadTo nodes sequences.number (streams_in sequences.streams) out its.read its.most → out ≡ length (streams_in sequences.streams) →
+    its.rows.now ≡ rows → streams_in its.streams ≡ streams_in sequences.streams → AreStreamsIn nodes rows sequences its
 streams-are nodes rows sequences out its so_far e table streams = record {
   table = table;
   streams = streams;
@@ -102,7 +103,7 @@ exits-few all h few = let most = pieces-few all h in omega arith
 -- Pieces. What leaves by an output in those before an index.
 abbrev pub IsExitBefore : NodeStreams → ℕ → ℕ → Exit → Type 0
 IsExitBefore node out b exit =
-    (stream : Stream) → slice_get node.streams.now out ≡ Some stream → slice_get node.read out ≡ Some false → IsExitOf node.rows.now (stream_between 0 (start_of 16384 (length stream.job) b) stream) exit
+    (stream : Stream) → slice_get (streams_in node.streams) out ≡ Some stream → slice_get node.read out ≡ Some false → IsExitOf node.rows.now (stream_between 0 (start_of 16384 (length stream.job) b) stream) exit
 
 pub exit-before-none : (node : NodeStreams) (out : ℕ) (exit : Exit) → exit.count ≡ 0 → exit.sojourn ≡ 0 → IsExitBefore node out 0 exit
 exit-before-none node out exit nobody none stream here free =
@@ -115,14 +116,14 @@ exit-before-more law node out b sum piece sum' fit before its count sojourn stre
     let first : 0 ≤ start_of 16384 jobs b = omega arith in
     let rises : start_of 16384 jobs b ≤ start_of 16384 jobs (b + 1) = omega arith in
     let within : start_of 16384 jobs (b + 1) ≤ jobs = omega arith in
-    law.join node.rows.now stream (each-has (AreLeaving node.rows.now) node.streams.now out stream fit.leaving here) 0 (start_of 16384 jobs b) (start_of 16384 jobs (b + 1)) first rises within sum piece sum' (before stream here free) (its stream here free) count sojourn
+    law.join node.rows.now stream (each-has (AreLeaving node.rows.now) (streams_in node.streams) out stream fit.leaving here) 0 (start_of 16384 jobs b) (start_of 16384 jobs (b + 1)) first rises within sum piece sum' (before stream here free) (its stream here free) count sojourn
 
 -- together they are no more jobs than leave
-pub exits-are-few : (node : NodeStreams) (out b : ℕ) (sum piece : Exit) → AreStreams node → out < length node.streams.now → slice_get node.read out ≡ Some false → IsExitBefore node out b sum → IsExitIn node b out piece → sum.count + piece.count ≤ 1048576
+pub exits-are-few : (node : NodeStreams) (out b : ℕ) (sum piece : Exit) → AreStreams node → out < length (streams_in node.streams) → slice_get node.read out ≡ Some false → IsExitBefore node out b sum → IsExitIn node b out piece → sum.count + piece.count ≤ 1048576
 exits-are-few node out b sum piece fit inside free before its =
-    let stream = get-some node.streams.now out inside in
+    let stream = get-some (streams_in node.streams) out inside in
     let jobs = stream.0.job in
-    let leaving = each-has (AreLeaving node.rows.now) node.streams.now out stream.0 fit.leaving stream.1 in
+    let leaving = each-has (AreLeaving node.rows.now) (streams_in node.streams) out stream.0 fit.leaving stream.1 in
     let few = leaving.few in
     let rises : start_of 16384 (length jobs) b ≤ start_of 16384 (length jobs) (b + 1) = omega arith in
     let within : start_of 16384 (length jobs) (b + 1) ≤ length jobs = omega arith in
@@ -131,9 +132,9 @@ exits-are-few node out b sum piece fit inside free before its =
     omega arith
 
 -- and their sums are small
-pub exit-is-small : (node : NodeStreams) (out b : ℕ) (sum piece : Exit) → out < length node.streams.now → slice_get node.read out ≡ Some false → IsExitBefore node out b sum → IsExitIn node b out piece → (sum.sojourn ≤ sum.count * 2 ^ 64) × (piece.sojourn ≤ piece.count * 2 ^ 64)
+pub exit-is-small : (node : NodeStreams) (out b : ℕ) (sum piece : Exit) → out < length (streams_in node.streams) → slice_get node.read out ≡ Some false → IsExitBefore node out b sum → IsExitIn node b out piece → (sum.sojourn ≤ sum.count * 2 ^ 64) × (piece.sojourn ≤ piece.count * 2 ^ 64)
 exit-is-small node out b sum piece inside free before its =
-    let stream = get-some node.streams.now out inside in
+    let stream = get-some (streams_in node.streams) out inside in
     ((before stream.0 stream.1 free).small, (its stream.0 stream.1 free).small)
 
 -- the pieces of the longest stream are all of each
@@ -144,14 +145,14 @@ exit-all law node out b sum fit e before stream here free =
     let within = fit.within out stream here free in
     let end : start_of 16384 jobs b ≡ jobs = ap (start_of 16384 jobs) e ∙ (omega arith) in
     (before stream here free).told ∙ ap (sequence_exit node.rows.now)
-    (ap (λ n. stream_between 0 n stream) end ∙ law.whole node.rows.now stream (each-has (AreLeaving node.rows.now) node.streams.now out stream fit.leaving here))
+    (ap (λ n. stream_between 0 n stream) end ∙ law.whole node.rows.now stream (each-has (AreLeaving node.rows.now) (streams_in node.streams) out stream fit.leaving here))
 
 -- what leaves a node by each output
-pub exits-told : (nodes : List Node) (rows : Rows) (sequences : NodeSequences) (its : NodeStreams) (exits : List Exit) → AreStreamsIn nodes rows sequences its → AreExitsAt its exits → AreExits nodes rows sequences.number sequences.streams.now exits
+pub exits-told : (nodes : List Node) (rows : Rows) (sequences : NodeSequences) (its : NodeStreams) (exits : List Exit) → AreStreamsIn nodes rows sequences its → AreExitsAt its exits → AreExits nodes rows sequences.number (streams_in sequences.streams) exits
 exits-told nodes rows sequences its exits are told = record {
   len = told.len ∙ ap length are.streams;
   each = λ out stream exit there here free.
-      let inside = slice_get_within sequences.streams.now out stream there in
-      among-all (IsExitAt its) (length its.streams.now) exits out exit told here stream (ap (λ l. slice_get l out) are.streams ∙ there) (are.read out inside ∙ ap Some free)
+      let inside = slice_get_within (streams_in sequences.streams) out stream there in
+      among-all (IsExitAt its) (length (streams_in its.streams)) exits out exit told here stream (ap (λ l. slice_get l out) are.streams ∙ there) (are.read out inside ∙ ap Some free)
       ∙ ap (λ r. sequence_exit r stream) are.table;
 }

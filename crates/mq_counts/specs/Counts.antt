@@ -17,9 +17,10 @@ use Rattle.mq_counts.specs.declared.counts.Counts.{Counts}
 use Rattle.mq_counts.specs.declared.counts.NodeSequences.{NodeSequences}
 use Rattle.mq_counts.specs.declared.counts.NodeCount.{NodeCount}
 use Rattle.mq_counts.specs.declared.totals.NodeVisits.{NodeVisits}
+use Rattle.mq_counts.specs.Seen.{AreSeen, streams_in, visits_in}
 use Rattle.mq_counts.specs.Totals.{IsVisited}
 use Rattle.mq_stats.specs.Lasts.{last_event}
-use Rattle.mq_stats.specs.Numbers.{AreLeaving, AreSmall, AreVisits, totals_from}
+use Rattle.mq_stats.specs.Numbers.{AreLeaving, AreSmall, totals_from}
 use Rattle.mq_stats.specs.Percentiles.{ArePercentiles, waits_at}
 use Rattle.mq_stats.specs.declared.exits.Exit.{Exit}
 
@@ -29,8 +30,8 @@ is_read nodes v out = list_any (λ (node : Node). list_any (λ (i : Input). (i.n
 
 -- the numbers of a node can be worked out from its visits and what left it
 pub record AreCountable (rows : Rows) (sequences : NodeSequences) : Type 0 where
-  pub visits : AreVisits rows sequences.kind.now sequences.visits.now
-  pub streams : AllByRecursion (AreLeaving rows) sequences.streams.now
+  pub visits : AreSeen rows sequences.kind.now sequences.visits
+  pub streams : AllByRecursion (AreLeaving rows) (streams_in sequences.streams)
 
 -- what leaves by each output that no input reads
 pub record AreExits (nodes : List Node) (rows : Rows) (v : ℕ) (streams : List Stream) (exits : List Exit) : Type 0 where
@@ -49,7 +50,7 @@ pub record IsCountOf (nodes : List Node) (rows : Rows) (form v : ℕ) (kind : Ki
 -- the same of the node at an index
 abbrev pub IsCountIn : List Node → Rows → ℕ → List NodeSequences → ℕ → NodeCount → Type 0
 IsCountIn nodes rows form all i count =
-    (sequences : NodeSequences) → slice_get all i ≡ Some sequences → IsCountOf nodes rows form sequences.number sequences.kind.now sequences.visits.now sequences.streams.now count
+    (sequences : NodeSequences) → slice_get all i ≡ Some sequences → IsCountOf nodes rows form sequences.number sequences.kind.now (visits_in sequences.visits) (streams_in sequences.streams) count
 
 -- of each node
 abbrev pub AreCountsOf : List Node → Rows → ℕ → List NodeSequences → List NodeCount → Type 0
@@ -59,8 +60,8 @@ AreCountsOf nodes rows form all counts = AreAll (IsCountIn nodes rows form all) 
 pub record IsVisitsIn (rows : Rows) (sequences : NodeSequences) (its : NodeVisits) : Type 0 where
   pub table : its.rows.now ≡ rows
   pub kind : its.kind.now ≡ sequences.kind.now
-  pub visits : its.visits.now ≡ sequences.visits.now
-  pub span : its.span ≡ last_event sequences.visits.now sequences.streams.now
+  pub visits : visits_in its.visits ≡ visits_in sequences.visits
+  pub span : its.span ≡ last_event (visits_in sequences.visits) (streams_in sequences.streams)
 
 -- those of the first of these, as many as this
 pub record AreVisitsIn (rows : Rows) (all : List NodeSequences) (count : ℕ) (visits : List NodeVisits) : Type 0 where

@@ -7,6 +7,7 @@ use Rattle.mq_core.specs.declared.model.Rows.{Rows}
 use Rattle.mq_core.specs.declared.model.Stream.{Stream}
 use Rattle.mq_crew.specs.Crew.{AreAll, AreGroups}
 use Rattle.mq_counts.specs.Counts.{is_read}
+use Rattle.mq_counts.specs.Seen.{streams_in}
 use Rattle.mq_counts.specs.Totals.{pieces_in, start_of}
 use Rattle.mq_counts.specs.declared.counts.NodeSequences.{NodeSequences}
 use Rattle.mq_counts.specs.declared.leaving.NodeStreams.{NodeStreams}
@@ -17,10 +18,10 @@ use Rattle.mq_stats.specs.declared.exits.Exit.{Exit}
 
 -- streams of jobs of the rows, of which those that no input reads are no longer than this
 pub record AreStreams (node : NodeStreams) : Type 0 where
-  pub leaving : AllByRecursion (AreLeaving node.rows.now) node.streams.now
-  pub even : length node.read ≡ length node.streams.now
+  pub leaving : AllByRecursion (AreLeaving node.rows.now) (streams_in node.streams)
+  pub even : length node.read ≡ length (streams_in node.streams)
   pub few : node.most ≤ 1048576
-  pub within : (out : ℕ) (stream : Stream) → slice_get node.streams.now out ≡ Some stream → slice_get node.read out ≡ Some false → length stream.job ≤ node.most
+  pub within : (out : ℕ) (stream : Stream) → slice_get (streams_in node.streams) out ≡ Some stream → slice_get node.read out ≡ Some false → length stream.job ≤ node.most
 
 -- how many pieces they make, of 16,384 positions each
 abbrev pub exit_pieces : NodeStreams → ℕ
@@ -33,26 +34,26 @@ stream_piece b stream = stream_between (start_of 16384 (length stream.job) b) (s
 -- what leaves by an output in a piece, unless some input reads it
 abbrev pub IsExitIn : NodeStreams → ℕ → ℕ → Exit → Type 0
 IsExitIn node b out exit =
-    (stream : Stream) → slice_get node.streams.now out ≡ Some stream → slice_get node.read out ≡ Some false → IsExitOf node.rows.now (stream_piece b stream) exit
+    (stream : Stream) → slice_get (streams_in node.streams) out ≡ Some stream → slice_get node.read out ≡ Some false → IsExitOf node.rows.now (stream_piece b stream) exit
 
 -- the same of each output
 abbrev pub AreExitsIn : NodeStreams → ℕ → List Exit → Type 0
-AreExitsIn node b exits = AreAll (IsExitIn node b) (length node.streams.now) exits
+AreExitsIn node b exits = AreAll (IsExitIn node b) (length (streams_in node.streams)) exits
 
 -- what leaves by an output in all of them, unless some input reads it
 abbrev pub IsExitAt : NodeStreams → ℕ → Exit → Type 0
 IsExitAt node out exit =
-    (stream : Stream) → slice_get node.streams.now out ≡ Some stream → slice_get node.read out ≡ Some false → (exit.count, exit.sojourn) ≡ sequence_exit node.rows.now stream
+    (stream : Stream) → slice_get (streams_in node.streams) out ≡ Some stream → slice_get node.read out ≡ Some false → (exit.count, exit.sojourn) ≡ sequence_exit node.rows.now stream
 
 -- the same of each output
 abbrev pub AreExitsAt : NodeStreams → List Exit → Type 0
-AreExitsAt node exits = AreAll (IsExitAt node) (length node.streams.now) exits
+AreExitsAt node exits = AreAll (IsExitAt node) (length (streams_in node.streams)) exits
 
 -- these are the streams of a node
 pub record AreStreamsIn (nodes : List Node) (rows : Rows) (sequences : NodeSequences) (its : NodeStreams) : Type 0 where
   pub table : its.rows.now ≡ rows
-  pub streams : its.streams.now ≡ sequences.streams.now
-  pub read : (out : ℕ) → out < length sequences.streams.now → slice_get its.read out ≡ Some (is_read nodes sequences.number out)
+  pub streams : streams_in its.streams ≡ streams_in sequences.streams
+  pub read : (out : ℕ) → out < length (streams_in sequences.streams) → slice_get its.read out ≡ Some (is_read nodes sequences.number out)
 
 -- those of the first of these nodes, as many as this
 pub record AreNodeStreams (nodes : List Node) (rows : Rows) (all : List NodeSequences) (count : ℕ) (streams : List NodeStreams) : Type 0 where

@@ -9,14 +9,15 @@ use Rattle.mq_core.specs.declared.model.Node.{Node}
 use Rattle.mq_core.specs.declared.model.Plan.{Plan}
 use Rattle.mq_core.specs.declared.model.Rows.{Rows}
 use Rattle.mq_counts.specs.Counts.{AreCountable}
+use Rattle.mq_counts.specs.Seen.{streams_in, visits_in}
 use Rattle.mq_counts.specs.declared.counts.NodeSequences.{NodeSequences}
 
 -- these are the visits and the streams of a node
 pub record AreSequencesOf (plan : Plan) (rows : Rows) (v : ℕ) (node : Node) (sequences : NodeSequences) : Type 0 where
   pub number : sequences.number ≡ v
   pub kind : sequences.kind.now ≡ node.kind
-  pub visits : sequences.visits.now ≡ visits_of node.kind ((run_of plan rows).stations v)
-  pub streams : sequences.streams.now ≡ streams_below (run_of plan rows) v (outputs_in node.kind)
+  pub visits : visits_in sequences.visits ≡ visits_of node.kind ((run_of plan rows).stations v)
+  pub streams : streams_in sequences.streams ≡ streams_below (run_of plan rows) v (outputs_in node.kind)
 
 -- those of the first nodes, as many as this
 pub record AreFirstSequences (plan : Plan) (rows : Rows) (count : ℕ) (all : List NodeSequences) : Type 0 where

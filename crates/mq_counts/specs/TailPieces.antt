@@ -2,17 +2,18 @@
 use Rattle.std.specs.List.{AllByRecursion}
 use Rattle.std.specs.Prelude.{◌≡◌, ◌+◌, ◌≤◌, ◌↔◌, ◌==◌, ℕ, IfSome, IsSome, List, Option, cond, length, Some, slice_get}
 use Rattle.mq_core.specs.declared.model.Visits.{Visits}
+use Rattle.mq_counts.specs.Seen.{AreSeen, visits_in}
 use Rattle.mq_counts.specs.Totals.{pieces_in, start_of}
 use Rattle.mq_counts.specs.declared.tail_pieces.NodeWaits.{NodeWaits}
 use Rattle.mq_counts.specs.declared.totals.NodeVisits.{NodeVisits}
-use Rattle.mq_stats.specs.Numbers.{AreVisits, visits_between}
+use Rattle.mq_stats.specs.Numbers.{visits_between}
 use Rattle.mq_stats.specs.Percentiles.{longest_wait, waits_at}
 use Rattle.mq_stats.specs.WaitCounts.{AreCounts}
 use Rattle.mq_stats.specs.declared.wait_counts.WaitCounts.{WaitCounts}
 
 -- visits to a node, a bound up to which a table can count, and how many visits a piece may have: no fewer than a table counts ticks
 pub record IsWaited (node : NodeWaits) : Type 0 where
-  pub visits : AreVisits node.rows.now node.kind.now node.visits.now
+  pub visits : AreSeen node.rows.now node.kind.now node.visits
   pub most : node.most ≤ 1048576
   pub least : 16384 ≤ node.size
   pub size : node.size ≤ 1048576
@@ -20,13 +21,13 @@ pub record IsWaited (node : NodeWaits) : Type 0 where
 
 -- how many pieces they make: none where no wait is counted
 abbrev pub counted_pieces : NodeWaits → ℕ
-counted_pieces node = cond (node.most == 0) 0 (pieces_in node.size (length node.visits.now.job))
+counted_pieces node = cond (node.most == 0) 0 (pieces_in node.size (length (visits_in node.visits).job))
 
 -- the visits of a piece
 abbrev pub visits_in_piece : NodeWaits → ℕ → Visits
 visits_in_piece node b =
-    let count = length node.visits.now.job in
-    visits_between (start_of node.size count b) (start_of node.size count (b + 1)) node.visits.now
+    let count = length (visits_in node.visits).job in
+    visits_between (start_of node.size count b) (start_of node.size count (b + 1)) (visits_in node.visits)
 
 -- and their waits
 abbrev pub waits_in_piece : NodeWaits → ℕ → List ℕ
@@ -41,7 +42,7 @@ pub record IsPieceCounts (node : NodeWaits) (b : ℕ) (counts : Option WaitCount
 abbrev pub AreWaitsIn : List NodeVisits → ℕ → NodeWaits → Type 0
 AreWaitsIn nodes v its =
     (node : NodeVisits) → slice_get nodes v ≡ Some node →
-    waits_at its.rows.now its.kind.now its.visits.now ≡ waits_at node.rows.now node.kind.now node.visits.now
+    waits_at its.rows.now its.kind.now (visits_in its.visits) ≡ waits_at node.rows.now node.kind.now (visits_in node.visits)
 
 -- the visits to the first nodes, as many as this
 pub record AreNodeWaits (nodes : List NodeVisits) (count : ℕ) (all : List NodeWaits) : Type 0 where

@@ -2,6 +2,7 @@
 use Rattle.std.specs.List.{AllByRecursion}
 use Rattle.std.specs.Prelude.{◌≡◌, ◌<◌, ◌^◌, ℕ, IfSome, List, Option, length, Some, slice_get}
 use Rattle.mq_crew.specs.Crew.{AreAll}
+use Rattle.mq_counts.specs.Seen.{visits_in}
 use Rattle.mq_counts.specs.Totals.{AreSumsOf, IsVisited}
 use Rattle.mq_counts.specs.declared.tails.KnownNodes.{KnownNodes}
 use Rattle.mq_counts.specs.declared.tails.NodesTails.{NodesTails}
@@ -11,7 +12,7 @@ use Rattle.mq_stats.specs.declared.tails.Percentiles.{Percentiles}
 
 -- these are the percentiles of the waits at a node
 abbrev pub IsTailOf : NodeVisits → Percentiles → Type 0
-IsTailOf node tail = ArePercentiles (waits_at node.rows.now node.kind.now node.visits.now) tail
+IsTailOf node tail = ArePercentiles (waits_at node.rows.now node.kind.now (visits_in node.visits)) tail
 
 -- the same of the node at an index
 abbrev pub IsTailIn : List NodeVisits → ℕ → Percentiles → Type 0

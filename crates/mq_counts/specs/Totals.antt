@@ -1,9 +1,9 @@
 -- What is counted of nodes, in a list, from their visits.
 use Rattle.std.specs.Prelude.{◌≡◌, ◌+◌, ◌-◌, ◌*◌, ◌/◌, ℕ, Bool, List, cond, length, min, Some, slice_get}
 use Rattle.mq_crew.specs.Crew.{AreAll}
+use Rattle.mq_counts.specs.Seen.{AreSeen, visits_in}
 use Rattle.mq_counts.specs.declared.totals.NodeVisits.{NodeVisits}
 use Rattle.mq_stats.specs.Blocks.{IsBlock, IsBlockOf}
-use Rattle.mq_stats.specs.Numbers.{AreVisits}
 use Rattle.mq_stats.specs.declared.blocks.BlockCount.{BlockCount}
 
 -- Pieces of this size. How many they are of so many visits, where the last one may have fewer.
@@ -16,11 +16,11 @@ start_of size count b = min count (b * size)
 
 -- visits to a node
 abbrev pub IsVisited : NodeVisits → Type 0
-IsVisited node = AreVisits node.rows.now node.kind.now node.visits.now
+IsVisited node = AreSeen node.rows.now node.kind.now node.visits
 
 -- how many pieces they make, of 16,384 visits each
 abbrev pub pieces_of : NodeVisits → ℕ
-pieces_of node = pieces_in 16384 (length node.visits.now.job)
+pieces_of node = pieces_in 16384 (length (visits_in node.visits).job)
 
 -- up to how many ticks waits are counted with the totals: where percentiles are told as many as a piece has visits
 abbrev pub counted_to : Bool → ℕ
@@ -29,12 +29,12 @@ counted_to tails = cond tails 16384 0
 -- what is counted of the visits of a piece
 abbrev pub IsPieceCount : NodeVisits → ℕ → BlockCount → Type 0
 IsPieceCount node b block =
-    let count = length node.visits.now.job in
-    IsBlock node.rows.now node.kind.now node.visits.now node.span (counted_to node.tails) (start_of 16384 count b) (start_of 16384 count (b + 1)) block
+    let count = length (visits_in node.visits).job in
+    IsBlock node.rows.now node.kind.now (visits_in node.visits) node.span (counted_to node.tails) (start_of 16384 count b) (start_of 16384 count (b + 1)) block
 
 -- what is counted of all of them
 abbrev pub IsSumOf : NodeVisits → BlockCount → Type 0
-IsSumOf node sum = IsBlockOf node.rows.now node.kind.now node.visits.now node.span (counted_to node.tails) sum
+IsSumOf node sum = IsBlockOf node.rows.now node.kind.now (visits_in node.visits) node.span (counted_to node.tails) sum
 
 -- the same of the node at an index
 abbrev pub IsSumIn : List NodeVisits → ℕ → BlockCount → Type 0

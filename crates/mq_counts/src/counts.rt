@@ -12,12 +12,13 @@ ghost use Rattle.mq_counts.specs.declared.totals.NodeVisits.{NodeVisits as TheVi
 ghost use Rattle.mq_counts.specs.Totals.{AreSumsOf, IsVisited};
 
 use crate::leaving::{PartedExits, exits_at, parted_exits};
+use crate::seen::{SeenStreams, SeenVisits, last_seen};
 use crate::tails::{NO_WAIT, tails_of};
 use crate::totals::{NodeVisits, sums_by_node};
 use mq_base::{List, OutOfMemory};
-use mq_core::{Input, Kind, Node, Plan, Rows, Stream, Visits, span_is_sequences};
+use mq_core::{Input, Kind, Node, Plan, Rows, span_is_sequences};
 use mq_crew::Gate;
-use mq_stats::{BlockCount, Exit, NodeTotals, Percentiles, last_at, lasts_are_greatest};
+use mq_stats::{BlockCount, Exit, NodeTotals, Percentiles, lasts_are_greatest};
 use std::alloc::Global;
 use std::thread::Threads;
 
@@ -27,8 +28,8 @@ pub struct NodeSequences<'a> {
     /// The node, by order of declaration.
     pub number: u32,
     pub kind: &'a Kind,
-    pub visits: &'a Visits,
-    pub streams: &'a List<Stream>,
+    pub visits: SeenVisits<'a>,
+    pub streams: SeenStreams<'a>,
 }
 
 /// What is told of a node.
@@ -72,7 +73,7 @@ pub fn is_read(nodes: &[Node], node: u32, output: usize) -> bool
 }
 
 // The visits to a node, up to the last event there.
-fn visits_in<'a>(rows: &'a Rows, sequences: &NodeSequences<'a>, tails: bool) -> NodeVisits<'a>
+fn node_visits<'a>(rows: &'a Rows, sequences: &NodeSequences<'a>, tails: bool) -> NodeVisits<'a>
     requires { AreCountable rows.now sequences.now }
     ensures visited { IsVisited result }
     ensures its { IsVisitsIn rows.now sequences.now result }
@@ -81,7 +82,7 @@ fn visits_in<'a>(rows: &'a Rows, sequences: &NodeSequences<'a>, tails: bool) -> 
         rows,
         kind: sequences.kind,
         visits: sequences.visits,
-        span: last_at(sequences.visits, sequences.streams),
+        span: last_seen(&sequences.visits, &sequences.streams),
         tails,
     }
 }
@@ -98,7 +99,7 @@ fn all_visits<'a>(
 {
     let mut visits = List::new(alloc);
     for at in 0..all.len() {
-        visits.push(visits_in(rows, all.get(at), tails))?;
+        visits.push(node_visits(rows, all.get(at), tails))?;
     }
     Ok(visits)
 }

@@ -2,18 +2,21 @@
 ghost use Rattle.std.specs.Prelude.{◌≡◌, ◌<◌, ◌≤◌, ◌^◌, false, length, slice_get, IfOk, Some};
 ghost use Rattle.std.specs.List.{AllByRecursion};
 ghost use Rattle.mq_core.specs.declared.model.Rows.{Rows as TheRows};
+ghost use Rattle.mq_core.specs.declared.model.Stream.{Stream as TheStream};
 ghost use Rattle.mq_crew.specs.Crew.{AreAll};
 ghost use Rattle.mq_counts.specs.Counts.{AreCountable};
 ghost use Rattle.mq_counts.specs.Leaving.{AreExitsAt, AreExitsIn, AreNodeStreams, AreParted, AreStreams, AreStreamsIn, IsExitAt, IsExitIn, exit_pieces};
+ghost use Rattle.mq_counts.specs.Seen.{streams_in};
 ghost use Rattle.mq_counts.specs.declared.leaving.NodeStreams.{NodeStreams as TheStreams};
 ghost use Rattle.mq_stats.specs.Numbers.{AreLeaving};
 
 use crate::counts::{NodeSequences, is_read};
+use crate::seen::{SeenStreams, exit_seen, leaving_count, output_count};
 use crate::totals::{PIECE, piece_count};
 use mq_base::{List, OutOfMemory};
-use mq_core::{Node, Rows, Stream};
+use mq_core::{Node, Rows};
 use mq_crew::{Gate, Pieces, run_parts};
-use mq_stats::{Exit, exits_added, exits_join, leaving_between};
+use mq_stats::{Exit, exits_added, exits_join};
 use std::alloc::Global;
 use std::thread::Threads;
 
@@ -27,7 +30,7 @@ const NOTHING: Exit = Exit {
 #[derive(Drop)]
 pub struct NodeStreams<'a> {
     pub rows: &'a Rows,
-    pub streams: &'a List<Stream>,
+    pub streams: SeenStreams<'a>,
     /// Whether some input reads it, by output.
     pub read: List<bool>,
     /// How many jobs the longest of the others has.
@@ -56,8 +59,9 @@ impl<'a> Pieces for NodeStreams<'a> {
     }
 
     fn piece(&self, alloc: Global, b: u32) -> Result<List<Exit>, OutOfMemory> {
-        let mut exits = Vec::with_capacity(alloc, self.streams.len())?;
-        for output in 0..self.streams.len() {
+        let outputs = output_count(&self.streams);
+        let mut exits = Vec::with_capacity(alloc, outputs)?;
+        for output in 0..outputs {
             exits.push_reserved(exit_in(self, b, output));
         }
         Ok(List::from_vec(exits))
@@ -68,33 +72,33 @@ impl<'a> Pieces for NodeStreams<'a> {
 fn exit_in(node: &NodeStreams, b: u32, output: usize) -> Exit
     requires fit { AreStreams node.now }
     requires piece { b < exit_pieces node.now }
-    requires inside { output < length node.now.streams.now }
+    requires inside { output < length (streams_in node.now.streams) }
     ensures { IsExitIn node.now b output result }
 {
     if *node.read.get(output) {
         return NOTHING;
     }
-    let stream = node.streams.get(output);
-    let count = stream.job.len() as u32;
+    let count = leaving_count(&node.streams, output);
     let from = count.min(b * PIECE);
     let to = count.min((b + 1) * PIECE);
-    leaving_between(node.rows, stream, from, to)
+    exit_seen(node.rows, &node.streams, output, from, to)
 }
 
-// How many jobs of a stream are looked at: none where some input reads it.
-fn told_of(stream: &Stream, read: bool) -> u32
-    requires { (rows : TheRows) × AreLeaving rows stream.now }
-    ensures all { read ≡ false → result ≡ length stream.now.job }
+// How many jobs that leave by an output are looked at: none where some input reads it.
+fn told_of(streams: &SeenStreams, output: usize, read: bool) -> u32
+    requires leaving { (rows : TheRows) × AllByRecursion (AreLeaving rows) (streams_in streams.now) }
+    requires inside { output < length (streams_in streams.now) }
+    ensures all { (stream : TheStream) → slice_get (streams_in streams.now) output ≡ Some stream → read ≡ false → result ≡ length stream.job }
     ensures few { result ≤ 1048576 }
 {
     if read {
         return 0;
     }
-    stream.job.len() as u32
+    leaving_count(streams, output)
 }
 
 // What leaves a node.
-fn streams_in<'a>(
+fn node_streams<'a>(
     alloc: Global,
     nodes: &[Node],
     rows: &'a Rows,
@@ -105,11 +109,12 @@ fn streams_in<'a>(
     ensures its { IfOk result (AreStreamsIn nodes.now rows.now sequences.now) }
 {
     let streams = sequences.streams;
-    let mut all_read = Vec::with_capacity(alloc, streams.len())?;
+    let outputs = output_count(&streams);
+    let mut all_read = Vec::with_capacity(alloc, outputs)?;
     let mut most = 0u32;
-    for output in 0..streams.len() {
+    for output in 0..outputs {
         let read = is_read(nodes, sequences.number, output);
-        most = most.max(told_of(streams.get(output), read));
+        most = most.max(told_of(&streams, output, read));
         all_read.push_reserved(read);
     }
     Ok(NodeStreams {
@@ -132,7 +137,7 @@ fn all_streams<'a>(
 {
     let mut streams = List::new(alloc);
     for at in 0..all.len() {
-        match streams_in(alloc, nodes, rows, all.get(at)) {
+        match node_streams(alloc, nodes, rows, all.get(at)) {
             Ok(its) => streams.push(its)?,
             Err(fault) => {
                 drop(streams);
@@ -179,7 +184,7 @@ pub fn parted_exits<'a, R: Threads + Sync, G: Gate>(
 fn exit_of(node: &NodeStreams, parts: &List<List<Exit>>, output: usize) -> Exit
     requires fit { AreStreams node.now }
     requires parts { AreAll (AreExitsIn node.now) (exit_pieces node.now) parts.now }
-    requires inside { output < length node.now.streams.now }
+    requires inside { output < length (streams_in node.now.streams) }
     requires told { slice_get node.now.read output ≡ Some false }
     ensures { IsExitAt node.now output result }
 {
@@ -195,7 +200,7 @@ fn exit_of(node: &NodeStreams, parts: &List<List<Exit>>, output: usize) -> Exit
 fn exit_at(node: &NodeStreams, parts: &List<List<Exit>>, output: usize) -> Exit
     requires fit { AreStreams node.now }
     requires parts { AreAll (AreExitsIn node.now) (exit_pieces node.now) parts.now }
-    requires inside { output < length node.now.streams.now }
+    requires inside { output < length (streams_in node.now.streams) }
     ensures { IsExitAt node.now output result }
 {
     if *node.read.get(output) {
@@ -215,7 +220,7 @@ fn exits_of(
     ensures { IfOk result (AreExitsAt node.now) }
 {
     let mut exits = List::new(alloc);
-    for output in 0..node.streams.len() {
+    for output in 0..output_count(&node.streams) {
         exits.push(exit_at(node, parts, output))?;
     }
     Ok(exits)

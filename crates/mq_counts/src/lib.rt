@@ -7,9 +7,11 @@ mod counts;
 mod later;
 mod leaving;
 mod runs;
+mod seen;
 mod tail_pieces;
 mod tails;
 mod totals;
 
 pub use counts::{Counts, NodeCount, NodeSequences, counted, counts_of, is_read};
 pub use runs::{counts_of_run, totals_at};
+pub use seen::{SeenStreams, SeenVisits};

@@ -11,6 +11,7 @@ ghost use Rattle.mq_counts.specs.Runs.{AreFirstSequences, AreSequencesOf};
 
 use crate::counts::{Counts, NodeSequences, counted, counts_of};
 use crate::later::{held_stay_on, totals_until};
+use crate::seen::{SeenStreams, SeenVisits};
 use mq_base::{List, OutOfMemory};
 use mq_core::{
     Node, Plan, Rows, Run, nodes_are_in_limits, runs_have_sequences, span_is_sequences,
@@ -42,8 +43,8 @@ fn sequences_at<'a>(
     NodeSequences {
         number: node,
         kind: &declared.kind,
-        visits: run.visits.get(node as usize),
-        streams: run.outputs.get(node as usize),
+        visits: SeenVisits::Kept(run.visits.get(node as usize)),
+        streams: SeenStreams::Kept(run.outputs.get(node as usize)),
     }
 }
 

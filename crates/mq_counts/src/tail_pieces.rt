@@ -4,18 +4,19 @@ ghost use Rattle.std.specs.List.{AllByRecursion};
 ghost use Rattle.mq_crew.specs.Crew.{AreAll, AreGroups};
 ghost use Rattle.mq_stats.specs.Percentiles.{ArePercentiles, waits_at};
 ghost use Rattle.mq_stats.specs.WaitCounts.{AreCounts};
+ghost use Rattle.mq_counts.specs.Seen.{visits_in};
 ghost use Rattle.mq_counts.specs.TailPieces.{AreNodeWaits, IsPieceCounts, IsWaited, counted_pieces};
 ghost use Rattle.mq_counts.specs.Tails.{AreCountedOf, AreKnown};
 ghost use Rattle.mq_counts.specs.Totals.{IsVisited};
 
+use crate::seen::{SeenVisits, visit_count, waits_seen};
 use crate::tails::KnownNodes;
 use crate::totals::{NodeVisits, PIECE, piece_count, piece_ends};
 use mq_base::{List, OutOfMemory};
-use mq_core::{Kind, Rows, Visits};
+use mq_core::{Kind, Rows};
 use mq_crew::{Gate, Pieces, run_parts};
 use mq_stats::{
-    BlockCount, Percentiles, WaitCounts, count_between, counted_percentiles, counts_added,
-    no_counts, waits_join,
+    BlockCount, Percentiles, WaitCounts, counted_percentiles, counts_added, no_counts, waits_join,
 };
 use std::alloc::Global;
 use std::thread::Threads;
@@ -26,7 +27,7 @@ use std::thread::Threads;
 pub struct NodeWaits<'a> {
     pub rows: &'a Rows,
     pub kind: &'a Kind,
-    pub visits: &'a Visits,
+    pub visits: SeenVisits<'a>,
     pub most: u32,
     pub size: u32,
 }
@@ -44,16 +45,16 @@ impl<'a> Pieces for NodeWaits<'a> {
         if self.most == 0 {
             return 0;
         }
-        piece_count(self.visits.job.len() as u32, self.size)
+        piece_count(visit_count(&self.visits) as u32, self.size)
     }
 
     fn piece(&self, alloc: Global, b: u32) -> Result<Option<WaitCounts>, OutOfMemory> {
-        let (from, to) = piece_ends(self.visits.job.len() as u32, self.size, b);
-        count_between(
+        let (from, to) = piece_ends(visit_count(&self.visits) as u32, self.size, b);
+        waits_seen(
             alloc,
             self.rows,
             self.kind,
-            self.visits,
+            &self.visits,
             self.most,
             from,
             to,
@@ -96,9 +97,9 @@ fn visits_in_piece(most: u32) -> u32
 fn waits_of_node<'a>(node: &NodeVisits<'a>, sum: &BlockCount) -> NodeWaits<'a>
     requires visited { IsVisited node.now }
     ensures waited { IsWaited result }
-    ensures waits { waits_at result.rows.now result.kind.now result.visits.now ≡ waits_at node.now.rows.now node.now.kind.now node.now.visits.now }
+    ensures waits { waits_at result.rows.now result.kind.now (visits_in result.visits) ≡ waits_at node.now.rows.now node.now.kind.now (visits_in node.now.visits) }
 {
-    let most = looked_up_to(sum, node.visits.job.len() as u32);
+    let most = looked_up_to(sum, visit_count(&node.visits) as u32);
     NodeWaits {
         rows: node.rows,
         kind: node.kind,
@@ -143,7 +144,7 @@ fn looked_at(
 ) -> Result<Option<Percentiles>, OutOfMemory>
     requires waited { IsWaited node.now }
     requires group { AreAll (IsPieceCounts node.now) (counted_pieces node.now) group.now }
-    ensures { IfOk result (λ tail. IfSome tail (ArePercentiles (waits_at node.now.rows.now node.now.kind.now node.now.visits.now))) }
+    ensures { IfOk result (λ tail. IfSome tail (ArePercentiles (waits_at node.now.rows.now node.now.kind.now (visits_in node.now.visits)))) }
 {
     if node.most == 0 {
         return Ok(None);
@@ -170,9 +171,9 @@ fn counted_at(
     group: &List<Option<WaitCounts>>,
 ) -> Result<Option<Percentiles>, OutOfMemory>
     requires waited { IsWaited node.now }
-    requires sum { IfSome sum.now.waits (AreCounts (waits_at node.now.rows.now node.now.kind.now node.now.visits.now)) }
+    requires sum { IfSome sum.now.waits (AreCounts (waits_at node.now.rows.now node.now.kind.now (visits_in node.now.visits))) }
     requires group { AreAll (IsPieceCounts node.now) (counted_pieces node.now) group.now }
-    ensures { IfOk result (λ tail. IfSome tail (ArePercentiles (waits_at node.now.rows.now node.now.kind.now node.now.visits.now))) }
+    ensures { IfOk result (λ tail. IfSome tail (ArePercentiles (waits_at node.now.rows.now node.now.kind.now (visits_in node.now.visits)))) }
 {
     if let Some(tail) = tail_of(&sum.waits) {
         return Ok(Some(tail));

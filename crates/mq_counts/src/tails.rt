@@ -4,11 +4,12 @@ ghost use Rattle.std.specs.List.{AllByRecursion};
 ghost use Rattle.mq_counts.specs.Tails.{AreCounting, AreKnown, AreTailsOf, IsTailIn};
 ghost use Rattle.mq_counts.specs.Totals.{AreSumsOf, IsVisited};
 
+use crate::seen::tail_seen;
 use crate::tail_pieces::counted_tails;
 use crate::totals::NodeVisits;
 use mq_base::{List, OutOfMemory};
 use mq_crew::{Gate, Pieces, made};
-use mq_stats::{BlockCount, Percentiles, tail_below};
+use mq_stats::{BlockCount, Percentiles};
 use std::alloc::Global;
 use std::thread::Threads;
 
@@ -70,7 +71,7 @@ fn tail_at(
     }
     let its = known.nodes.get(node);
     let longest = known.sums.get(node).totals.longest;
-    tail_below(alloc, its.rows, its.kind, its.visits, longest)
+    tail_seen(alloc, its.rows, its.kind, &its.visits, longest)
 }
 
 // The percentiles of the waits at each node, where all were counted.

@@ -3,12 +3,14 @@ ghost use Rattle.std.specs.Prelude.{◌≡◌, ◌+◌, ◌≤◌, ◌<◌, ◌^
 ghost use Rattle.std.specs.List.{AllByRecursion};
 ghost use Rattle.mq_crew.specs.Crew.{AreAll, AreGroups};
 ghost use Rattle.mq_stats.specs.Blocks.{IsBlock};
+ghost use Rattle.mq_counts.specs.Seen.{visits_in};
 ghost use Rattle.mq_counts.specs.Totals.{AreSumsOf, IsPieceCount, IsSumOf, IsVisited, counted_to, pieces_in, pieces_of, start_of};
 
+use crate::seen::{SeenVisits, block_seen, visit_count};
 use mq_base::{List, OutOfMemory};
-use mq_core::{Kind, Rows, Visits};
+use mq_core::{Kind, Rows};
 use mq_crew::{Gate, Pieces, run_parts};
-use mq_stats::{BlockCount, blocks_added, count_block, waits_join};
+use mq_stats::{BlockCount, blocks_added, waits_join};
 use std::alloc::Global;
 use std::thread::Threads;
 
@@ -21,7 +23,7 @@ pub const PIECE: u32 = 16_384;
 pub struct NodeVisits<'a> {
     pub rows: &'a Rows,
     pub kind: &'a Kind,
-    pub visits: &'a Visits,
+    pub visits: SeenVisits<'a>,
     pub span: u64,
     /// Whether the waits are counted with the totals, where none has more ticks than a piece has visits.
     pub tails: bool,
@@ -37,11 +39,11 @@ impl<'a> Pieces for NodeVisits<'a> {
     ghost is_piece = { IsPieceCount };
 
     fn count(&self) -> u32 {
-        piece_count(self.visits.job.len() as u32, PIECE)
+        piece_count(visit_count(&self.visits) as u32, PIECE)
     }
 
     fn piece(&self, alloc: Global, b: u32) -> Result<BlockCount, OutOfMemory> {
-        let (from, to) = piece_ends(self.visits.job.len() as u32, PIECE, b);
+        let (from, to) = piece_ends(visit_count(&self.visits) as u32, PIECE, b);
         block_of(alloc, self, from, to)
     }
 }
@@ -57,15 +59,15 @@ fn counted_up_to(tails: bool) -> u32
 fn block_of(alloc: Global, node: &NodeVisits, from: u32, to: u32) -> Result<BlockCount, OutOfMemory>
     requires visited { IsVisited node.now }
     requires order { from ≤ to }
-    requires within { to ≤ length node.now.visits.now.job }
-    ensures { IfOk result (IsBlock node.now.rows.now node.now.kind.now node.now.visits.now node.now.span (counted_to node.now.tails) from to) }
+    requires within { to ≤ length (visits_in node.now.visits).job }
+    ensures { IfOk result (IsBlock node.now.rows.now node.now.kind.now (visits_in node.now.visits) node.now.span (counted_to node.now.tails) from to) }
 {
     let most = counted_up_to(node.tails);
-    count_block(
+    block_seen(
         alloc,
         node.rows,
         node.kind,
-        node.visits,
+        &node.visits,
         node.span,
         most,
         from,

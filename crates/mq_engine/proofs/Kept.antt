@@ -1,9 +1,11 @@
 -- A run that is counted as it goes: what is told and kept so far, while nodes are put down and streams are let go.
-use Rattle.std.proofs.Common.{◌≡◌, ◌≢◌, ℕ, suc, ◌<◌, ◌⊎◌, inl, inr, All, true, false, List, [], ◌∷◌, ◌++◌, length, length-append, set, Some, refl, sym, ap, ◌∙◌, subst, arith}
-use Rattle.std.specs.Prelude.{count_by, slice_get}
+use Rattle.std.proofs.Common.{◌≡◌, ◌≢◌, ℕ, ◌<◌, ◌⊎◌, inl, inr, All, true, false, List, [], ◌∷◌, ◌++◌, length, set, Some, refl, sym, ap, ◌∙◌, subst, arith}
+use Rattle.std.specs.Prelude.{Contains, count_by, filter, slice_get}
+use Rattle.std.specs.List.{AllByRecursion as Each}
+use Rattle.std.proofs.lemmas.Bool.{and_parts}
 use Rattle.std.proofs.lemmas.List.{length-set}
-use Rattle.std.proofs.lemmas.Option.{get_or_from_slice_get, slice_get_within}
-use Rattle.mq_base.proofs.lemmas.Each.{Each-back, Each-front}
+use Rattle.std.proofs.lemmas.Option.{get_or_from_slice_get, slice_get-get_or, slice_get_within}
+use Rattle.mq_base.proofs.lemmas.Each.{Each-back, Each-front, Each-weaker}
 use Rattle.mq_base.proofs.lemmas.Lists.{get-set_other, get-set_same, some_inj}
 use Rattle.mq_core.specs.Sequences.{streams_below}
 use Rattle.mq_core.specs.Sound.{outputs_in}
@@ -14,21 +16,18 @@ use Rattle.mq_core.specs.declared.model.Node.{Node}
 use Rattle.mq_core.specs.declared.model.Plan.{Plan}
 use Rattle.mq_core.specs.declared.model.Rows.{Rows}
 use Rattle.mq_core.specs.declared.model.Stream.{Stream}
-use Rattle.mq_core.specs.declared.model.Visits.{Visits}
 use Rattle.mq_counts.specs.Counts.{IsCountAt}
 use Rattle.mq_counts.specs.declared.counts.NodeCount.{NodeCount}
-use Rattle.mq_crew.specs.Crew.{AreAll}
-use Rattle.mq_crew.proofs.lemmas.Groups.{all-last, append-at, append-before}
-use Rattle.mq_exits.specs.Results.{IsKnown}
-use Rattle.mq_exits.specs.declared.working.Ending.{Ending}
-use Rattle.mq_exits.specs.declared.working.Ending.TheVariants.{OnTime, TooMany, TooLate}
-use Rattle.mq_exits.specs.declared.working.NodeResult.{NodeResult}
 use Rattle.mq_stations.specs.Leaving.{IsEarlyStream}
-use Rattle.mq_engine.specs.Counting.{AreKept, AreTold, IsCountPut, IsCounting, IsEndCounted, IsToldIn, IsToldOf, IsUnread, TellsOf}
+use Rattle.mq_engine.specs.Counting.{AreKept, AreUntold, IsCounting, IsToldAmong, IsToldAt, IsToldEndPut, IsToldNode, IsToldPut, IsUnread, TellsOf}
 use Rattle.mq_engine.specs.CoreLaws.{CoreLaws}
-use Rattle.mq_engine.specs.Progress.{AreWaiting, AreWorkedOut, HasAll, is_done, is_ready, is_waiting, stands_at}
+use Rattle.mq_engine.specs.Progress.{HasAll, is_done, is_ready, is_waiting, reads_done, stands_at}
 use Rattle.mq_engine.specs.declared.progress.Stand.{Stand}
 use Rattle.mq_engine.specs.declared.progress.Stand.TheVariants.{Waiting, Done, Crowded, Late}
+use Rattle.mq_engine.specs.declared.told.ToldEnding.{ToldEnding}
+use Rattle.mq_engine.specs.declared.told.ToldEnding.TheVariants.{Told, TooMany as ManyTold, TooLate as LateTold}
+use Rattle.mq_engine.specs.declared.told.ToldNode.{ToldNode}
+use Rattle.mq_engine.proofs.Lists.{filter-passes}
 use Rattle.mq_engine.proofs.Endings.{HaveStands, StandsAt}
 use Rattle.mq_engine.proofs.Settling.{IsFewer, set-fewer, waiting-inside}
 use Rattle.mq_engine.proofs.Waves.{decide-eq, fed-all, ready-at}
@@ -114,7 +113,7 @@ module _ (plan : Plan) (rows : Rows) (form : ℕ) (counts : List NodeCount) (out
   inside : v < length plan.net.nodes
   inside = slice_get_within plan.net.nodes v node there
 
-  module _ (came : Visits) (left : List Stream) (count : NodeCount) (k : IsKnown plan rows v node (OnTime came left)) (is : IsCountAt plan rows form v node count) where
+  module _ (left : List Stream) (count : NodeCount) (k : IsToldAt plan rows form v node (Told left count)) where
     elsewhere : (w : ℕ) (other : Node) (at : Stand) → w ≢ v → TellsOf plan rows form counts w other at → TellsOf plan rows form (set counts v count) w other at
     elsewhere w other Waiting d h = tt
     elsewhere w other Done d h = (λ c e. h.0 c (sym (get-set_other counts v w count d) ∙ e), h.1)
@@ -131,7 +130,7 @@ module _ (plan : Plan) (rows : Rows) (form : ℕ) (counts : List NodeCount) (out
     told w other at e g (inl same) =
         subst (λ (p : ℕ × Node × Stand). TellsOf plan rows form (set counts v count) p.0 p.1 p.2)
         (λ i. (sym same i, node-here plan stands v node Done there r.stand w other same e i, set-here plan stands v node Done there r.stand w at same g i))
-        (λ c h. subst (IsCountAt plan rows form v node) (some_inj count c (sym (get-set_same counts v count in_counts) ∙ h)) is, k.3)
+        (λ c h. subst (IsCountAt plan rows form v node) (some_inj count c (sym (get-set_same counts v count in_counts) ∙ h)) k.3, k.2)
     told w other at e g (inr apart) = elsewhere w other at apart (r.told w other at e (set-away plan stands v node Done there r.stand w at apart g))
 
     kept : AreKept plan rows (set outputs v left) (set stands v Done)
@@ -143,13 +142,13 @@ module _ (plan : Plan) (rows : Rows) (form : ℕ) (counts : List NodeCount) (out
         go : (input.node ≡ v) ⊎ (input.node ≢ v) → slice_get (set outputs v left) input.node ≡ Some (streams_below (run_of plan rows) input.node (outputs_in named.kind))
         go (inl same) =
             ap (slice_get (set outputs v left)) same ∙ (get-set_same outputs v left in_outputs
-            ∙ (ap Some k.1 ∙ (λ i. Some (streams_below (run_of plan rows) (sym same i) (outputs_in (node-here plan stands v node Done there r.stand input.node named same b i).kind)))))
+            ∙ (ap Some k.0 ∙ (λ i. Some (streams_below (run_of plan rows) (sym same i) (outputs_in (node-here plan stands v node Done there r.stand input.node named same b i).kind)))))
         go (inr apart) = get-set_other outputs v input.node left apart ∙ r.kept w port reader named input a waited e b (set-away plan stands v node Done there r.stand input.node Done apart done)
 
     early : (u out : ℕ) (streams : List Stream) (stream : Stream) → slice_get (set outputs v left) u ≡ Some streams → slice_get streams out ≡ Some stream → (u ≡ v) ⊎ (u ≢ v) → IsEarlyStream stream
     early u out streams stream a b (inl same) =
         let is-left : left ≡ streams = some_inj _ _ (sym (get-set_same outputs v left in_outputs) ∙ (ap (slice_get (set outputs v left)) (sym same) ∙ a)) in
-        k.2 out stream (ap (λ (l : List Stream). slice_get l out) is-left ∙ b)
+        k.1 out stream (ap (λ (l : List Stream). slice_get l out) is-left ∙ b)
     early u out streams stream a b (inr apart) = r.early u out streams stream (sym (get-set_other outputs v u left apart) ∙ a) b
 
     on-time : IsCounting plan rows form (set counts v count) (set outputs v left) (set stands v Done)
@@ -181,106 +180,91 @@ module _ (plan : Plan) (rows : Rows) (form : ℕ) (counts : List NodeCount) (out
           (λ i. (sym same i, node-here plan stands v node stand there r.stand w other same e i, set-here plan stands v node stand there r.stand w at same g i)) k
       at_fault w other at e g (inr apart) = r.told w other at e (set-away plan stands v node stand there r.stand w at apart g)
 
--- a node worked out that is put down keeps what is told
-pub put-ending : (plan : Plan) (rows : Rows) (form v : ℕ) (node : Node) (ending : Ending) (count : NodeCount) (counts counts' : List NodeCount) (outputs outputs' : List (List Stream)) (stands stands' : List Stand) → slice_get plan.net.nodes v ≡ Some node → IsCounting plan rows form counts outputs stands → IsKnown plan rows v node ending → IsToldOf plan rows form v ending count →
-    IsEndCounted v ending count counts outputs stands counts' outputs' stands' → IsCounting plan rows form counts' outputs' stands'
-put-ending plan rows form v node (OnTime came left) count counts counts' outputs outputs' stands stands' there r k is h =
-    subst (λ (p : List NodeCount × List (List Stream) × List Stand). IsCounting plan rows form p.0 p.1 p.2) (λ i. (sym h.0 i, sym h.1 i, sym h.2 i)) (on-time plan rows form counts outputs stands v node there r came left count k (is node there))
-put-ending plan rows form v node (TooMany fault) count counts counts' outputs outputs' stands stands' there r k is h =
+-- a node that is put down keeps what is told
+put-told : (plan : Plan) (rows : Rows) (form v : ℕ) (node : Node) (ending : ToldEnding) (counts counts' : List NodeCount) (outputs outputs' : List (List Stream)) (stands stands' : List Stand) → slice_get plan.net.nodes v ≡ Some node → IsCounting plan rows form counts outputs stands → IsToldAt plan rows form v node ending →
+    IsToldEndPut v ending counts outputs stands counts' outputs' stands' → IsCounting plan rows form counts' outputs' stands'
+put-told plan rows form v node (Told left count) counts counts' outputs outputs' stands stands' there r k h =
+    subst (λ (p : List NodeCount × List (List Stream) × List Stand). IsCounting plan rows form p.0 p.1 p.2) (λ i. (sym h.0 i, sym h.1 i, sym h.2 i)) (on-time plan rows form counts outputs stands v node there r left count k)
+put-told plan rows form v node (ManyTold fault) counts counts' outputs outputs' stands stands' there r k h =
     subst (λ (p : List NodeCount × List (List Stream) × List Stand). IsCounting plan rows form p.0 p.1 p.2) (λ i. (sym h.0 i, sym h.1 i, sym h.2 i)) (refused plan rows form counts outputs stands v node there r (Crowded fault) refl refl k)
-put-ending plan rows form v node (TooLate fault) count counts counts' outputs outputs' stands stands' there r k is h =
+put-told plan rows form v node (LateTold fault) counts counts' outputs outputs' stands stands' there r k h =
     subst (λ (p : List NodeCount × List (List Stream) × List Stand). IsCounting plan rows form p.0 p.1 p.2) (λ i. (sym h.0 i, sym h.1 i, sym h.2 i)) (refused plan rows form counts outputs stands v node there r (Late fault) refl refl k)
 
-end-fewer : (v : ℕ) (ending : Ending) (count : NodeCount) (counts counts' : List NodeCount) (outputs outputs' : List (List Stream)) (stands stands' : List Stand) → v < length stands → IsEndCounted v ending count counts outputs stands counts' outputs' stands' → IsFewer stands stands' v
-end-fewer v (OnTime came left) count counts counts' outputs outputs' stands stands' l h = set-fewer stands stands' v Done l refl h.2
-end-fewer v (TooMany fault) count counts counts' outputs outputs' stands stands' l h = set-fewer stands stands' v (Crowded fault) l refl h.2
-end-fewer v (TooLate fault) count counts counts' outputs outputs' stands stands' l h = set-fewer stands stands' v (Late fault) l refl h.2
+told-fewer : (v : ℕ) (ending : ToldEnding) (counts counts' : List NodeCount) (outputs outputs' : List (List Stream)) (stands stands' : List Stand) → v < length stands → IsToldEndPut v ending counts outputs stands counts' outputs' stands' → IsFewer stands stands' v
+told-fewer v (Told streams count) counts counts' outputs outputs' stands stands' l h = set-fewer stands stands' v Done l refl h.2
+told-fewer v (ManyTold fault) counts counts' outputs outputs' stands stands' l h = set-fewer stands stands' v (Crowded fault) l refl h.2
+told-fewer v (LateTold fault) counts counts' outputs outputs' stands stands' l h = set-fewer stands stands' v (Late fault) l refl h.2
 
-end-lengths : (v : ℕ) (ending : Ending) (count : NodeCount) (counts counts' : List NodeCount) (outputs outputs' : List (List Stream)) (stands stands' : List Stand) → IsEndCounted v ending count counts outputs stands counts' outputs' stands' → (length counts' ≡ length counts) × (length outputs' ≡ length outputs)
-end-lengths v (OnTime came left) count counts counts' outputs outputs' stands stands' h = (ap length h.0 ∙ length-set counts v count, ap length h.1 ∙ length-set outputs v left)
-end-lengths v (TooMany fault) count counts counts' outputs outputs' stands stands' h = (ap length h.0, ap length h.1)
-end-lengths v (TooLate fault) count counts counts' outputs outputs' stands stands' h = (ap length h.0, ap length h.1)
+told-lengths : (v : ℕ) (ending : ToldEnding) (counts counts' : List NodeCount) (outputs outputs' : List (List Stream)) (stands stands' : List Stand) → IsToldEndPut v ending counts outputs stands counts' outputs' stands' → (length counts' ≡ length counts) × (length outputs' ≡ length outputs)
+told-lengths v (Told streams count) counts counts' outputs outputs' stands stands' h = (ap length h.0 ∙ length-set counts v count, ap length h.1 ∙ length-set outputs v streams)
+told-lengths v (ManyTold fault) counts counts' outputs outputs' stands stands' h = (ap length h.0, ap length h.1)
+told-lengths v (LateTold fault) counts counts' outputs outputs' stands stands' h = (ap length h.0, ap length h.1)
 
--- what is told of the last of these nodes, and of the others
-told-last : (plan : Plan) (rows : Rows) (form : ℕ) (rest : List NodeResult) (node_result : NodeResult) (counts others : List NodeCount) (count : NodeCount) → AreTold plan rows form (rest ++ node_result ∷ []) counts → counts ≡ others ++ count ∷ [] →
-    IsToldOf plan rows form node_result.number node_result.ending count × AreTold plan rows form rest others
-told-last plan rows form rest node_result counts others count all e =
-    let is = IsToldIn plan rows form (rest ++ node_result ∷ []) in
-    let more = length-append rest (node_result ∷ []) in
-    let last = all-last is (length rest) counts others count e (subst (λ n. AreAll is n counts) (let n : length (rest ++ node_result ∷ []) ≡ suc (length rest) = omega arith in n) all) in (
-      last.0 node_result (append-at rest node_result (length rest) refl),
-      record {
-        len = last.1.len;
-        each = λ b d l one there. last.1.each b d l one (append-before rest node_result one b there);
-      },
-    )
-
--- what is kept while the nodes worked out in a wave are put down: those left, of all of them
-pub record IsPutting (counts0 : List NodeCount) (outputs0 : List (List Stream)) (stands0 : List Stand) (results0 : List NodeResult) (tolds0 counts : List NodeCount) (outputs : List (List Stream)) (stands : List Stand) (results : List NodeResult) (tolds : List NodeCount) : Type 0 where
+-- what is kept while nodes are put down: those left, of all of them
+pub record IsPutting (counts0 : List NodeCount) (outputs0 : List (List Stream)) (stands0 : List Stand) (told0 : List ToldNode) (counts : List NodeCount) (outputs : List (List Stream)) (stands : List Stand) (told : List ToldNode) : Type 0 where
   pub stand : length stands ≡ length stands0
   pub came : length counts ≡ length stands0
   pub left : length outputs ≡ length stands0
-  pub even : length tolds ≡ length results
-  pub waits : AreWaiting stands0 results
-  pub counting : (plan : Plan) (rows : Rows) (form : ℕ) → IsCounting plan rows form counts0 outputs0 stands0 → AreWorkedOut plan rows results0 → AreTold plan rows form results0 tolds0 → IsCounting plan rows form counts outputs stands × AreWorkedOut plan rows results × AreTold plan rows form results tolds
-  pub fewer : ((stands ≡ stands0) × (results ≡ results0)) ⊎ (count_by is_waiting stands < count_by is_waiting stands0)
+  pub waits : AreUntold stands0 told
+  pub counting : (plan : Plan) (rows : Rows) (form : ℕ) → IsCounting plan rows form counts0 outputs0 stands0 → Each (IsToldNode plan rows form) told0 → IsCounting plan rows form counts outputs stands × Each (IsToldNode plan rows form) told
+  pub fewer : ((stands ≡ stands0) × (told ≡ told0)) ⊎ (count_by is_waiting stands < count_by is_waiting stands0)
 
--- the last of them is a node that is there
-pub putting-inside : (counts0 counts : List NodeCount) (outputs0 outputs : List (List Stream)) (stands0 stands : List Stand) (results0 results rest : List NodeResult) (tolds0 tolds : List NodeCount) (node_result : NodeResult) → IsPutting counts0 outputs0 stands0 results0 tolds0 counts outputs stands results tolds → results ≡ rest ++ node_result ∷ [] →
-    (node_result.number < length counts) × (node_result.number < length outputs) × (node_result.number < length stands)
-putting-inside counts0 counts outputs0 outputs stands0 stands results0 results rest tolds0 tolds node_result s e =
-    let inside = waiting-inside stands0 node_result.number (Each-back _ rest (node_result ∷ []) (subst (AreWaiting stands0) e s.waits)).0 in
-    let below = λ (n : ℕ) (same : n ≡ length stands0). subst (λ m. node_result.number < m) (sym same) inside in
-    (below (length counts) s.came, below (length outputs) s.left, below (length stands) s.stand)
+module _ (counts0 counts : List NodeCount) (outputs0 outputs : List (List Stream)) (stands0 stands : List Stand) (told0 told rest : List ToldNode) (one : ToldNode) (s : IsPutting counts0 outputs0 stands0 told0 counts outputs stands told) (e : told ≡ rest ++ one ∷ []) where
+  waits : AreUntold stands0 (rest ++ one ∷ [])
+  waits = subst (AreUntold stands0) e s.waits
 
-pub putting-more : (counts0 counts counts' : List NodeCount) (outputs0 outputs outputs' : List (List Stream)) (stands0 stands stands' : List Stand) (results0 results rest : List NodeResult) (tolds0 tolds others : List NodeCount) (node_result : NodeResult) (count : NodeCount) → IsPutting counts0 outputs0 stands0 results0 tolds0 counts outputs stands results tolds →
-    results ≡ rest ++ node_result ∷ [] → tolds ≡ others ++ count ∷ [] → IsCountPut node_result count counts outputs stands counts' outputs' stands' → IsPutting counts0 outputs0 stands0 results0 tolds0 counts' outputs' stands' rest others
-putting-more counts0 counts counts' outputs0 outputs outputs' stands0 stands stands' results0 results rest tolds0 tolds others node_result count s e f put =
-    record {
-      stand = gone.same ∙ s.stand;
-      came = lengths.0 ∙ s.came;
-      left = lengths.1 ∙ s.left;
-      even =
-          let same = s.even in
-          let a = ap length e in
-          let b = ap length f in
-          let c = length-append rest (node_result ∷ []) in
-          let d = length-append others (count ∷ []) in
-          omega arith;
-      waits = Each-front _ rest (node_result ∷ []) waits;
-      counting = λ plan rows form r w t.
-          let now = s.counting plan rows form r w t in
-          let known = subst (AreWorkedOut plan rows) e now.1 in
-          let own = (Each-back _ rest (node_result ∷ []) known).0 in
-          let last = told-last plan rows form rest node_result tolds others count (subst (λ l. AreTold plan rows form l tolds) e now.2) f in (
-            put-ending plan rows form node_result.number own.0 node_result.ending count counts counts' outputs outputs' stands stands' own.1 now.0 own.2 last.0 put,
-            Each-front _ rest (node_result ∷ []) known,
-            last.1,
-          );
-      fewer = inr (fewer s.fewer);
-    }
-  where
-    waits : AreWaiting stands0 (rest ++ node_result ∷ [])
-    waits = subst (AreWaiting stands0) e s.waits
+  here : stands_at is_waiting (slice_get stands0 one.number) ≡ true
+  here = (Each-back _ rest (one ∷ []) waits).0
 
-    here : stands_at is_waiting (slice_get stands0 node_result.number) ≡ true
-    here = (Each-back _ rest (node_result ∷ []) waits).0
+  -- the last of them is a node that is there
+  pub putting-inside : (one.number < length counts) × (one.number < length outputs) × (one.number < length stands)
+  putting-inside =
+      let inside = waiting-inside stands0 one.number here in
+      let below = λ (n : ℕ) (same : n ≡ length stands0). subst (λ m. one.number < m) (sym same) inside in
+      (below (length counts) s.came, below (length outputs) s.left, below (length stands) s.stand)
 
-    inside : node_result.number < length stands
-    inside = subst (λ n. node_result.number < n) (sym s.stand) (waiting-inside stands0 node_result.number here)
+  pub putting-more : (counts' : List NodeCount) (outputs' : List (List Stream)) (stands' : List Stand) → IsToldPut one counts outputs stands counts' outputs' stands' → IsPutting counts0 outputs0 stands0 told0 counts' outputs' stands' rest
+  putting-more counts' outputs' stands' put =
+      record {
+        stand = gone.same ∙ s.stand;
+        came = lengths.0 ∙ s.came;
+        left = lengths.1 ∙ s.left;
+        waits = Each-front _ rest (one ∷ []) waits;
+        counting = λ plan rows form r w.
+            let now = s.counting plan rows form r w in
+            let known = subst (Each (IsToldNode plan rows form)) e now.1 in
+            let own = (Each-back _ rest (one ∷ []) known).0 in (
+              put-told plan rows form one.number own.0 one.ending counts counts' outputs outputs' stands stands' own.1 now.0 own.2 put,
+              Each-front _ rest (one ∷ []) known,
+            );
+        fewer = inr (fewer s.fewer);
+      }
+    where
+      gone : IsFewer stands stands' one.number
+      gone = told-fewer one.number one.ending counts counts' outputs outputs' stands stands' putting-inside.2 put
 
-    gone : IsFewer stands stands' node_result.number
-    gone = end-fewer node_result.number node_result.ending count counts counts' outputs outputs' stands stands' inside put
+      lengths : (length counts' ≡ length counts) × (length outputs' ≡ length outputs)
+      lengths = told-lengths one.number one.ending counts counts' outputs outputs' stands stands' put
 
-    lengths : (length counts' ≡ length counts) × (length outputs' ≡ length outputs)
-    lengths = end-lengths node_result.number node_result.ending count counts counts' outputs outputs' stands stands' put
+      fewer : ((stands ≡ stands0) × (told ≡ told0)) ⊎ (count_by is_waiting stands < count_by is_waiting stands0) → count_by is_waiting stands' < count_by is_waiting stands0
+      fewer (inl same) =
+          let less = gone.less (ap (λ (l : List Stand). stands_at is_waiting (slice_get l one.number)) same.0 ∙ here) in
+          let equal : count_by is_waiting stands ≡ count_by is_waiting stands0 = ap (count_by is_waiting) same.0 in
+          omega arith
+      fewer (inr less) = let most = gone.most in omega arith
 
-    fewer : ((stands ≡ stands0) × (results ≡ results0)) ⊎ (count_by is_waiting stands < count_by is_waiting stands0) → count_by is_waiting stands' < count_by is_waiting stands0
-    fewer (inl same) =
-        let less = gone.less (ap (λ (l : List Stand). stands_at is_waiting (slice_get l node_result.number)) same.0 ∙ here) in
-        let equal : count_by is_waiting stands ≡ count_by is_waiting stands0 = ap (count_by is_waiting) same.0 in
-        omega arith
-    fewer (inr less) = let most = gone.most in omega arith
+-- those that are ready wait
+pub told-wait : (plan : Plan) (rows : Rows) (form : ℕ) (stands : List Stand) (ready : List ℕ) (told : List ToldNode) → ready ≡ filter (is_ready plan.net.nodes stands) plan.order → Each (IsToldAmong plan rows form ready) told → AreUntold stands told
+told-wait plan rows form stands ready told e = Each-weaker (IsToldAmong plan rows form ready) _ (λ one h.
+    let passes = filter-passes (is_ready plan.net.nodes stands) plan.order h.0.0 one.number (ap (λ (l : List ℕ). slice_get l h.0.0) (sym e) ∙ (slice_get-get_or ready h.0.0 one.number h.0.1 ∙ ap Some h.0.2)) in
+    (and_parts _ (reads_done stands (slice_get plan.net.nodes one.number)) passes).0) told
+
+pub told-nodes : (plan : Plan) (rows : Rows) (form : ℕ) (ready : List ℕ) (told : List ToldNode) → Each (IsToldAmong plan rows form ready) told → Each (IsToldNode plan rows form) told
+told-nodes plan rows form ready told = Each-weaker (IsToldAmong plan rows form ready) _ (λ one h. h.1) told
+
+-- nodes among these are among those
+pub told-among : (plan : Plan) (rows : Rows) (form : ℕ) (some all : List ℕ) (told : List ToldNode) → ((v : ℕ) → Contains some v → Contains all v) → Each (IsToldAmong plan rows form some) told → Each (IsToldAmong plan rows form all) told
+told-among plan rows form some all told among = Each-weaker (IsToldAmong plan rows form some) _ (λ one h. (among one.number h.0, h.1)) told
 
 -- Streams that no node that waits reads are let go.
 pub gone-keeps : (plan : Plan) (rows : Rows) (form : ℕ) (counts : List NodeCount) (outputs outputs' : List (List Stream)) (stands : List Stand) (u : ℕ) → u < length outputs → IsUnread plan.net.nodes stands u → outputs' ≡ set outputs u [] → IsCounting plan rows form counts outputs stands → IsCounting plan rows form counts outputs' stands

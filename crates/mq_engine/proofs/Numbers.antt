@@ -22,6 +22,7 @@ use Rattle.mq_core.specs.declared.model.Visits.{Visits}
 use Rattle.mq_counts.proofs.Endings.{streams-leave}
 use Rattle.mq_counts.proofs.Lists.{each-has, pushed-at}
 use Rattle.mq_counts.specs.Counts.{AreCountable, AreCountsOf, AreNodeCounts, IsCountAt, IsCountOf}
+use Rattle.mq_counts.specs.Seen.{streams_in, visits_in}
 use Rattle.mq_counts.specs.declared.counts.NodeSequences.{NodeSequences}
 use Rattle.mq_counts.specs.declared.counts.NodeCount.{NodeCount}
 use Rattle.mq_exits.proofs.Known.{fine-few}
@@ -31,10 +32,13 @@ use Rattle.mq_exits.specs.declared.working.Ending.TheVariants.{OnTime, TooMany, 
 use Rattle.mq_exits.specs.declared.working.NodeResult.{NodeResult}
 use Rattle.mq_stats.specs.Numbers.{AreLeaving, AreVisits}
 use Rattle.mq_stats.specs.RunNumbers.{RunsGiveStreams, RunsGiveVisits}
-use Rattle.mq_engine.specs.Counting.{AreResultSequences, AreSequencesAt, AreTold, AreWaveSequences, IsCounting, IsNobody, IsToldOf}
+use Rattle.mq_crew.specs.Crew.{AreAll}
+use Rattle.mq_crew.proofs.lemmas.Groups.{all-last, append-at, append-before}
+use Rattle.mq_engine.specs.Counting.{AreResultSequences, AreSequencesAt, AreTold, AreWaveSequences, IsCounting, IsNobody, IsToldAt, IsToldIn, IsToldOf}
 use Rattle.mq_engine.specs.Progress.{AreWorkedOut, is_waiting}
 use Rattle.mq_engine.specs.declared.progress.Stand.{Stand}
 use Rattle.mq_engine.specs.declared.progress.Stand.TheVariants.{Waiting, Done}
+use Rattle.mq_engine.specs.declared.told.ToldEnding.TheVariants.{Told}
 
 -- nodes that ended on time
 module _ (gives : RunsGiveVisits) (leaves : RunsGiveStreams) (plan : Plan) (rows : Rows) (read : IsReadFor plan.net rows) (v : ℕ) (node : Node) (there : slice_get plan.net.nodes v ≡ Some node) (came : Visits) (left : List Stream) (k : IsKnown plan rows v node (OnTime came left)) where
@@ -88,7 +92,7 @@ sequences-all plan rows results i all so_far e = subst (λ n. AreWaveSequences p
 
 -- what is told of them is told of the nodes of the run
 told-at : (plan : Plan) (rows : Rows) (form v : ℕ) (node : Node) (ending : Ending) (sequences : NodeSequences) (count : NodeCount) → slice_get plan.net.nodes v ≡ Some node → IsKnown plan rows v node ending → AreSequencesAt plan v ending sequences →
-    IsCountOf plan.net.nodes rows form sequences.number sequences.kind.now sequences.visits.now sequences.streams.now count → IsToldOf plan rows form v ending count
+    IsCountOf plan.net.nodes rows form sequences.number sequences.kind.now (visits_in sequences.visits) (streams_in sequences.streams) count → IsToldOf plan rows form v ending count
 told-at plan rows form v node (OnTime came left) sequences count there k of is = λ other here.
     let same : node ≡ other = some_inj node other (sym there ∙ here) in
     subst (λ (n : Node). IsCountAt plan rows form v n count) same
@@ -147,3 +151,22 @@ pub unread-next : (nodes : List Node) (stands : List Stand) (u v : ℕ) (node : 
     (w port : ℕ) (other : Node) (input : Input) → w < v + 1 → slice_get nodes w ≡ Some other → slice_get stands w ≡ Some Waiting → slice_get other.inputs port ≡ Some input → input.node ≡ u → ⊥
 unread-next nodes stands u v node d inputs answer there l same is fails before =
     unread-more nodes stands u v node (get_or stands v d) there (slice_get-get_or stands v d l) (ap (λ (l : List Input). is_waiting (get_or stands v d) && list_any (λ (i : Input). i.node == u) l) (sym same) ∙ (sym is ∙ fails)) before
+
+-- A node that ended of which this is told.
+pub told-on-time : (plan : Plan) (rows : Rows) (form v : ℕ) (node : Node) (came : Visits) (left : List Stream) (count : NodeCount) → slice_get plan.net.nodes v ≡ Some node → IsKnown plan rows v node (OnTime came left) → IsToldOf plan rows form v (OnTime came left) count →
+    IsToldAt plan rows form v node (Told left count)
+told-on-time plan rows form v node came left count there k is = (k.1, k.2, k.3, is node there)
+
+-- what is told of the last of these nodes, and of the others
+pub told-last : (plan : Plan) (rows : Rows) (form : ℕ) (rest : List NodeResult) (node_result : NodeResult) (counts others : List NodeCount) (count : NodeCount) → AreTold plan rows form (rest ++ node_result ∷ []) counts → counts ≡ others ++ count ∷ [] →
+    IsToldOf plan rows form node_result.number node_result.ending count × AreTold plan rows form rest others
+told-last plan rows form rest node_result counts others count all e =
+    let is = IsToldIn plan rows form (rest ++ node_result ∷ []) in
+    let more = length-append rest (node_result ∷ []) in
+    let last = all-last is (length rest) counts others count e (subst (λ n. AreAll is n counts) (let n : length (rest ++ node_result ∷ []) ≡ suc (length rest) = omega arith in n) all) in (
+      last.0 node_result (append-at rest node_result (length rest) refl),
+      record {
+        len = last.1.len;
+        each = λ b d l one there. last.1.each b d l one (append-before rest node_result one b there);
+      },
+    )

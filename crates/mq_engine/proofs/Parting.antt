@@ -9,10 +9,10 @@ use Rattle.std.proofs.lemmas.Option.{slice_get-get_or, slice_get_within}
 use Rattle.mq_base.proofs.lemmas.Each.{Each-append}
 use Rattle.mq_base.proofs.lemmas.Lists.{some_inj}
 use Rattle.mq_arrivals.specs.declared.nodes.Arriving.{Arriving}
-use Rattle.mq_exits.specs.Results.{IsResultOf}
-use Rattle.mq_exits.specs.declared.working.NodeResult.{NodeResult}
+use Rattle.mq_exits.specs.Turns.{IsGiven}
+use Rattle.mq_exits.specs.declared.turns.Given.{Given}
 use Rattle.mq_engine.specs.Waves.{AreGiven, IsSide, IsWave}
-use Rattle.mq_engine.proofs.Telling.{all-at, results-among}
+use Rattle.mq_engine.proofs.Telling.{all-at, given-among}
 
 -- one node more, on the one side or on the other
 long-more : (long others before : List ℕ) (v : ℕ) → IsPermutation (long ++ others) before → IsPermutation ((long ++ v ∷ []) ++ others) (before ++ v ∷ [])
@@ -70,10 +70,10 @@ is-side s ready workers wave among few some most =
     }
 
 -- what both sides give
-pub both-given : (s : Arriving) (long others : Bor (List ℕ)) (few many : ℕ) (a b : List NodeResult) → IsPermutation (long.now ++ others.now) s.ready.now →
+pub both-given : (s : Arriving) (long others : Bor (List ℕ)) (few many : ℕ) (a b : List Given) → IsPermutation (long.now ++ others.now) s.ready.now →
     AreGiven (side_of_wave s long few) a → AreGiven (side_of_wave s others many) b → AreGiven s (a ++ b)
 both-given s long others few many a b is first second =
-    let is_result = IsResultOf s.plan.now s.rows.now s.ready.now in
+    let is_given = IsGiven s.plan.now s.rows.now s.ready.now in
     record {
       len =
           let all = length_permutation (long.now ++ others.now) s.ready.now is in
@@ -82,12 +82,12 @@ both-given s long others few many a b is first second =
           let one = first.len in
           let other = second.len in
           omega arith;
-      known = Each-append is_result a b
-          (results-among s.plan.now s.rows.now long.now s.ready.now a (long-ready long.now others.now s.ready.now is) first.known)
-          (results-among s.plan.now s.rows.now others.now s.ready.now b (other-ready long.now others.now s.ready.now is) second.known);
+      known = Each-append is_given a b
+          (given-among s.plan.now s.rows.now long.now s.ready.now a (long-ready long.now others.now s.ready.now is) first.known)
+          (given-among s.plan.now s.rows.now others.now s.ready.now b (other-ready long.now others.now s.ready.now is) second.known);
     }
 
-pub appended-given : (s : Arriving) (long others : Bor (List ℕ)) (few many : ℕ) {E : Type 0} (first second all : Result (List NodeResult) E) → IsPermutation (long.now ++ others.now) s.ready.now →
+pub appended-given : (s : Arriving) (long others : Bor (List ℕ)) (few many : ℕ) {E : Type 0} (first second all : Result (List Given) E) → IsPermutation (long.now ++ others.now) s.ready.now →
     IfOk first (AreGiven (side_of_wave s long few)) → IfOk second (AreGiven (side_of_wave s others many)) → IfOk all (λ l. IsOkAnd first (λ a. IsOkAnd second (λ b. l ≡ a ++ b))) → IfOk all (AreGiven s)
 appended-given s long others few many first second (Err e) is a b put = tt
 appended-given s long others few many (Err e) second (Ok l) is a b put = absurd put

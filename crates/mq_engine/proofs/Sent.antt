@@ -34,8 +34,9 @@ use Rattle.mq_stats.specs.declared.exits.Exit.{Exit}
 use Rattle.mq_stats.proofs.Counts.{count-cons}
 use Rattle.mq_stats.specs.Percentiles.{departed_waits, hundredths, least_of, percentile, reaches, waits_at}
 use Rattle.mq_engine.specs.CoreLaws.{CoreLaws}
-use Rattle.mq_engine.specs.Sources.{IsSentAt, sent_totals}
-use Rattle.mq_engine.specs.declared.sources.SentEnding.TheVariants.{Missed, Sent}
+use Rattle.mq_engine.specs.Counting.{IsToldAt}
+use Rattle.mq_engine.specs.Sources.{sent_totals}
+use Rattle.mq_engine.specs.declared.told.ToldEnding.TheVariants.{Told, TooLate as LateTold}
 
 -- the fates of jobs that depart at these times
 abbrev pub departing : List ℕ → List Fate
@@ -197,15 +198,15 @@ module _ (laws : NodeLaws) (plan : Plan) (rows : Rows) (v : ℕ) (stream : Strea
       (subst (λ (kind : Kind). IsEnding plan.net rows v kind stream (OnTime visits (stream ∷ []))) (sym source) (result, none))
 
   -- what is told of it
-  pub sent-told : (count : NodeCount) (streams : List Stream) → IsKnown plan rows v l.node (OnTime visits (stream ∷ [])) → streams ≡ stream ∷ [] → ((form : ℕ) → IsCountOf plan.net.nodes rows form v Source visits (stream ∷ []) count) →
-      IsSentAt plan rows v l.node (Sent streams count)
-  sent-told count streams k e is = (
+  pub sent-told : (form : ℕ) (count : NodeCount) (streams : List Stream) → IsKnown plan rows v l.node (OnTime visits (stream ∷ [])) → streams ≡ stream ∷ [] → IsCountOf plan.net.nodes rows form v Source visits (stream ∷ []) count →
+      IsToldAt plan rows form v l.node (Told streams count)
+  sent-told form count streams k e is = (
     e ∙ k.1,
     subst (λ (left : List Stream). (out : ℕ) (one : Stream) → slice_get left out ≡ Some one → IsEarlyStream one) (sym e) k.2,
     k.3,
-    λ form. subst (λ (p : Kind × Visits × List Stream). IsCountOf plan.net.nodes rows form v p.0 p.1 p.2 count) (λ i. (sym source i, k.0 i, k.1 i)) (is form),
+    subst (λ (p : Kind × Visits × List Stream). IsCountOf plan.net.nodes rows form v p.0 p.1 p.2 count) (λ i. (sym source i, k.0 i, k.1 i)) is,
   )
 
   -- and one of which one does
-  pub sent-missed : (fault : PastFault) → first_of (sequence_late_from plan.net.bound v 0 (departing stream.time)) ≡ Some (late_told fault) → IsSentAt plan rows v l.node (Missed fault)
-  sent-missed fault late = known laws plan rows v l.node stream (TooLate fault) read l.once l.came l.load l.there (subst (λ (kind : Kind). IsEnding plan.net rows v kind stream (TooLate fault)) (sym source) late)
+  pub sent-missed : (form : ℕ) (fault : PastFault) → first_of (sequence_late_from plan.net.bound v 0 (departing stream.time)) ≡ Some (late_told fault) → IsToldAt plan rows form v l.node (LateTold fault)
+  sent-missed form fault late = known laws plan rows v l.node stream (TooLate fault) read l.once l.came l.load l.there (subst (λ (kind : Kind). IsEnding plan.net rows v kind stream (TooLate fault)) (sym source) late)

@@ -1,5 +1,5 @@
 -- How the nodes of a wave are told apart: by how many jobs come to each, and by its kind.
-use Rattle.std.proofs.Common.{◌≡◌, ℕ, zero, suc, ◌+◌, ◌*◌, ◌<◌, ◌≤◌, Bool, true, false, cond, eqb, List, [], ◌∷◌, ◌++◌, length, get_or, take, Some, sym, refl, ap, ◌∙◌, subst, arith, length-append}
+use Rattle.std.proofs.Common.{◌≡◌, ℕ, zero, suc, ◌+◌, ◌*◌, ◌<◌, ◌≤◌, Bool, true, false, cond, eqb, List, [], ◌∷◌, ◌++◌, length, map, get_or, take, Some, Result, Ok, Err, IfOk, sym, refl, ap, ◌∙◌, subst, arith, length-append}
 use Rattle.std.specs.Prelude.{Contains, slice_get}
 use Rattle.std.specs.List.{AllByRecursion as Each, flat_map}
 use Rattle.std.proofs.lemmas.List.{length-map}
@@ -21,6 +21,7 @@ use Rattle.mq_core.specs.declared.model.Plan.{Plan}
 use Rattle.mq_core.specs.declared.model.Rows.{Rows}
 use Rattle.mq_core.specs.declared.model.Stream.{Stream}
 use Rattle.mq_engine.specs.Apart.{CanGather}
+use Rattle.mq_engine.specs.Counting.{IsKeepingTurn}
 use Rattle.mq_exits.specs.Results.{IsKnown, IsResultOf}
 use Rattle.mq_core.specs.Results.{visits_of}
 use Rattle.mq_engine.specs.Progress.{AreEarly, CanWork, CanWorkAll, HasAll}
@@ -31,6 +32,9 @@ use Rattle.mq_engine.specs.declared.wave.Way.TheVariants.{Crowded, Apart, Statio
 use Rattle.mq_arrivals.specs.Arrivals.{IsArriving, arriving, pairs_read}
 use Rattle.mq_arrivals.specs.declared.nodes.Arriving.{Arriving}
 use Rattle.mq_exits.specs.declared.working.Ending.TheVariants.{TooMany}
+use Rattle.mq_exits.specs.Turns.{IsFinishable, IsGiven, result_given}
+use Rattle.mq_exits.specs.declared.turns.Given.{Given}
+use Rattle.mq_exits.specs.declared.turns.Given.TheVariants.{Ended, InTurn as Turned}
 use Rattle.mq_exits.specs.declared.working.NodeResult.{NodeResult}
 use Rattle.mq_base.proofs.lemmas.FlatMaps.{flat_map-more}
 use Rattle.mq_base.proofs.lemmas.Zips.{zip-length}
@@ -124,6 +128,14 @@ source-once (Trunk servers demand) e = refl
 -- one that is told of these is one of those
 pub results-among : (plan : Plan) (rows : Rows) (some all : List ℕ) (results : List NodeResult) → ((v : ℕ) → Contains some v → Contains all v) → Each (IsResultOf plan rows some) results → Each (IsResultOf plan rows all) results
 results-among plan rows some all results among = Each-weaker (IsResultOf plan rows some) _ (λ node_result h. (among node_result.number h.0, h.1)) results
+
+-- the same of what is given
+one-among : (plan : Plan) (rows : Rows) (some all : List ℕ) → ((v : ℕ) → Contains some v → Contains all v) → (given : Given) → IsGiven plan rows some given → IsGiven plan rows all given
+one-among plan rows some all among (Ended node_result) h = ((among node_result.number h.0.0, h.0.1), (among node_result.number h.1.0, h.1.1))
+one-among plan rows some all among (Turned it) h = (((h.0.0.0, h.0.0.1, among it.held.number h.0.0.2), h.0.1, h.0.2, h.0.3), (among it.held.number h.1.0, h.1.1))
+
+pub given-among : (plan : Plan) (rows : Rows) (some all : List ℕ) (given : List Given) → ((v : ℕ) → Contains some v → Contains all v) → Each (IsGiven plan rows some) given → Each (IsGiven plan rows all) given
+given-among plan rows some all given among = Each-weaker (IsGiven plan rows some) _ (one-among plan rows some all among) given
 
 -- where each item of a list has something, what is in it has
 pub each-contained : (P : ℕ → Type 0) (xs : List ℕ) → Each P xs → (v : ℕ) → Contains xs v → P v
@@ -227,3 +239,23 @@ serves s read early can few some most block =
       most = most;
       block = block;
     }
+
+-- what is given is what the run has, in turn, and can be finished
+pub given-results : (plan : Plan) (rows : Rows) (ready : List ℕ) (given : List Given) → Each (IsGiven plan rows ready) given → Each (IsResultOf plan rows ready) (map result_given given)
+given-results plan rows ready [] h = tt
+given-results plan rows ready (one ∷ given) h = (h.0.1, given-results plan rows ready given h.1)
+
+pub given-finishable : (plan : Plan) (rows : Rows) (ready : List ℕ) (given : List Given) → Each (IsGiven plan rows ready) given → Each (IsFinishable plan rows ready) given
+given-finishable plan rows ready given = Each-weaker (IsGiven plan rows ready) _ (λ one h. h.0) given
+
+turn-kept : (plan : Plan) (rows : Rows) (ready : List ℕ) (one : Given) → IsFinishable plan rows ready one → IsKeepingTurn one
+turn-kept plan rows ready (Ended node_result) h = tt
+turn-kept plan rows ready (Turned it) h = h.3
+
+pub turns-kept : (plan : Plan) (rows : Rows) (ready : List ℕ) (given : List Given) → Each (IsGiven plan rows ready) given → Each IsKeepingTurn given
+turns-kept plan rows ready given = Each-weaker (IsGiven plan rows ready) _ (λ one h. turn-kept plan rows ready one h.0) given
+
+-- two answers of one call
+pub IfOk-both : {X E : Type 0} (r : Result X E) (P Q : X → Type 0) → IfOk r P → IfOk r Q → IfOk r (λ x. P x × Q x)
+IfOk-both (Ok x) P Q p q = (p, q)
+IfOk-both (Err e) P Q p q = tt

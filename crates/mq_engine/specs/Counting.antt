@@ -1,6 +1,6 @@
 -- How far a run has come that is counted as it goes: what is told of the nodes that are done, and which streams are kept.
 use Rattle.std.specs.List.{AllByRecursion}
-use Rattle.std.specs.Prelude.{◌≡◌, [], ℕ, List, length, Some, None, slice_get, slice_set}
+use Rattle.std.specs.Prelude.{◌≡◌, [], ℕ, Contains, List, length, Some, None, slice_get, slice_set, true}
 use Rattle.mq_core.specs.Results.{visits_of}
 use Rattle.mq_core.specs.Sequences.{sequence_refusal, streams_below}
 use Rattle.mq_core.specs.Sound.{outputs_in}
@@ -13,15 +13,24 @@ use Rattle.mq_core.specs.declared.model.Stream.{Stream}
 use Rattle.mq_core.specs.declared.model.Visits.{Visits}
 use Rattle.mq_crew.specs.Crew.{AreAll}
 use Rattle.mq_counts.specs.Counts.{AreCountable, IsCountAt}
+use Rattle.mq_counts.specs.Seen.{streams_in, visits_in}
 use Rattle.mq_counts.specs.declared.counts.NodeSequences.{NodeSequences}
 use Rattle.mq_counts.specs.declared.counts.NodeCount.{NodeCount}
 use Rattle.mq_exits.specs.Refusals.{over_told, past_told}
 use Rattle.mq_exits.specs.declared.working.Ending.{Ending}
 use Rattle.mq_exits.specs.declared.working.Ending.TheVariants.{OnTime, TooMany, TooLate}
+use Rattle.mq_exits.specs.declared.turns.Given.{Given}
+use Rattle.mq_exits.specs.declared.turns.Given.TheVariants.{Ended, InTurn as Turned}
 use Rattle.mq_exits.specs.declared.working.NodeResult.{NodeResult}
-use Rattle.mq_engine.specs.Progress.{AreEarly}
+use Rattle.mq_merge.specs.Borrowed.{stream_in}
+use Rattle.mq_stations.specs.Leaving.{IsEarlyStream}
+use Rattle.mq_stats.specs.InTurn.{KeepTurn}
+use Rattle.mq_engine.specs.Progress.{AreEarly, is_waiting, stands_at}
 use Rattle.mq_engine.specs.declared.progress.Stand.{Stand}
 use Rattle.mq_engine.specs.declared.progress.Stand.TheVariants.{Waiting, Done, Crowded, Late}
+use Rattle.mq_engine.specs.declared.told.ToldEnding.{ToldEnding}
+use Rattle.mq_engine.specs.declared.told.ToldEnding.TheVariants.{Told, TooMany as ManyTold, TooLate as LateTold}
+use Rattle.mq_engine.specs.declared.told.ToldNode.{ToldNode}
 
 -- the visits of nobody
 pub record IsNobody (visits : Visits) : Type 0 where
@@ -62,17 +71,45 @@ abbrev pub IsUnread : List Node → List Stand → ℕ → Type 0
 IsUnread nodes stands u =
     (v port : ℕ) (node : Node) (input : Input) → slice_get nodes v ≡ Some node → slice_get stands v ≡ Some Waiting → slice_get node.inputs port ≡ Some input → input.node ≡ u → ⊥
 
+-- how a node ends of which this is told is what the run has
+abbrev pub IsToldAt : Plan → Rows → ℕ → ℕ → Node → ToldEnding → Type 0
+IsToldAt plan rows form v node (Told streams count) =
+    (streams ≡ streams_below (run_of plan rows) v (outputs_in node.kind))
+    × ((out : ℕ) (stream : Stream) → slice_get streams out ≡ Some stream → IsEarlyStream stream)
+    × (sequence_refusal plan.net.bound v (visits_of node.kind ((run_of plan rows).stations v)) ≡ None)
+    × IsCountAt plan rows form v node count
+IsToldAt plan rows form v node (ManyTold fault) =
+    sequence_refusal plan.net.bound v (visits_of node.kind ((run_of plan rows).stations v)) ≡ Some (over_told fault)
+IsToldAt plan rows form v node (LateTold fault) =
+    sequence_refusal plan.net.bound v (visits_of node.kind ((run_of plan rows).stations v)) ≡ Some (past_told fault)
+
+abbrev pub IsToldNode : Plan → Rows → ℕ → ToldNode → Type 0
+IsToldNode plan rows form told = (node : Node) × (slice_get plan.net.nodes told.number ≡ Some node) × IsToldAt plan rows form told.number node told.ending
+
+-- the same of one of these nodes
+abbrev pub IsToldAmong : Plan → Rows → ℕ → List ℕ → ToldNode → Type 0
+IsToldAmong plan rows form ready told = Contains ready told.number × IsToldNode plan rows form told
+
+-- these are nodes that wait
+abbrev pub AreUntold : List Stand → List ToldNode → Type 0
+AreUntold stands told = AllByRecursion (λ one. stands_at is_waiting (slice_get stands one.number) ≡ true) told
+
 -- what ended on time is told at its node and its streams are kept, and what ended with a fault leaves it there
-abbrev pub IsEndCounted : ℕ → Ending → NodeCount → List NodeCount → List (List Stream) → List Stand → List NodeCount → List (List Stream) → List Stand → Type 0
-IsEndCounted v (OnTime came left) count counts outputs stands counts' outputs' stands' =
-    (counts' ≡ slice_set counts v count) × (outputs' ≡ slice_set outputs v left) × (stands' ≡ slice_set stands v Done)
-IsEndCounted v (TooMany fault) count counts outputs stands counts' outputs' stands' =
+abbrev pub IsToldEndPut : ℕ → ToldEnding → List NodeCount → List (List Stream) → List Stand → List NodeCount → List (List Stream) → List Stand → Type 0
+IsToldEndPut v (Told streams count) counts outputs stands counts' outputs' stands' =
+    (counts' ≡ slice_set counts v count) × (outputs' ≡ slice_set outputs v streams) × (stands' ≡ slice_set stands v Done)
+IsToldEndPut v (ManyTold fault) counts outputs stands counts' outputs' stands' =
     (counts' ≡ counts) × (outputs' ≡ outputs) × (stands' ≡ slice_set stands v (Crowded fault))
-IsEndCounted v (TooLate fault) count counts outputs stands counts' outputs' stands' =
+IsToldEndPut v (LateTold fault) counts outputs stands counts' outputs' stands' =
     (counts' ≡ counts) × (outputs' ≡ outputs) × (stands' ≡ slice_set stands v (Late fault))
 
-abbrev pub IsCountPut : NodeResult → NodeCount → List NodeCount → List (List Stream) → List Stand → List NodeCount → List (List Stream) → List Stand → Type 0
-IsCountPut node_result count counts outputs stands counts' outputs' stands' = IsEndCounted node_result.number node_result.ending count counts outputs stands counts' outputs' stands'
+abbrev pub IsToldPut : ToldNode → List NodeCount → List (List Stream) → List Stand → List NodeCount → List (List Stream) → List Stand → Type 0
+IsToldPut told counts outputs stands counts' outputs' stands' = IsToldEndPut told.number told.ending counts outputs stands counts' outputs' stands'
+
+-- none overtakes another at a station whose jobs leave in their order
+abbrev pub IsKeepingTurn : Given → Type 0
+IsKeepingTurn (Ended node_result) = Unit {0}
+IsKeepingTurn (Turned it) = KeepTurn (stream_in it.held.arrivals) it.departs
 
 -- what is told of a node that ended on time is what the run has
 abbrev pub IsToldOf : Plan → Rows → ℕ → ℕ → Ending → NodeCount → Type 0
@@ -91,7 +128,7 @@ AreTold plan rows form results counts = AreAll (IsToldIn plan rows form results)
 -- what came to a node that ended on time, and what left it
 abbrev pub AreSequencesAt : Plan → ℕ → Ending → NodeSequences → Type 0
 AreSequencesAt plan v (OnTime came left) sequences =
-    (sequences.number ≡ v) × ((node : Node) → slice_get plan.net.nodes v ≡ Some node → sequences.kind.now ≡ node.kind) × (sequences.visits.now ≡ came) × (sequences.streams.now ≡ left)
+    (sequences.number ≡ v) × ((node : Node) → slice_get plan.net.nodes v ≡ Some node → sequences.kind.now ≡ node.kind) × (visits_in sequences.visits ≡ came) × (streams_in sequences.streams ≡ left)
 AreSequencesAt plan v (TooMany fault) sequences = Unit {0}
 AreSequencesAt plan v (TooLate fault) sequences = Unit {0}
 

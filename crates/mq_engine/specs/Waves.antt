@@ -8,7 +8,8 @@ use Rattle.mq_core.specs.declared.model.Rows.{Rows}
 use Rattle.mq_engine.specs.Apart.{CanGather}
 use Rattle.mq_arrivals.specs.declared.nodes.Arriving.{Arriving}
 use Rattle.mq_exits.specs.Results.{IsResultOf}
-use Rattle.mq_exits.specs.declared.working.NodeResult.{NodeResult}
+use Rattle.mq_exits.specs.Turns.{IsGiven}
+use Rattle.mq_exits.specs.declared.turns.Given.{Given}
 use Rattle.mq_engine.specs.Progress.{AreEarly, CanWork, HaveAll}
 use Rattle.mq_engine.specs.declared.wave.Way.{Way}
 use Rattle.mq_engine.specs.declared.wave.Way.TheVariants.{Crowded, Apart, Station}
@@ -29,9 +30,9 @@ pub record IsSide (s : Arriving) : Type 0 where
   pub most : s.workers ≤ 64
 
 -- what each of these nodes gives
-pub record AreGiven (s : Arriving) (results : List NodeResult) : Type 0 where
-  pub len : length results ≡ length s.ready.now
-  pub known : AllByRecursion (IsResultOf s.plan.now s.rows.now s.ready.now) results
+pub record AreGiven (s : Arriving) (given : List Given) : Type 0 where
+  pub len : length given ≡ length s.ready.now
+  pub known : AllByRecursion (IsGiven s.plan.now s.rows.now s.ready.now) given
 
 -- a node has so many visits, more than it may
 abbrev pub IsCrowded : Plan → Rows → ℕ → ℕ → Type 0

@@ -8,12 +8,12 @@ ghost use Rattle.mq_engine.specs.CoreLaws.{CoreLaws};
 ghost use Rattle.mq_engine.specs.Counting.{IsCounting};
 ghost use Rattle.mq_engine.specs.Progress.{is_ready};
 
-use crate::counting::{Counting, beginning_counts, let_go, settle_counts, settle_sent};
+use crate::counting::{Counting, beginning_counts, let_go, settle_told};
 use crate::fault::RunFault;
 use crate::laws::core_laws;
 use crate::progress::{Stand, ready_nodes};
 use crate::sources::sources_sent;
-use crate::told::counts_of_wave;
+use crate::told::{counts_of_wave, told_nodes};
 use crate::wave::wave_of;
 use mq_arrivals::Arriving;
 use mq_base::List;
@@ -27,7 +27,8 @@ use std::thread::Threads;
 /// each node, and of what leaves the network.
 ///
 /// Sources come first: what came to one is what leaves it, and is handed on whole. The other nodes are worked out as `run` does
-/// it. Behind each wave the numbers of its nodes are told, and their visits are let go; what leaves a node is let go when all nodes
+/// it, but of a station whose jobs leave in their order no visits are made: what came and when each departs tell its numbers. Behind each
+/// wave the numbers of its nodes are told, and their visits are let go; what leaves a node is let go when all nodes
 /// that read some of it are worked out. It refuses as `run` does.
 pub fn run_counted<R: Threads + Sync, G: Gate>(
     rt: &R,
@@ -70,19 +71,23 @@ pub fn run_counted<R: Threads + Sync, G: Gate>(
             return Err(RunFault::Memory);
         };
         if !sent.is_empty() {
-            settle_sent(&mut counting, sent);
+            settle_told(&mut counting, sent);
             continue 'waves;
         }
-        let Ok(results) = wave_of(rt, alloc, &arriving, gate) else {
+        let Ok(given) = wave_of(rt, alloc, &arriving, gate) else {
             drop(counting);
             return Err(RunFault::Memory);
         };
-        let Ok(counts) = counts_of_wave(rt, alloc, workers, plan, rows, &results, form, gate) else {
-            drop(results);
+        let Ok(counts) = counts_of_wave(rt, alloc, workers, plan, rows, &given, form, gate) else {
+            drop(given);
             drop(counting);
             return Err(RunFault::Memory);
         };
-        settle_counts(&mut counting, results, counts);
+        let Ok(told) = told_nodes(alloc, given, counts) else {
+            drop(counting);
+            return Err(RunFault::Memory);
+        };
+        settle_told(&mut counting, told);
         let_go(alloc, plan, &mut counting);
     }
 }

@@ -1,18 +1,16 @@
 // How far a run has come that is counted as it goes.
-ghost use Rattle.std.specs.Prelude.{◌≡◌, ◌<◌, ◌≤◌, ◌==◌, ◌&&◌, ℕ, All, [], true, false, count_by, length, slice_get, slice_set, IfOk};
+ghost use Rattle.std.specs.Prelude.{◌≡◌, ◌<◌, ◌≤◌, ◌==◌, ◌&&◌, ℕ, All, [], true, false, count_by, length, slice_set, IfOk};
 ghost use Rattle.std.specs.List.{AllByRecursion, list_any};
 ghost use Rattle.mq_core.specs.declared.model.Plan.{Plan as ThePlan};
 ghost use Rattle.mq_core.specs.declared.model.Rows.{Rows as TheRows};
-ghost use Rattle.mq_engine.specs.Counting.{AreTold, IsCountPut, IsCounting, IsUnread};
-ghost use Rattle.mq_engine.specs.Progress.{AreWaiting, AreWorkedOut, is_waiting, stands_at};
-ghost use Rattle.mq_engine.specs.Sources.{IsSentOf, IsSentPut};
+ghost use Rattle.mq_engine.specs.Counting.{AreUntold, IsCounting, IsToldNode, IsToldPut, IsUnread};
+ghost use Rattle.mq_engine.specs.Progress.{is_waiting};
 
 use crate::progress::Stand;
-use crate::sources::{SentEnding, SentNode};
+use crate::told::{ToldEnding, ToldNode};
 use mq_base::{List, OutOfMemory};
 use mq_core::{Input, Node, Plan, Stream};
 use mq_counts::NodeCount;
-use mq_exits::{Ending, NodeResult};
 use mq_stats::{NodeTotals, Percentiles};
 use std::alloc::Global;
 use std::mem::replace;
@@ -73,79 +71,35 @@ fn untold(alloc: Global) -> NodeCount {
 }
 
 // Puts down how these nodes ended, and what is told of them.
-pub fn settle_counts(counting: &mut Counting, results: List<NodeResult>, counts: List<NodeCount>)
-    requires waits { AreWaiting counting.old.stands.items results }
+pub fn settle_told(counting: &mut Counting, told: List<ToldNode>)
+    requires waits { AreUntold counting.old.stands.items told }
     requires came { length counting.old.counts.items ≡ length counting.old.stands.items }
     requires left { length counting.old.outputs.items ≡ length counting.old.stands.items }
-    requires even { length counts ≡ length results }
-    ensures reached { (plan : ThePlan) (rows : TheRows) (form : ℕ) → IsCounting plan rows form counting.old.counts.items counting.old.outputs.items counting.old.stands.items → AreWorkedOut plan rows results → AreTold plan rows form results counts → IsCounting plan rows form counting.new.counts.items counting.new.outputs.items counting.new.stands.items }
-    ensures fewer { 1 ≤ length results → count_by is_waiting counting.new.stands.items < count_by is_waiting counting.old.stands.items }
+    ensures reached { (plan : ThePlan) (rows : TheRows) (form : ℕ) → IsCounting plan rows form counting.old.counts.items counting.old.outputs.items counting.old.stands.items → AllByRecursion (IsToldNode plan rows form) told → IsCounting plan rows form counting.new.counts.items counting.new.outputs.items counting.new.stands.items }
+    ensures fewer { 1 ≤ length told → count_by is_waiting counting.new.stands.items < count_by is_waiting counting.old.stands.items }
 {
-    let mut results = results.into_vec();
-    let mut counts = counts.into_vec();
-    while let Some(node_result) = results.pop() {
-        let Some(count) = counts.pop() else {
-            unreachable!()
-        };
-        put_count(counting, node_result, count);
+    let mut told = told.into_vec();
+    while let Some(one) = told.pop() {
+        put_told(counting, one);
     }
 }
 
 // Puts down how a node ended, and what is told of it.
-fn put_count(counting: &mut Counting, node_result: NodeResult, count: NodeCount)
-    requires came { node_result.number < length counting.old.counts.items }
-    requires left { node_result.number < length counting.old.outputs.items }
-    requires stand { node_result.number < length counting.old.stands.items }
-    ensures { IsCountPut node_result count counting.old.counts.items counting.old.outputs.items counting.old.stands.items counting.new.counts.items counting.new.outputs.items counting.new.stands.items }
+fn put_told(counting: &mut Counting, one: ToldNode)
+    requires came { one.number < length counting.old.counts.items }
+    requires left { one.number < length counting.old.outputs.items }
+    requires stand { one.number < length counting.old.stands.items }
+    ensures { IsToldPut one counting.old.counts.items counting.old.outputs.items counting.old.stands.items counting.new.counts.items counting.new.outputs.items counting.new.stands.items }
 {
-    let at = node_result.number as usize;
-    match node_result.ending {
-        Ending::OnTime(visits, streams) => {
-            drop(visits);
+    let at = one.number as usize;
+    match one.ending {
+        ToldEnding::Told(streams, count) => {
             drop(replace(&mut counting.counts[at], count));
             drop(replace(&mut counting.outputs[at], streams));
             counting.stands[at] = Stand::Done;
         }
-        Ending::TooMany(over) => {
-            drop(count);
-            counting.stands[at] = Stand::Crowded(over);
-        }
-        Ending::TooLate(past) => {
-            drop(count);
-            counting.stands[at] = Stand::Late(past);
-        }
-    }
-}
-
-// Puts down how these sources ended.
-pub fn settle_sent(counting: &mut Counting, sent: List<SentNode>)
-    requires waits { AllByRecursion (λ one. stands_at is_waiting (slice_get counting.old.stands.items one.number) ≡ true) sent }
-    requires came { length counting.old.counts.items ≡ length counting.old.stands.items }
-    requires left { length counting.old.outputs.items ≡ length counting.old.stands.items }
-    ensures reached { (plan : ThePlan) (rows : TheRows) (form : ℕ) → IsCounting plan rows form counting.old.counts.items counting.old.outputs.items counting.old.stands.items → AllByRecursion (IsSentOf plan rows) sent → IsCounting plan rows form counting.new.counts.items counting.new.outputs.items counting.new.stands.items }
-    ensures fewer { 1 ≤ length sent → count_by is_waiting counting.new.stands.items < count_by is_waiting counting.old.stands.items }
-{
-    let mut sent = sent.into_vec();
-    while let Some(one) = sent.pop() {
-        put_sent(counting, one);
-    }
-}
-
-// Puts down how a source ended: what it let out is kept as it came.
-fn put_sent(counting: &mut Counting, one: SentNode)
-    requires came { one.number < length counting.old.counts.items }
-    requires left { one.number < length counting.old.outputs.items }
-    requires stand { one.number < length counting.old.stands.items }
-    ensures { IsSentPut one counting.old.counts.items counting.old.outputs.items counting.old.stands.items counting.new.counts.items counting.new.outputs.items counting.new.stands.items }
-{
-    let at = one.number as usize;
-    match one.ending {
-        SentEnding::Sent(streams, told) => {
-            drop(replace(&mut counting.counts[at], told));
-            drop(replace(&mut counting.outputs[at], streams));
-            counting.stands[at] = Stand::Done;
-        }
-        SentEnding::Missed(past) => counting.stands[at] = Stand::Late(past),
+        ToldEnding::TooMany(over) => counting.stands[at] = Stand::Crowded(over),
+        ToldEnding::TooLate(past) => counting.stands[at] = Stand::Late(past),
     }
 }
 

@@ -27,8 +27,8 @@ use std::thread::Threads;
 
 /// Forks and joins that are ready.
 #[derive(Drop)]
-pub struct Apart<'a> {
-    pub arriving: Arriving<'a>,
+pub struct Apart<'a, 'r> {
+    pub arriving: Arriving<'a, 'r>,
 }
 
 /// What is made of the arrivals at a fork or a join.
@@ -39,7 +39,7 @@ pub struct Sequences {
     pub streams: List<Stream>,
 }
 
-impl<'a> Pieces for Apart<'a> {
+impl<'a, 'r> Pieces for Apart<'a, 'r> {
     type Piece = NodeResult;
 
     ghost fit = { λ s. IsGathering s.arriving × (length s.arriving.ready.now ≤ 64) };

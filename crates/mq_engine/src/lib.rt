@@ -35,6 +35,7 @@ use mq_base::List;
 pub use mq_core::{OverFault, PastFault};
 use mq_core::{Plan, Rows, Run};
 use mq_crew::Gate;
+use mq_exits::finished;
 pub use mq_pass::chain_departures;
 use std::alloc::Global;
 use std::thread::Threads;
@@ -94,7 +95,11 @@ pub fn run<R: Threads + Sync, G: Gate>(
             workers,
             block,
         };
-        let Ok(results) = wave_of(rt, alloc, &arriving, gate) else {
+        let Ok(given) = wave_of(rt, alloc, &arriving, gate) else {
+            drop(progress);
+            return Err(RunFault::Memory);
+        };
+        let Ok(results) = finished(rt, alloc, workers, given, gate) else {
             drop(progress);
             return Err(RunFault::Memory);
         };

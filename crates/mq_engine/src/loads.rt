@@ -83,7 +83,7 @@ impl<'a> Pieces for Scanning<'a> {
 pub fn loads_of<'a, R: Threads + Sync, G: Gate>(
     rt: &R,
     alloc: Global,
-    arriving: &Arriving<'a>,
+    arriving: &Arriving<'a, '_>,
     gate: &G,
 ) -> Result<List<Scanned<'a>>, OutOfMemory>
     requires arriving { IsArriving arriving.now }
@@ -112,7 +112,7 @@ pub fn loads_of<'a, R: Threads + Sync, G: Gate>(
 // The loads, with how the stations are worked out.
 fn all_scanned<'a>(
     alloc: Global,
-    arriving: &Arriving<'a>,
+    arriving: &Arriving<'a, '_>,
     arrived: List<Arrived<'a>>,
     scans: List<Scan>,
 ) -> Result<List<Scanned<'a>>, OutOfMemory>

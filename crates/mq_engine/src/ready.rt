@@ -8,7 +8,7 @@ ghost use Rattle.mq_merge.specs.Borrowed.{stream_in};
 ghost use Rattle.mq_arrivals.specs.Arrivals.{IsArriving};
 ghost use Rattle.mq_exits.specs.Exits.{IsReadyCompletion};
 ghost use Rattle.mq_exits.specs.Loads.{IsLoadOf};
-ghost use Rattle.mq_exits.specs.Results.{IsResultOf};
+ghost use Rattle.mq_exits.specs.Turns.{IsGiven};
 ghost use Rattle.mq_engine.specs.Loads.{IsApplied, IsPart, IsReadyMiddle, IsReadyScanned, applied_of, blocks_of};
 ghost use Rattle.mq_engine.specs.Progress.{AreEarly, CanWorkAll};
 
@@ -18,32 +18,32 @@ use crate::middles::{Middle, completion_of};
 use mq_arrivals::Arriving;
 use mq_base::{List, OutOfMemory};
 use mq_crew::{Gate, run_parts};
-use mq_exits::{Emptied, Held, NodeResult, station_results};
+use mq_exits::{Emptied, Given, Held, given_of};
 use std::alloc::Global;
 use std::thread::Threads;
 
 // What the nodes that are ready give: what comes to each; then the summaries of the stations that are
 // scanned, what leaves the blocks of a split, and the others whole; the applied blocks; and the last pieces
-// of each. Before these each server has its single pass, one after another, each fork-join lists of its own,
+// of each whose jobs don't leave in turn. Before these each server has its single pass, one after another, each fork-join lists of its own,
 // and the jobs of a delay are put in order.
-pub fn results_of<R: Threads + Sync, G: Gate>(
+pub fn given_by<'a, R: Threads + Sync, G: Gate>(
     rt: &R,
     alloc: Global,
-    arriving: &Arriving,
+    arriving: &Arriving<'a, '_>,
     gate: &G,
-) -> Result<List<NodeResult>, OutOfMemory>
+) -> Result<List<Given<'a>>, OutOfMemory>
     requires arriving { IsArriving arriving.now }
     requires early { AreEarly arriving.now.outputs.now }
     requires can { CanWorkAll arriving.now.plan.now arriving.now.rows.now arriving.now.outputs.now arriving.now.ready.now }
-    ensures len { IfOk result (λ results. length results ≡ length arriving.now.ready.now) }
-    ensures known { IfOk result (λ results. AllByRecursion (IsResultOf arriving.now.plan.now arriving.now.rows.now arriving.now.ready.now) results) }
+    ensures len { IfOk result (λ given. length given ≡ length arriving.now.ready.now) }
+    ensures known { IfOk result (λ given. AllByRecursion (IsGiven arriving.now.plan.now arriving.now.rows.now arriving.now.ready.now) given) }
 {
     let workers = arriving.workers;
     let middles = begun(rt, alloc, arriving, gate)?;
     match run_parts(rt, alloc, workers, middles.as_slice(), gate) {
         Ok(groups) => {
             let those_emptied = all_emptied(rt, alloc, workers, middles, groups, gate)?;
-            station_results(rt, alloc, workers, those_emptied, gate)
+            given_of(rt, alloc, workers, those_emptied, gate)
         }
         Err(fault) => {
             drop(middles);
@@ -56,7 +56,7 @@ pub fn results_of<R: Threads + Sync, G: Gate>(
 fn begun<'a, R: Threads + Sync, G: Gate>(
     rt: &R,
     alloc: Global,
-    arriving: &Arriving<'a>,
+    arriving: &Arriving<'a, '_>,
     gate: &G,
 ) -> Result<List<Middle<'a>>, OutOfMemory>
     requires arriving { IsArriving arriving.now }

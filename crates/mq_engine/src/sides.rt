@@ -9,7 +9,7 @@ use mq_arrivals::Arriving;
 use mq_base::{List, OutOfMemory};
 use mq_core::Kind;
 use mq_crew::Gate;
-use mq_exits::NodeResult;
+use mq_exits::Given;
 use std::alloc::Global;
 use std::marker::Sync;
 use std::thread::{Threads, join};
@@ -94,38 +94,38 @@ pub fn shares(workers: u32, long: u32) -> (u32, u32)
 }
 
 // What the nodes of both sides give, each worked out by its own workers.
-pub fn side_by_side<R: Threads + Sync, G: Gate>(
+pub fn side_by_side<'a, R: Threads + Sync, G: Gate>(
     rt: &R,
     alloc: Global,
-    long: &Arriving,
-    others: &Arriving,
+    long: &Arriving<'a, '_>,
+    others: &Arriving<'a, '_>,
     gate: &G,
 ) -> (
-    Result<List<NodeResult>, OutOfMemory>,
-    Result<List<NodeResult>, OutOfMemory>,
+    Result<List<Given<'a>>, OutOfMemory>,
+    Result<List<Given<'a>>, OutOfMemory>,
 )
     requires long { IsSide long.now }
     requires others { IsSide others.now }
     ensures long { IfOk result.0 (AreGiven long.now) }
     ensures others { IfOk result.1 (AreGiven others.now) }
 {
-    let front = move || -> Result<List<NodeResult>, OutOfMemory>
+    let front = move || -> Result<List<Given>, OutOfMemory>
         requires { IsSync R.row × IsSync G.row × IsSide long.now }
         ensures { IfOk result (AreGiven long.entry.now) }
     { side_of(rt, alloc, long, gate) };
-    let back = move || -> Result<List<NodeResult>, OutOfMemory>
+    let back = move || -> Result<List<Given>, OutOfMemory>
         requires { IsSync R.row × IsSync G.row × IsSide others.now }
         ensures { IfOk result (AreGiven others.entry.now) }
     { side_of(rt, alloc, others, gate) };
     join(rt, front, back)
 }
 
-// The results of both, one behind the other, or the refusal of either.
-pub fn appended(
-    first: Result<List<NodeResult>, OutOfMemory>,
-    second: Result<List<NodeResult>, OutOfMemory>,
-) -> Result<List<NodeResult>, OutOfMemory>
-    ensures { IfOk result (λ all. IsOkAnd first (λ a. IsOkAnd second (λ b. all ≡ a ++ b))) }
+// What both give, one behind the other, or the refusal of either.
+pub fn appended<'a>(
+    first: Result<List<Given<'a>>, OutOfMemory>,
+    second: Result<List<Given<'a>>, OutOfMemory>,
+) -> Result<List<Given<'a>>, OutOfMemory>
+    ensures { IfOk result (λ all. IsOkAnd first.entry (λ a. IsOkAnd second.entry (λ b. all ≡ a ++ b))) }
 {
     let mut all = first?.into_vec();
     let mut more = second?.into_vec();

@@ -14,13 +14,14 @@ ghost use Rattle.mq_core.specs.declared.model.Node.{Node as TheNode};
 ghost use Rattle.mq_counts.specs.Counts.{IsCountOf, is_read as reads_output};
 ghost use Rattle.mq_exits.specs.Loads.{IsLoaded};
 ghost use Rattle.mq_merge.specs.Borrowed.{stream_in};
-ghost use Rattle.mq_stats.specs.Lasts.{last_time};
 ghost use Rattle.mq_stats.specs.Numbers.{AreLeaving, AreSmall, totals_from};
-ghost use Rattle.mq_engine.specs.Sources.{IsSentAmong, IsSentOf, IsSourceAmong, IsSourceArrived, sent_totals};
+ghost use Rattle.mq_engine.specs.Counting.{IsToldAmong, IsToldNode};
+ghost use Rattle.mq_engine.specs.Sources.{IsSourceAmong, IsSourceArrived, sent_totals};
 ghost use Rattle.mq_engine.specs.Progress.{AreEarly, CanWorkAll};
 ghost use Rattle.mq_engine.specs.Waves.{IsWave};
 
 use crate::laws::core_laws;
+use crate::told::{ToldEnding, ToldNode};
 use mq_arrivals::{Arrived, Arriving, arrivals_of};
 use mq_base::{List, OutOfMemory};
 use mq_core::{
@@ -31,26 +32,9 @@ use mq_counts::{NodeCount, is_read};
 use mq_crew::Gate;
 use mq_merge::Arrivals;
 use mq_stations::{first_late_in_turn, only};
-use mq_stats::{Exit, NodeTotals, Percentiles, leaving, runs_give_visits};
+use mq_stats::{Exit, NodeTotals, Percentiles, last, leaving, runs_give_visits};
 use std::alloc::Global;
 use std::thread::Threads;
-
-/// How a source ends.
-#[derive(Drop)]
-pub enum SentEnding {
-    /// With what leaves it, and what is told of it: no job comes after the bound.
-    Sent(List<Stream>, NodeCount),
-    /// With its first job that comes after the bound.
-    Missed(PastFault),
-}
-
-/// A source that was worked out.
-#[derive(Drop)]
-pub struct SentNode {
-    /// The node, by order of declaration.
-    pub number: u32,
-    pub ending: SentEnding,
-}
 
 // Those of these nodes that are sources.
 fn sources_among(alloc: Global, plan: &Plan, ready: &[u32]) -> Result<Vec<u32>, OutOfMemory>
@@ -84,16 +68,6 @@ fn owned(alloc: Global, arrivals: Arrivals) -> Result<Stream, OutOfMemory>
     match arrivals {
         Arrivals::Merged(stream) => Ok(stream),
         Arrivals::Read(stream) => copied(alloc, stream),
-    }
-}
-
-// The last of these times, or 0.
-fn last_of(times: &List<u64>) -> u64
-    ensures { result ≡ last_time times.now }
-{
-    match times.len() {
-        0 => 0,
-        count => *times.get(count - 1),
     }
 }
 
@@ -145,7 +119,7 @@ fn count_sent(
     exits.push(exit_sent(nodes, rows, node, stream))?;
     Ok(NodeCount {
         totals: totals_sent(stream.job.len() as u32),
-        last: last_of(&stream.time),
+        last: last(stream.time.as_slice()),
         tail: Percentiles {
             p50: 0,
             p90: 0,
@@ -161,13 +135,13 @@ fn sent_with(
     number: u32,
     stream: Stream,
     count: NodeCount,
-) -> Result<SentNode, OutOfMemory>
-    ensures { IfOk result (λ sent. sent ≡ record { number = number; ending = SentEnding.Sent (stream ∷ []) count }) }
+) -> Result<ToldNode, OutOfMemory>
+    ensures { IfOk result (λ sent. sent ≡ record { number = number; ending = ToldEnding.Told (stream ∷ []) count }) }
 {
     match only(alloc, stream) {
-        Ok(streams) => Ok(SentNode {
+        Ok(streams) => Ok(ToldNode {
             number,
-            ending: SentEnding::Sent(streams, count),
+            ending: ToldEnding::Told(streams, count),
         }),
         Err(fault) => {
             drop(count);
@@ -183,12 +157,12 @@ fn sent_on_time(
     rows: &Rows,
     number: u32,
     stream: Stream,
-) -> Result<SentNode, OutOfMemory>
+) -> Result<ToldNode, OutOfMemory>
     requires read { IsReadFor plan.now.net rows.now }
     requires loaded { IsLoaded plan.now rows.now number stream }
     requires source { (node : TheNode) → slice_get plan.now.net.nodes number ≡ Some node → is_source_kind node.kind ≡ true }
     requires early { first_of (sequence_late_from plan.now.net.bound number 0 (map (λ time. Departs time) stream.time)) ≡ None }
-    ensures { IfOk result (λ sent. (sent.number ≡ number) × IsSentOf plan.now rows.now sent) }
+    ensures { IfOk result (λ sent. (sent.number ≡ number) × ((form : ℕ) → IsToldNode plan.now rows.now form sent)) }
 {
     core_laws();
     orders_keep_items();
@@ -211,11 +185,11 @@ fn sent_of(
     rows: &Rows,
     number: u32,
     stream: Stream,
-) -> Result<SentNode, OutOfMemory>
+) -> Result<ToldNode, OutOfMemory>
     requires read { IsReadFor plan.now.net rows.now }
     requires loaded { IsLoaded plan.now rows.now number stream }
     requires source { (node : TheNode) → slice_get plan.now.net.nodes number ≡ Some node → is_source_kind node.kind ≡ true }
-    ensures { IfOk result (λ sent. (sent.number ≡ number) × IsSentOf plan.now rows.now sent) }
+    ensures { IfOk result (λ sent. (sent.number ≡ number) × ((form : ℕ) → IsToldNode plan.now rows.now form sent)) }
 {
     core_laws();
     orders_keep_items();
@@ -223,9 +197,9 @@ fn sent_of(
     match first_late_in_turn(plan.net.bound, number, &stream.time) {
         Some(past) => {
             drop(stream);
-            Ok(SentNode {
+            Ok(ToldNode {
                 number,
-                ending: SentEnding::Missed(past),
+                ending: ToldEnding::TooLate(past),
             })
         }
         None => sent_on_time(alloc, plan, rows, number, stream),
@@ -238,11 +212,11 @@ fn sent_arrived(
     plan: &Plan,
     rows: &Rows,
     arrived: Arrived,
-) -> Result<SentNode, OutOfMemory>
+) -> Result<ToldNode, OutOfMemory>
     requires read { IsReadFor plan.now.net rows.now }
     requires loaded { IsLoaded plan.now rows.now arrived.number (stream_in arrived.arrivals) }
     requires source { (node : TheNode) → slice_get plan.now.net.nodes arrived.number ≡ Some node → is_source_kind node.kind ≡ true }
-    ensures { IfOk result (λ sent. (sent.number ≡ arrived.entry.number) × IsSentOf plan.now rows.now sent) }
+    ensures { IfOk result (λ sent. (sent.number ≡ arrived.entry.number) × ((form : ℕ) → IsToldNode plan.now rows.now form sent)) }
 {
     let Arrived { number, arrivals } = arrived;
     let stream = owned(alloc, arrivals)?;
@@ -254,11 +228,11 @@ fn all_sent(
     alloc: Global,
     arriving: &Arriving,
     arrived: List<Arrived>,
-) -> Result<List<SentNode>, OutOfMemory>
+) -> Result<List<ToldNode>, OutOfMemory>
     requires read { IsReadFor arriving.now.plan.now.net arriving.now.rows.now }
     requires arrived { AllByRecursion (IsSourceArrived arriving.now) arrived }
     ensures len { IfOk result (λ sent. length sent ≡ length arrived.entry) }
-    ensures known { IfOk result (AllByRecursion (IsSentAmong arriving.now.plan.now arriving.now.rows.now arriving.now.ready.now)) }
+    ensures known { IfOk result (λ sent. (form : ℕ) → AllByRecursion (IsToldAmong arriving.now.plan.now arriving.now.rows.now form arriving.now.ready.now) sent) }
 {
     let Ok(mut sent) = Vec::with_capacity(alloc, arrived.len()) else {
         drop(arrived);
@@ -284,13 +258,13 @@ fn sent_by<R: Threads + Sync, G: Gate>(
     alloc: Global,
     arriving: &Arriving,
     gate: &G,
-) -> Result<List<SentNode>, OutOfMemory>
+) -> Result<List<ToldNode>, OutOfMemory>
     requires arriving { IsArriving arriving.now }
     requires early { AreEarly arriving.now.outputs.now }
     requires can { CanWorkAll arriving.now.plan.now arriving.now.rows.now arriving.now.outputs.now arriving.now.ready.now }
     requires sources { (v : ℕ) → Contains arriving.now.ready.now v → (node : TheNode) → slice_get arriving.now.plan.now.net.nodes v ≡ Some node → is_source_kind node.kind ≡ true }
     ensures len { IfOk result (λ sent. length sent ≡ length arriving.now.ready.now) }
-    ensures known { IfOk result (AllByRecursion (IsSentAmong arriving.now.plan.now arriving.now.rows.now arriving.now.ready.now)) }
+    ensures known { IfOk result (λ sent. (form : ℕ) → AllByRecursion (IsToldAmong arriving.now.plan.now arriving.now.rows.now form arriving.now.ready.now) sent) }
 {
     core_laws();
     let arrived = arrivals_of(rt, alloc, arriving, gate)?;
@@ -303,12 +277,12 @@ pub fn sources_sent<R: Threads + Sync, G: Gate>(
     alloc: Global,
     arriving: &Arriving,
     gate: &G,
-) -> Result<List<SentNode>, OutOfMemory>
+) -> Result<List<ToldNode>, OutOfMemory>
     requires wave { IsWave arriving.now }
     requires few { length arriving.now.ready.now ≤ 64 }
     requires some { 1 ≤ arriving.now.workers }
     requires most { arriving.now.workers ≤ 64 }
-    ensures { IfOk result (AllByRecursion (IsSentAmong arriving.now.plan.now arriving.now.rows.now arriving.now.ready.now)) }
+    ensures { IfOk result (λ sent. (form : ℕ) → AllByRecursion (IsToldAmong arriving.now.plan.now arriving.now.rows.now form arriving.now.ready.now) sent) }
 {
     let sources = sources_among(alloc, arriving.plan, arriving.ready)?;
     if sources.is_empty() {

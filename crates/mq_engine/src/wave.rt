@@ -1,23 +1,26 @@
 // The nodes of a wave, by how they are worked out: those with too many visits not at all, forks and joins
 // each as one piece, and stations in lists of pieces.
-ghost use Rattle.std.specs.Prelude.{◌≡◌, ◌+◌, ◌++◌, ◌≤◌, Contains, Some, length, slice_get, IfOk};
+ghost use Rattle.std.specs.Prelude.{◌≡◌, ◌+◌, ◌≤◌, ℕ, List as Items, Contains, Some, length, slice_get, IfOk};
 ghost use Rattle.std.specs.List.{AllByRecursion, flat_map};
 ghost use Rattle.mq_core.specs.SequenceLaws.{sends_once};
 ghost use Rattle.mq_core.specs.declared.model.Node.{Node as TheNode};
+ghost use Rattle.mq_core.specs.declared.model.Plan.{Plan as ThePlan};
+ghost use Rattle.mq_core.specs.declared.model.Rows.{Rows as TheRows};
 ghost use Rattle.mq_arrivals.specs.Arrivals.{pairs_read};
 ghost use Rattle.mq_exits.specs.Results.{IsResultOf};
+ghost use Rattle.mq_exits.specs.Turns.{IsGiven};
 ghost use Rattle.mq_engine.specs.Waves.{AreGiven, AreSorted, IsSide, IsWave, IsWay};
 ghost use Rattle.mq_exits.specs.declared.working.Ending.TheVariants.{TooMany};
 
 use crate::gathering::apart_results;
 use crate::laws::core_laws;
-use crate::ready::results_of;
+use crate::ready::given_by;
 use crate::sides::{appended, shares, side_by_side, sides_of};
 use mq_arrivals::{Arriving, stream_of};
 use mq_base::{List, OutOfMemory};
 use mq_core::{Kind, OverFault, is_source};
 use mq_crew::Gate;
-use mq_exits::{Ending, NodeResult};
+use mq_exits::{Ending, Given, NodeResult, with_ended};
 use std::alloc::Global;
 use std::thread::Threads;
 
@@ -136,29 +139,29 @@ fn sorted_out(alloc: Global, arriving: &Arriving) -> Result<Wave, OutOfMemory>
     Ok(wave)
 }
 
-// The results of a wave: of its nodes with too many visits, and behind them these. Nothing else of the wave is looked at.
-fn all_results(
+// What a wave gives: these, and its nodes with too many visits and what was gathered. Nothing else of the wave is looked at.
+fn all_given<'a>(
     wave: Wave,
     gathered: List<NodeResult>,
-    served: List<NodeResult>,
-) -> Result<List<NodeResult>, OutOfMemory>
-    ensures { IfOk result (λ all. all ≡ wave.crowded ++ gathered ++ served) }
+    served: List<Given<'a>>,
+) -> Result<List<Given<'a>>, OutOfMemory>
+    ensures len { IfOk result (λ all. length all ≡ length wave.crowded + length gathered + length served.entry) }
+    ensures known { IfOk result (λ all. (plan : ThePlan) (rows : TheRows) (ready : Items ℕ) → AllByRecursion (IsResultOf plan rows ready) wave.crowded → AllByRecursion (IsResultOf plan rows ready) gathered → AllByRecursion (IsGiven plan rows ready) served.entry → AllByRecursion (IsGiven plan rows ready) all) }
 {
-    let mut results = wave.crowded.into_vec();
-    let mut gathered = gathered.into_vec();
-    let mut served = served.into_vec();
-    results.append(&mut gathered)?;
-    results.append(&mut served)?;
-    Ok(List::from_vec(results))
+    let Ok(given) = with_ended(served, gathered) else {
+        drop(wave);
+        return Err(OutOfMemory);
+    };
+    with_ended(given, wave.crowded)
 }
 
 // What these nodes give, by all workers together.
-pub fn side_of<R: Threads + Sync, G: Gate>(
+pub fn side_of<'a, R: Threads + Sync, G: Gate>(
     rt: &R,
     alloc: Global,
-    arriving: &Arriving,
+    arriving: &Arriving<'a, '_>,
     gate: &G,
-) -> Result<List<NodeResult>, OutOfMemory>
+) -> Result<List<Given<'a>>, OutOfMemory>
     requires { IsSide arriving.now }
     ensures { IfOk result (AreGiven arriving.now) }
 {
@@ -175,27 +178,27 @@ pub fn side_of<R: Threads + Sync, G: Gate>(
         ready: &wave.stations,
         ..*arriving
     };
-    let Ok(served) = results_of(rt, alloc, &serving, gate) else {
+    let Ok(served) = given_by(rt, alloc, &serving, gate) else {
         drop(wave);
         drop(gathered);
         return Err(OutOfMemory);
     };
-    all_results(wave, gathered, served)
+    all_given(wave, gathered, served)
 }
 
 /// What the nodes that are ready give: stations of one long piece beside all others, where there are both.
-pub fn wave_of<R: Threads + Sync, G: Gate>(
+pub fn wave_of<'a, R: Threads + Sync, G: Gate>(
     rt: &R,
     alloc: Global,
-    arriving: &Arriving,
+    arriving: &Arriving<'a, '_>,
     gate: &G,
-) -> Result<List<NodeResult>, OutOfMemory>
+) -> Result<List<Given<'a>>, OutOfMemory>
     requires wave { IsWave arriving.now }
     requires few { length arriving.now.ready.now ≤ 64 }
     requires some { 1 ≤ arriving.now.workers }
     requires most { arriving.now.workers ≤ 64 }
-    ensures len { IfOk result (λ results. length results ≡ length arriving.now.ready.now) }
-    ensures known { IfOk result (λ results. AllByRecursion (IsResultOf arriving.now.plan.now arriving.now.rows.now arriving.now.ready.now) results) }
+    ensures len { IfOk result (λ given. length given ≡ length arriving.now.ready.now) }
+    ensures known { IfOk result (λ given. AllByRecursion (IsGiven arriving.now.plan.now arriving.now.rows.now arriving.now.ready.now) given) }
 {
     let sides = sides_of(alloc, arriving)?;
     if arriving.workers == 1 || sides.long.is_empty() || sides.others.is_empty() {

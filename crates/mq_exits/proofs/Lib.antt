@@ -10,3 +10,5 @@ pub mod Founding
 pub mod Lasts
 pub mod Emptying
 pub mod Telling
+pub mod Apart
+pub mod Turning

@@ -5,3 +5,4 @@ pub mod NodeLaws
 pub mod Refusals
 pub mod Results
 pub mod Splits
+pub mod Turns

@@ -21,6 +21,7 @@ mod load;
 mod overtaking;
 mod splitting;
 mod taking;
+mod turns;
 mod working;
 
 use crate::exits::result_of;
@@ -32,6 +33,7 @@ pub use overtaking::{Overtaken, left_by};
 pub use splitting::{parted, routed};
 use std::alloc::Global;
 use std::thread::Threads;
+pub use turns::{Given, InTurn, finished, given_of, with_ended};
 pub use working::{After, Ending, NodeResult, Worked, nobody, station_whole};
 
 /// What these stations give, at most 64 of them, in some order: of each its visits and what leaves it by each output,

@@ -32,7 +32,7 @@ use mq_core::{Kind, Node, OverFault, Rows, Stream};
 use mq_crew::Open;
 use mq_edits::FormerRows;
 use mq_engine::{RunFault, Way, core_laws, wave_of, way_of};
-use mq_exits::{Emptied, Ending, Held, NodeResult, station_results};
+use mq_exits::{Emptied, Ending, Held, NodeResult, finished, station_results};
 use mq_redo::counted;
 use mq_scan::cut;
 use std::alloc::Global;
@@ -213,7 +213,8 @@ fn apart_lists<R: Threads + Sync>(
     ensures cause { IfErr result (IsFaultAt arriving.now.plan.now arriving.now.rows.now number) }
 {
     core_laws();
-    let results = wave_of(rt, alloc, arriving, &Open)?;
+    let given = wave_of(rt, alloc, arriving, &Open)?;
+    let results = finished(rt, alloc, arriving.workers, given, &Open)?;
     lists_by(the_only(results), Checkpoints::Nothing)
 }
 
@@ -359,7 +360,7 @@ fn whole_run<R: Threads + Sync, L: Ledger>(
 fn held_at<'a, R: Threads + Sync>(
     rt: &R,
     alloc: Global,
-    arriving: &Arriving<'a>,
+    arriving: &Arriving<'a, '_>,
     number: u32,
 ) -> Result<Held<'a>, OutOfMemory>
     requires wave { IsWave arriving.now }

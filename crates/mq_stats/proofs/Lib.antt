@@ -6,6 +6,7 @@ pub mod Counts
 pub mod Ordered
 pub mod Founds
 pub mod InOrder
+pub mod InTurn
 pub mod Passing
 pub mod Telling
 pub mod Fine

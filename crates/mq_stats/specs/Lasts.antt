@@ -15,9 +15,13 @@ use Rattle.mq_core.specs.declared.model.Visits.{Visits}
 abbrev pub last_time : List ℕ → ℕ
 last_time times = slice_index_or times (length times - 1) 0
 
+-- the greatest of a time and the last times of these streams
+abbrev pub last_left : ℕ → List Stream → ℕ
+last_left time streams = fold max time (map (λ (stream : Stream). last_time stream.time) streams)
+
 -- the greatest of the last arrival and the last times of the streams
 abbrev pub last_event : Visits → List Stream → ℕ
-last_event visits streams = fold max (last_time visits.arrive) (map (λ (stream : Stream). last_time stream.time) streams)
+last_event visits streams = last_left (last_time visits.arrive) streams
 
 -- the greatest time of a visit to a node of a run is that of its last event
 abbrev pub LastsAreGreatest : Type 0

@@ -3,6 +3,7 @@ pub mod Bare
 pub mod Blocks
 pub mod Departures
 pub mod Exits
+pub mod InTurn
 pub mod Lasts
 pub mod Numbers
 pub mod Percentiles

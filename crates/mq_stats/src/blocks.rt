@@ -22,7 +22,7 @@ pub struct BlockCount {
 }
 
 // What is counted of visits to a node of this kind, which stand in these columns.
-fn count_columns(
+pub fn count_columns(
     alloc: Global,
     waiting: &Waiting,
     found: &[u32],

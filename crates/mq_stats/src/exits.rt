@@ -5,6 +5,7 @@ ghost use Rattle.mq_stats.specs.Exits.{ExitsJoin, IsExitOf, stream_between};
 ghost use Rattle.mq_stats.specs.Numbers.{AreLeaving};
 
 use crate::tallies::part;
+use mq_base::List;
 use mq_core::{Rows, Stream};
 
 /// What leaves a network by an output.
@@ -32,19 +33,30 @@ fn sojourns_of(rows: &Rows, job: &[u32], time: &[u64]) -> u128
     sojourn
 }
 
-/// How many jobs a stream has from one position up to another, and how long they were in the network, in ticks.
+/// How many jobs a stream has from one position up to another, and how long they were in the network, in ticks, where these are its jobs and
+/// their times.
+pub fn columns_between(rows: &Rows, jobs: &List<u32>, times: &List<u64>, from: u32, to: u32) -> Exit
+    requires leaving { AreLeaving rows.now (record { job = jobs.now; time = times.now }) }
+    requires order { from ≤ to }
+    requires within { to ≤ length jobs.now }
+    ensures { IsExitOf rows.now (stream_between from to (record { job = jobs.now; time = times.now })) result }
+{
+    let job = part(jobs, from, to);
+    let time = part(times, from, to);
+    Exit {
+        count: job.len() as u32,
+        sojourn: sojourns_of(rows, job, time),
+    }
+}
+
+/// How many jobs a stream has from one position up to another, and how long they were in the network.
 pub fn leaving_between(rows: &Rows, stream: &Stream, from: u32, to: u32) -> Exit
     requires leaving { AreLeaving rows.now stream.now }
     requires order { from ≤ to }
     requires within { to ≤ length stream.now.job }
     ensures { IsExitOf rows.now (stream_between from to stream.now) result }
 {
-    let job = part(&stream.job, from, to);
-    let time = part(&stream.time, from, to);
-    Exit {
-        count: job.len() as u32,
-        sojourn: sojourns_of(rows, job, time),
-    }
+    columns_between(rows, &stream.job, &stream.time, from, to)
 }
 
 /// What leaves by a stream, of what leaves by its part before a position and by that from it on. Together they have at most

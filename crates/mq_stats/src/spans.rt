@@ -1,7 +1,7 @@
 // The time span of a run.
 ghost use Rattle.std.specs.Prelude.{◌≡◌, max, fold, map};
 ghost use Rattle.mq_core.specs.Sequences.{sequence_span, greatest_time, time_of_fate};
-ghost use Rattle.mq_stats.specs.Lasts.{last_event, last_time};
+ghost use Rattle.mq_stats.specs.Lasts.{last_left, last_time};
 
 use mq_base::List;
 use mq_core::{Fate, Fates, Stream, Visits};
@@ -59,8 +59,8 @@ pub fn span(visits: &List<Visits>) -> u64
     span
 }
 
-// The last of these times, or 0.
-fn last(times: &[u64]) -> u64
+/// The last of these times, or 0.
+pub fn last(times: &[u64]) -> u64
     ensures { result ≡ last_time times.now }
 {
     if times.is_empty() {
@@ -69,13 +69,13 @@ fn last(times: &[u64]) -> u64
     times[times.len() - 1]
 }
 
-/// The greatest of the last arrival at a node and the last times at which jobs leave it by its outputs,
+/// The greatest of the last of these times at which jobs come to a node and the last times at which jobs leave it by its outputs,
 /// in ticks, or 0 where there is none. Of a run that is the greatest time at the node, since arrivals and
 /// streams never go back in time.
-pub fn last_at(visits: &Visits, streams: &List<Stream>) -> u64
-    ensures { result ≡ last_event visits.now streams.now }
+pub fn last_at(arrive: &List<u64>, streams: &List<Stream>) -> u64
+    ensures { result ≡ last_left (last_time arrive.now) streams.now }
 {
-    let mut latest = last(visits.arrive.as_slice());
+    let mut latest = last(arrive.as_slice());
     for stream in streams.as_slice() {
         latest = latest.max(last(stream.time.as_slice()));
     }

@@ -3,6 +3,7 @@ ghost use Rattle.std.specs.Prelude.{◌≡◌, ◌↔◌, ◌-◌, ◌<◌, ◌�
 ghost use Rattle.mq_stats.specs.Numbers.{AreVisits};
 ghost use Rattle.mq_stats.specs.Percentiles.{ArePercentiles, hundredths as hundredths_of, waits_at};
 ghost use Rattle.mq_stats.specs.Tables.{IsReached, IsTableOf, own_counts};
+ghost use Rattle.mq_stats.specs.Waits.{AreWaiting, departed_waits_in};
 
 use crate::wait_counts::count_waits;
 use crate::waits::{Waited, Waiting, waits_of};
@@ -114,6 +115,22 @@ fn tail_by(alloc: Global, waits: &mut [u64], longest: u64) -> Result<Percentiles
     }
 }
 
+// The percentiles of the waits of visits that stand in these columns, the longest of which has so many ticks.
+pub fn tail_of_columns(
+    alloc: Global,
+    waiting: &Waiting,
+    longest: u64,
+) -> Result<Percentiles, OutOfMemory>
+    requires { AreWaiting waiting.now }
+    ensures { IfOk result (ArePercentiles (departed_waits_in waiting.now)) }
+{
+    let Waited { waits, .. } = waits_of(alloc, waiting)?;
+    let mut waits = waits.into_vec();
+    let tail = tail_by(alloc, waits.as_mut_slice(), longest);
+    drop(waits);
+    tail
+}
+
 /// The percentiles of the waits of the visits to a node of this kind, as `tail` gives them, by a table that is no longer than a
 /// longest wait of `longest` ticks needs. Where a wait is longer the answer is the same, and may come more slowly. It refuses
 /// for want of memory alone.
@@ -134,11 +151,7 @@ pub fn tail_below(
         arrive: visits.arrive.as_slice(),
         fate: &visits.fate.as_slice(),
     };
-    let Waited { waits, .. } = waits_of(alloc, &waiting)?;
-    let mut waits = waits.into_vec();
-    let tail = tail_by(alloc, waits.as_mut_slice(), longest);
-    drop(waits);
-    tail
+    tail_of_columns(alloc, &waiting, longest)
 }
 
 /// The percentiles of the waits of the visits to a node of this kind. It refuses for want of memory alone.

@@ -1,10 +1,11 @@
 // How many of the waits at a node are each number of ticks, by pieces of its visits.
-ghost use Rattle.std.specs.Prelude.{◌≡◌, ◌↔◌, ◌+◌, ◌-◌, ◌++◌, ◌==◌, ◌<◌, ◌≤◌, ℕ, List as Items, IfOk, IfSome, IsSome, [], count_by, get_or, length, min};
+ghost use Rattle.std.specs.Prelude.{◌≡◌, ◌↔◌, ◌+◌, ◌-◌, ◌++◌, ◌==◌, ◌<◌, ◌≤◌, ℕ, List as Items, IfOk, IfSome, IsSome, [], count_by, fold, get_or, length, max, min};
 ghost use Rattle.std.specs.List.{AllByRecursion};
 ghost use Rattle.mq_stats.specs.Numbers.{AreVisits, visits_between};
 ghost use Rattle.mq_stats.specs.Percentiles.{ArePercentiles, hundredths, longest_wait, waits_at};
 ghost use Rattle.mq_stats.specs.Tables.{own_counts};
 ghost use Rattle.mq_stats.specs.WaitCounts.{AreCounts, WaitsJoin};
+ghost use Rattle.mq_stats.specs.Waits.{AreWaiting, departed_waits_in, waits_in};
 
 use crate::tails::{Percentiles, counted};
 use crate::tallies::part;
@@ -73,6 +74,23 @@ pub fn counts_of(
     }))
 }
 
+// The counts of the waits of those visits that depart, which stand in these columns.
+pub fn counts_of_columns(
+    alloc: Global,
+    waiting: &Waiting,
+    most: u32,
+) -> Result<Option<WaitCounts>, OutOfMemory>
+    requires visits { AreWaiting waiting.now }
+    requires most { most ≤ 1048576 }
+    ensures told { IfOk result (λ counts. IsSome counts ↔ (fold max 0 (waits_in waiting.now) ≤ most)) }
+    ensures counts { IfOk result (λ counts. IfSome counts (AreCounts (departed_waits_in waiting.now))) }
+{
+    let told = waits_of(alloc, waiting)?;
+    let counts = counts_of(alloc, told.waits.as_slice(), told.longest, most);
+    drop(told);
+    counts
+}
+
 /// The counts of the waits of those visits to a node of this kind that depart, from one position up to another, exactly where
 /// none is longer than `most` ticks. It refuses for want of memory alone.
 pub fn count_between(
@@ -98,10 +116,7 @@ pub fn count_between(
         arrive: part(&visits.arrive, from, to),
         fate: &visits.fate.part(from as usize, to as usize),
     };
-    let told = waits_of(alloc, &waiting)?;
-    let counts = counts_of(alloc, told.waits.as_slice(), told.longest, most);
-    drop(told);
-    counts
+    counts_of_columns(alloc, &waiting, most)
 }
 
 // Adds to each count the other at its index.

@@ -5,6 +5,7 @@ use Rattle.mq_engine.proofs.Endings.{within}
 use Rattle.mq_engine.proofs.Lists.{filter-passes, no-items}
 use Rattle.mq_engine.proofs.Waves.{has-all}
 use Rattle.mq_engine.proofs.Settling.{reached-begins, ready-few, ready-wait, results-known}
+use Rattle.mq_engine.proofs.Telling.{given-finishable}
 use Rattle.mq_engine.proofs.run.Goals as goal
 
 pub ready_nodes-requires-clause-within : goal.ready_nodes-requires-clause-within
@@ -36,11 +37,12 @@ ended-requires-clause-stuck g c =
 
 pub settle-requires-clause-waits : goal.settle-requires-clause-waits
 settle-requires-clause-waits g c =
-    ready-wait c.args.plan.now c.args.rows.now c.waves.progress.stands.items c.deref-in-waves-2.result.now c.in-Ok-wave_of.results
-    (c.deref-in-waves-2.ensures.value ∙ (c.in-Ok.ensures ∙ ap (λ stands. filter (is_ready c.args.plan.now.net.nodes stands) c.args.plan.now.order) c.deref.ensures.value)) c.in-Ok-wave_of.ensures.known
+    ready-wait c.args.plan.now c.args.rows.now c.waves.progress.stands.items c.deref-in-waves-2.result.now c.in-Ok-finished.results
+    (c.deref-in-waves-2.ensures.value ∙ (c.in-Ok.ensures ∙ ap (λ stands. filter (is_ready c.args.plan.now.net.nodes stands) c.args.plan.now.order) c.deref.ensures.value)) (c.in-Ok-finished.ensures.known c.args.plan.now c.args.rows.now c.deref-in-waves-2.result.now (given-finishable c.args.plan.now c.args.rows.now c.deref-in-waves-2.result.now c.in-Ok-wave_of.given c.in-Ok-wave_of.ensures.known))
 
 pub waves-preserved : goal.waves-preserved
-waves-preserved g c = c.settle.ensures.reached c.args.plan.now c.args.rows.now c.waves.invariant (results-known c.args.plan.now c.args.rows.now c.deref-in-waves-2.result.now c.in-Ok-wave_of.results c.in-Ok-wave_of.ensures.known)
+waves-preserved g c = c.settle.ensures.reached c.args.plan.now c.args.rows.now c.waves.invariant (results-known c.args.plan.now c.args.rows.now c.deref-in-waves-2.result.now c.in-Ok-finished.results
+    (c.in-Ok-finished.ensures.known c.args.plan.now c.args.rows.now c.deref-in-waves-2.result.now (given-finishable c.args.plan.now c.args.rows.now c.deref-in-waves-2.result.now c.in-Ok-wave_of.given c.in-Ok-wave_of.ensures.known)))
 
 pub waves-init : goal.waves-init
 waves-init g c =
@@ -55,3 +57,18 @@ settle-requires-clause-came g c = c.waves.invariant.came ∙ sym c.waves.invaria
 
 pub settle-requires-clause-left : goal.settle-requires-clause-left
 settle-requires-clause-left g c = c.waves.invariant.left ∙ sym c.waves.invariant.stand
+
+pub finished-requires-clause-finishable : goal.finished-requires-clause-finishable
+finished-requires-clause-finishable g c κs inside = (
+  c.args.plan.now,
+  c.args.rows.now,
+  c.deref-in-waves-2.result.now,
+  given-finishable c.args.plan.now c.args.rows.now c.deref-in-waves-2.result.now c.in-Ok-wave_of.given c.in-Ok-wave_of.ensures.known,
+)
+
+pub finished-requires-clause-few : goal.finished-requires-clause-few
+finished-requires-clause-few g c κs inside =
+    let few = ready-few c.args.plan.now c.waves.progress.stands.items c.deref-in-waves-2.result.now
+    (c.deref-in-waves-2.ensures.value ∙ (c.in-Ok.ensures ∙ ap (λ stands. filter (is_ready c.args.plan.now.net.nodes stands) c.args.plan.now.order) c.deref.ensures.value)) in
+    let len = c.in-Ok-wave_of.ensures.len in
+    omega arith

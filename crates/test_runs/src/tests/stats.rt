@@ -116,7 +116,7 @@ fn last_arrival(alloc: Global, visits: &Visits) -> Result<u64, OutOfMemory> {
         job: List::new(alloc),
         time: List::new(alloc),
     })?;
-    let last = last_at(visits, &streams);
+    let last = last_at(&visits.arrive, &streams);
     drop(streams);
     Ok(last)
 }

@@ -7,7 +7,7 @@ loop-at-init c = visits-in-none c.args.rows.now c.args.all.now _ c.new-visits.en
 
 pub loop-at-preserved : goal.loop-at-preserved
 loop-at-preserved c =
-    visits-in-more c.args.rows.now c.args.all.now c.loop-at.at c.loop-at.visits _ c.get.result.now c.visits_in.result c.loop-at.invariant c.get.ensures c.visits_in.ensures.visited c.visits_in.ensures.its c.in_ok-push.ensures.ok
+    visits-in-more c.args.rows.now c.args.all.now c.loop-at.at c.loop-at.visits _ c.get.result.now c.node_visits.result c.loop-at.invariant c.get.ensures c.node_visits.ensures.visited c.node_visits.ensures.its c.in_ok-push.ensures.ok
 
 pub returns : goal.returns
 returns c = visits-in-all c.args.rows.now c.args.all.now c.loop-at.at c.loop-at.visits c.loop-at.invariant (omega arith)

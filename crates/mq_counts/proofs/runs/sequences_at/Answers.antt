@@ -16,10 +16,13 @@ pub returns-clause-countable : goal.returns-clause-countable
 returns-clause-countable c =
     let few = c.requires.few c.args.node c.args.declared.now c.requires.there in
     record {
-      visits =
-          subst (AreVisits c.args.rows.now c.args.declared.now.kind)
-          (visits_are c.runs_have_sequences.ensures c.args.plan.now c.args.rows.now c.args.run.now c.args.node c.args.declared.now c.get.result.now c.requires.run c.requires.there c.get.ensures)
-          (c.runs_give_visits.ensures c.args.plan.now c.args.rows.now c.requires.read c.args.node c.args.declared.now c.requires.there few);
+      visits = record {
+        visits =
+            subst (AreVisits c.args.rows.now c.args.declared.now.kind)
+            (visits_are c.runs_have_sequences.ensures c.args.plan.now c.args.rows.now c.args.run.now c.args.node c.args.declared.now c.get.result.now c.requires.run c.requires.there c.get.ensures)
+            (c.runs_give_visits.ensures c.args.plan.now c.args.rows.now c.requires.read c.args.node c.args.declared.now c.requires.there few);
+        turn = tt;
+      };
       streams =
           subst (AllByRecursion (AreLeaving c.args.rows.now))
           (outputs_are c.runs_have_sequences.ensures c.args.plan.now c.args.rows.now c.args.run.now c.args.node c.args.declared.now c.get-2.result.now c.requires.run c.requires.there c.get-2.ensures)

@@ -1,12 +1,14 @@
 use Rattle.std.proofs.Common.{◌∙◌, ap, arith, eqb-true, filter, length, subst, sym}
 use Rattle.std.specs.Prelude.{slice_get}
+use Rattle.std.proofs.lemmas.List.{length-map}
 use Rattle.std.proofs.lemmas.Result.{IfOk-weaker}
+use Rattle.mq_exits.specs.Turns.{result_given}
 use Rattle.mq_engine.specs.Progress.{AreEarly, HasAll, is_ready}
 use Rattle.mq_engine.proofs.Endings.{within}
 use Rattle.mq_engine.proofs.Lists.{filter-passes, no-items}
-use Rattle.mq_engine.proofs.Kept.{counting-begins, counting-has}
-use Rattle.mq_engine.proofs.Sending.{sent-of, sent-wait}
-use Rattle.mq_engine.proofs.Settling.{ready-few, ready-wait, results-known}
+use Rattle.mq_engine.proofs.Kept.{counting-begins, counting-has, told-nodes, told-wait}
+use Rattle.mq_engine.proofs.Settling.{ready-few, results-known}
+use Rattle.mq_engine.proofs.Telling.{given-results, turns-kept}
 use Rattle.mq_engine.proofs.counted.run_counted.Goals as goal
 
 pub ready_nodes-requires-clause-within : goal.ready_nodes-requires-clause-within
@@ -54,10 +56,12 @@ ended_counts-requires-clause-stuck g c =
     let size = c.in-Ok.ready.ok.0 in
     sym (c.in-Ok.ensures ∙ ap (λ stands. filter (is_ready c.args.plan.now.net.nodes stands) c.args.plan.now.order) c.deref.ensures.value) ∙ no-items c.in-Ok.ready.items (omega arith)
 
-pub settle_counts-requires-clause-waits : goal.settle_counts-requires-clause-waits
-settle_counts-requires-clause-waits g c =
-    ready-wait c.args.plan.now c.args.rows.now c.waves.counting.stands.items c.deref-in-waves-2.result.now c.in-Ok-wave_of.results
-    (c.deref-in-waves-2.ensures.value ∙ (c.in-Ok.ensures ∙ ap (λ stands. filter (is_ready c.args.plan.now.net.nodes stands) c.args.plan.now.order) c.deref.ensures.value)) c.in-Ok-wave_of.ensures.known
+pub settle_told-requires-in-waves-clause-waits : goal.settle_told-requires-in-waves-clause-waits
+settle_told-requires-in-waves-clause-waits g c =
+    told-wait c.args.plan.now c.args.rows.now c.args.form c.waves.counting.stands.items c.deref-in-waves-2.result.now c.in-Ok-told_nodes.told
+    (c.deref-in-waves-2.ensures.value ∙ (c.in-Ok.ensures ∙ ap (λ stands. filter (is_ready c.args.plan.now.net.nodes stands) c.args.plan.now.order) c.deref.ensures.value))
+    (c.in-Ok-told_nodes.ensures.told c.args.plan.now c.args.rows.now c.args.form c.deref-in-waves-2.result.now
+    (given-results c.args.plan.now c.args.rows.now c.deref-in-waves-2.result.now c.in-Ok-wave_of.given c.in-Ok-wave_of.ensures.known) c.in-Ok-counts_of_wave.ensures)
 
 pub counts_of_wave-requires-clause-few : goal.counts_of_wave-requires-clause-few
 counts_of_wave-requires-clause-few g c κs inside =
@@ -67,23 +71,35 @@ counts_of_wave-requires-clause-few g c κs inside =
     omega arith
 
 pub counts_of_wave-requires-clause-known : goal.counts_of_wave-requires-clause-known
-counts_of_wave-requires-clause-known g c κs inside = results-known c.args.plan.now c.args.rows.now c.deref-in-waves-2.result.now c.in-Ok-wave_of.results c.in-Ok-wave_of.ensures.known
+counts_of_wave-requires-clause-known g c κs inside =
+    results-known c.args.plan.now c.args.rows.now c.deref-in-waves-2.result.now _ (given-results c.args.plan.now c.args.rows.now c.deref-in-waves-2.result.now c.in-Ok-wave_of.given c.in-Ok-wave_of.ensures.known)
+
+pub counts_of_wave-requires-clause-turn : goal.counts_of_wave-requires-clause-turn
+counts_of_wave-requires-clause-turn g c κs inside = turns-kept c.args.plan.now c.args.rows.now c.deref-in-waves-2.result.now c.in-Ok-wave_of.given c.in-Ok-wave_of.ensures.known
+
+pub told_nodes-requires : goal.told_nodes-requires
+told_nodes-requires g c = record { even = c.in-Ok-counts_of_wave.ensures.len ∙ length-map c.in-Ok-wave_of.given result_given }
 
 pub let_go-requires-clause-left : goal.let_go-requires-clause-left
-let_go-requires-clause-left g c =
-    (c.settle_counts.ensures.reached c.args.plan.now c.args.rows.now c.args.form c.waves.invariant
-    (results-known c.args.plan.now c.args.rows.now c.deref-in-waves-2.result.now c.in-Ok-wave_of.results c.in-Ok-wave_of.ensures.known) c.in-Ok-counts_of_wave.ensures).left
+let_go-requires-clause-left g c = (
+    c.settle_told-in-waves.ensures.reached c.args.plan.now c.args.rows.now c.args.form c.waves.invariant
+    (told-nodes c.args.plan.now c.args.rows.now c.args.form c.deref-in-waves-2.result.now c.in-Ok-told_nodes.told
+    (c.in-Ok-told_nodes.ensures.told c.args.plan.now c.args.rows.now c.args.form c.deref-in-waves-2.result.now
+    (given-results c.args.plan.now c.args.rows.now c.deref-in-waves-2.result.now c.in-Ok-wave_of.given c.in-Ok-wave_of.ensures.known) c.in-Ok-counts_of_wave.ensures))).left
 
 pub let_go-requires-clause-stand : goal.let_go-requires-clause-stand
-let_go-requires-clause-stand g c =
-    (c.settle_counts.ensures.reached c.args.plan.now c.args.rows.now c.args.form c.waves.invariant
-    (results-known c.args.plan.now c.args.rows.now c.deref-in-waves-2.result.now c.in-Ok-wave_of.results c.in-Ok-wave_of.ensures.known) c.in-Ok-counts_of_wave.ensures).stand
+let_go-requires-clause-stand g c = (
+    c.settle_told-in-waves.ensures.reached c.args.plan.now c.args.rows.now c.args.form c.waves.invariant
+    (told-nodes c.args.plan.now c.args.rows.now c.args.form c.deref-in-waves-2.result.now c.in-Ok-told_nodes.told
+    (c.in-Ok-told_nodes.ensures.told c.args.plan.now c.args.rows.now c.args.form c.deref-in-waves-2.result.now
+    (given-results c.args.plan.now c.args.rows.now c.deref-in-waves-2.result.now c.in-Ok-wave_of.given c.in-Ok-wave_of.ensures.known) c.in-Ok-counts_of_wave.ensures))).stand
 
 pub waves-preserved : goal.waves-preserved
-waves-preserved g c =
-    c.let_go.ensures.counting c.args.rows.now c.args.form
-    (c.settle_counts.ensures.reached c.args.plan.now c.args.rows.now c.args.form c.waves.invariant
-    (results-known c.args.plan.now c.args.rows.now c.deref-in-waves-2.result.now c.in-Ok-wave_of.results c.in-Ok-wave_of.ensures.known) c.in-Ok-counts_of_wave.ensures)
+waves-preserved g c = c.let_go.ensures.counting c.args.rows.now c.args.form (
+    c.settle_told-in-waves.ensures.reached c.args.plan.now c.args.rows.now c.args.form c.waves.invariant
+    (told-nodes c.args.plan.now c.args.rows.now c.args.form c.deref-in-waves-2.result.now c.in-Ok-told_nodes.told
+    (c.in-Ok-told_nodes.ensures.told c.args.plan.now c.args.rows.now c.args.form c.deref-in-waves-2.result.now
+    (given-results c.args.plan.now c.args.rows.now c.deref-in-waves-2.result.now c.in-Ok-wave_of.given c.in-Ok-wave_of.ensures.known) c.in-Ok-counts_of_wave.ensures)))
 
 pub returns-then-is_empty-clause-ok : goal.returns-then-is_empty-clause-ok
 returns-then-is_empty-clause-ok g c = IfOk-weaker c.ended_counts.result _ _ (λ counts told. told c.args.form c.waves.invariant) c.ended_counts.ensures.ok
@@ -96,17 +112,18 @@ waves-init g c =
 pub ready_nodes-requires-clause-count : goal.ready_nodes-requires-clause-count
 ready_nodes-requires-clause-count g c = ap length c.deref.ensures.value ∙ c.waves.invariant.stand
 
-pub settle_counts-requires-clause-came : goal.settle_counts-requires-clause-came
-settle_counts-requires-clause-came g c = c.waves.invariant.came ∙ sym c.waves.invariant.stand
+pub settle_told-requires-in-waves-clause-came : goal.settle_told-requires-in-waves-clause-came
+settle_told-requires-in-waves-clause-came g c = c.waves.invariant.came ∙ sym c.waves.invariant.stand
 
-pub settle_counts-requires-clause-left : goal.settle_counts-requires-clause-left
-settle_counts-requires-clause-left g c = c.waves.invariant.left ∙ sym c.waves.invariant.stand
+pub settle_told-requires-in-waves-clause-left : goal.settle_told-requires-in-waves-clause-left
+settle_told-requires-in-waves-clause-left g c = c.waves.invariant.left ∙ sym c.waves.invariant.stand
 
-pub settle_sent-requires-clause-waits : goal.settle_sent-requires-clause-waits
-settle_sent-requires-clause-waits g c =
-    sent-wait c.args.plan.now c.args.rows.now c.waves.counting.stands.items c.deref-in-waves-2.result.now c.in-Ok-sources_sent.sent
-    (c.deref-in-waves-2.ensures.value ∙ (c.in-Ok.ensures ∙ ap (λ stands. filter (is_ready c.args.plan.now.net.nodes stands) c.args.plan.now.order) c.deref.ensures.value)) c.in-Ok-sources_sent.ensures
+pub settle_told-requires-clause-waits : goal.settle_told-requires-clause-waits
+settle_told-requires-clause-waits g c =
+    told-wait c.args.plan.now c.args.rows.now c.args.form c.waves.counting.stands.items c.deref-in-waves-2.result.now c.in-Ok-sources_sent.sent
+    (c.deref-in-waves-2.ensures.value ∙ (c.in-Ok.ensures ∙ ap (λ stands. filter (is_ready c.args.plan.now.net.nodes stands) c.args.plan.now.order) c.deref.ensures.value)) (c.in-Ok-sources_sent.ensures c.args.form)
 
 pub waves-preserved-then-not-is_empty : goal.waves-preserved-then-not-is_empty
 waves-preserved-then-not-is_empty g c =
-    c.settle_sent.ensures.reached c.args.plan.now c.args.rows.now c.args.form c.waves.invariant (sent-of c.args.plan.now c.args.rows.now c.deref-in-waves-2.result.now c.in-Ok-sources_sent.sent c.in-Ok-sources_sent.ensures)
+    c.settle_told.ensures.reached c.args.plan.now c.args.rows.now c.args.form c.waves.invariant
+    (told-nodes c.args.plan.now c.args.rows.now c.args.form c.deref-in-waves-2.result.now c.in-Ok-sources_sent.sent (c.in-Ok-sources_sent.ensures c.args.form))

@@ -1,8 +1,9 @@
-use Rattle.std.proofs.Common.{[], ◌∷◌, length, ap, sym, subst, arith, length-append}
+use Rattle.std.proofs.Common.{ℕ, [], ◌∷◌, length, ap, sym, subst, arith, length-append}
 use Rattle.std.specs.Prelude.{Contains}
 use Rattle.std.specs.List.{AllByRecursion as Each}
 use Rattle.mq_base.proofs.lemmas.Each.{Each-append, Each-back, Each-front}
-use Rattle.mq_engine.specs.Sources.{IsSentAmong, IsSourceArrived}
+use Rattle.mq_engine.specs.Counting.{IsToldAmong}
+use Rattle.mq_engine.specs.Sources.{IsSourceArrived}
 use Rattle.mq_engine.proofs.sources.all_sent.Goals as goal
 
 pub sent_arrived-requires-clause-loaded : goal.sent_arrived-requires-clause-loaded
@@ -26,8 +27,8 @@ loop-one-preserved c =
     let one = c.in-Some.one in
     let node = c.in-Ok-sent_arrived.node in
     let all = subst (Each (IsSourceArrived s)) c.in-Some.ensures.items c.loop-one.invariant.left in
-    let is = IsSentAmong s.plan.now s.rows.now s.ready.now in
-    let own : is node = (subst (Contains s.ready.now) (sym c.in-Ok-sent_arrived.ensures.0) (Each-back _ c.pop.new.self.items (one ∷ []) all).0.0.1, c.in-Ok-sent_arrived.ensures.1) in
+    let is = λ (form : ℕ). IsToldAmong s.plan.now s.rows.now form s.ready.now in
+    let own : (form : ℕ) → is form node = λ form. (subst (Contains s.ready.now) (sym c.in-Ok-sent_arrived.ensures.0) (Each-back _ c.pop.new.self.items (one ∷ []) all).0.0.1, c.in-Ok-sent_arrived.ensures.1 form) in
     let size = c.loop-one.invariant.len in
     let left = ap length c.in-Some.ensures.items in
     let less = length-append c.pop.new.self.items (one ∷ []) in
@@ -36,7 +37,7 @@ loop-one-preserved c =
     record {
       len = omega arith;
       left = Each-front _ c.pop.new.self.items (one ∷ []) all;
-      made = subst (Each is) (sym c.push_reserved.ensures.items) (Each-append is c.loop-one.sent.items (node ∷ []) c.loop-one.invariant.made (own, tt));
+      made = λ form. subst (Each (is form)) (sym c.push_reserved.ensures.items) (Each-append (is form) c.loop-one.sent.items (node ∷ []) (c.loop-one.invariant.made form) (own form, tt));
       room = let room = c.loop-one.invariant.room in let same = c.push_reserved.ensures.capacity in omega arith;
     }
 
@@ -50,4 +51,4 @@ returns-clause-len c =
     omega arith
 
 pub returns-clause-known : goal.returns-clause-known
-returns-clause-known c = subst (Each _) (sym c.from_vec.ensures) c.loop-one.invariant.made
+returns-clause-known c form = subst (Each _) (sym c.from_vec.ensures) (c.loop-one.invariant.made form)

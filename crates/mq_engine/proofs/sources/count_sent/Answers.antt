@@ -13,7 +13,7 @@ returns c = λ form.
     let exit = c.exit_sent.result in
     let exits : c.push.new.self ≡ exit ∷ [] = c.in_ok-push.ensures.ok ∙ ap (λ l. l ++ exit ∷ []) c.new-exits.ensures in
     record {
-      last = c.last_of.ensures ∙ sym (max-same (last_time stream.time));
+      last = c.last.ensures ∙ (ap last_time c.as_slice.ensures ∙ sym (max-same (last_time stream.time)));
       totals = c.totals_sent.ensures.totals ∙ ap sent_totals c.len.ensures ∙ totals-sent rows stream _ even;
       small = c.totals_sent.ensures.small;
       tail = λ two. record { p50 = percentile-sent rows stream 50 even; p90 = percentile-sent rows stream 90 even; p99 = percentile-sent rows stream 99 even };

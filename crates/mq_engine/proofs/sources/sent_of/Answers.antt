@@ -7,4 +7,4 @@ returns-in-Some c =
     let l = c.requires.loaded in
     let laws = node-laws c.core_laws.ensures c.orders_keep_items.ensures c.sequences_go_by_fates.ensures in
     let source = source-kind l.node.kind (c.requires.source l.node l.there) in
-    (refl, (l.node, l.there, sent-missed laws c.args.plan.now c.args.rows.now c.args.number c.args.stream c.requires.read l source c.in-Some.past c.in-Some.ensures))
+    (refl, λ form. (l.node, l.there, sent-missed laws c.args.plan.now c.args.rows.now c.args.number c.args.stream c.requires.read l source form c.in-Some.past c.in-Some.ensures))

@@ -5,7 +5,7 @@ use Rattle.mq_core.specs.Sequences.{sequence_visits}
 use Rattle.mq_core.specs.declared.model.Kind.TheVariants.{Source}
 use Rattle.mq_core.specs.declared.model.Node.{Node}
 use Rattle.mq_counts.specs.Counts.{IsCountOf}
-use Rattle.mq_engine.specs.Sources.{IsSentOf}
+use Rattle.mq_engine.specs.Counting.{IsToldNode}
 use Rattle.mq_engine.proofs.Numbers.{known-streams}
 use Rattle.mq_engine.proofs.Sent.{node-laws, sent-known, sent-told, source-kind}
 use Rattle.mq_engine.proofs.sources.sent_on_time.Goals as goal
@@ -32,5 +32,5 @@ returns-in-Ok c =
     let k = sent-known laws plan rows v stream c.requires.read l source c.fates_are_in_time.ensures c.requires.early in
     let count = c.in-Ok.count in
     let is = subst (λ (nodes : List Node). (form : ℕ) → IsCountOf nodes rows form v Source (sequence_visits rows Source (came_in stream)) (stream ∷ []) count) c.as_slice.ensures c.in-Ok.ensures in
-    let told = sent-told laws plan rows v stream c.requires.read l source count (stream ∷ []) k refl is in
-    IfOk-weaker c.sent_with.result _ _ (λ sent e. ((λ i. (e i).number), subst (IsSentOf plan rows) (sym e) (l.node, l.there, told))) c.sent_with.ensures
+    let told = λ (form : ℕ). sent-told laws plan rows v stream c.requires.read l source form count (stream ∷ []) k refl (is form) in
+    IfOk-weaker c.sent_with.result _ _ (λ sent e. ((λ i. (e i).number), λ form. subst (IsToldNode plan rows form) (sym e) (l.node, l.there, told form))) c.sent_with.ensures

@@ -5,7 +5,8 @@ use Rattle.mq_base.proofs.lemmas.Each.{Each-weaker}
 use Rattle.mq_engine.specs.Progress.{CanWorkAll}
 use Rattle.mq_engine.specs.Sources.{IsSourceAmong}
 use Rattle.mq_engine.specs.Waves.{IsStationOf}
-use Rattle.mq_engine.proofs.Sending.{sent-among, source-can}
+use Rattle.mq_engine.proofs.Kept.{told-among}
+use Rattle.mq_engine.proofs.Sending.{source-can}
 use Rattle.mq_engine.proofs.Telling.{all-at, can-all, each-contained, serves}
 use Rattle.mq_engine.proofs.sources.sources_sent.Goals as goal
 
@@ -39,5 +40,5 @@ sent_by-requires-clause-sources g c κs inside v h =
 pub returns : goal.returns
 returns g c =
     let s = c.args.arriving.now in
-    IfOk-weaker c.sent_by.result _ _ (λ sent known. sent-among s.plan.now s.rows.now c.deref.result.now s.ready.now sent
-    (λ v h. (each-contained (IsSourceAmong s.plan.now s.ready.now) c.in_ok-sources.sources.items c.in_ok-sources.ensures.each v (subst (λ l. Contains l v) c.deref.ensures.value h)).0) known) c.sent_by.ensures.known
+    IfOk-weaker c.sent_by.result _ _ (λ sent known form. told-among s.plan.now s.rows.now form c.deref.result.now s.ready.now sent
+    (λ v h. (each-contained (IsSourceAmong s.plan.now s.ready.now) c.in_ok-sources.sources.items c.in_ok-sources.ensures.each v (subst (λ l. Contains l v) c.deref.ensures.value h)).0) (known form)) c.sent_by.ensures.known

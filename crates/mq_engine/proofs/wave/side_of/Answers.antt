@@ -1,12 +1,9 @@
-use Rattle.std.proofs.Common.{◌++◌, length, ap, sym, subst, arith, length-append}
+use Rattle.std.proofs.Common.{length, ap, sym, subst, arith}
 use Rattle.std.specs.Prelude.{Contains}
-use Rattle.std.specs.List.{AllByRecursion as Each}
 use Rattle.std.proofs.lemmas.Result.{IfOk-weaker}
-use Rattle.mq_base.proofs.lemmas.Each.{Each-append}
-use Rattle.mq_exits.specs.Results.{IsResultOf}
 use Rattle.mq_engine.specs.Waves.{IsApartOf, IsStationOf}
 use Rattle.mq_engine.specs.Progress.{CanWorkAll}
-use Rattle.mq_engine.proofs.Telling.{can-all, each-contained, results-among, serves}
+use Rattle.mq_engine.proofs.Telling.{IfOk-both, can-all, each-contained, given-among, results-among, serves}
 use Rattle.mq_engine.proofs.wave.side_of.Goals as goal
 
 pub returns : goal.returns
@@ -14,29 +11,25 @@ returns g c =
     let s = c.args.arriving.now in
     let wave = c.in_ok-wave.wave in
     let sorted = c.in_ok-wave.ensures.sorted in
-    let is = IsResultOf s.plan.now s.rows.now s.ready.now in
     let gathered = results-among s.plan.now s.rows.now c.deref.result.now s.ready.now c.in-Ok.gathered
     (λ v h. (each-contained (IsApartOf s) wave.apart.items sorted.apart v (subst (λ l. Contains l v) c.deref.ensures.value h)).0) c.in-Ok.ensures.known in
-    let served = results-among s.plan.now s.rows.now c.deref-2.result.now s.ready.now c.in-Ok-results_of.served
-    (λ v h. (each-contained (IsStationOf s) wave.stations.items sorted.stations v (subst (λ l. Contains l v) c.deref-2.ensures.value h)).0) c.in-Ok-results_of.ensures.known in
-    let both = Each-append is wave.crowded c.in-Ok.gathered sorted.crowded gathered in
-    let all = Each-append is (wave.crowded ++ c.in-Ok.gathered) c.in-Ok-results_of.served both served in
+    let served = given-among s.plan.now s.rows.now c.deref-2.result.now s.ready.now c.in-Ok-given_by.served
+    (λ v h. (each-contained (IsStationOf s) wave.stations.items sorted.stations v (subst (λ l. Contains l v) c.deref-2.ensures.value h)).0) c.in-Ok-given_by.ensures.known in
     let count = c.in_ok-wave.ensures.len in
     let apart = ap length c.deref.ensures.value in
     let of_gathered = c.in-Ok.ensures.len in
     let stations = ap length c.deref-2.ensures.value in
-    let of_served = c.in-Ok-results_of.ensures.len in
-    let first = length-append wave.crowded c.in-Ok.gathered in
-    let more = length-append (wave.crowded ++ c.in-Ok.gathered) c.in-Ok-results_of.served in
-    IfOk-weaker c.all_results.result _ _ (λ results e. record { len = (let many = ap length e in omega arith); known = subst (Each is) (sym e) all }) c.all_results.ensures
+    let of_served = c.in-Ok-given_by.ensures.len in
+    IfOk-weaker c.all_given.result _ _ (λ given h. record { len = (let many = h.0 in omega arith); known = h.1 s.plan.now s.rows.now s.ready.now sorted.crowded gathered served })
+    (IfOk-both c.all_given.result _ _ c.all_given.ensures.len c.all_given.ensures.known)
 
-pub results_of-requires-clause-can : goal.results_of-requires-clause-can
-results_of-requires-clause-can g c κs inside =
+pub given_by-requires-clause-can : goal.given_by-requires-clause-can
+given_by-requires-clause-can g c κs inside =
     let s = c.args.arriving.now in
     subst (CanWorkAll s.plan.now s.rows.now s.outputs.now) (sym c.deref-2.ensures.value) (can-all s c.in_ok-wave.wave.stations.items c.in_ok-wave.ensures.sorted.stations)
 
-pub results_of-requires-clause-arriving : goal.results_of-requires-clause-arriving
-results_of-requires-clause-arriving g c κs inside =
+pub given_by-requires-clause-arriving : goal.given_by-requires-clause-arriving
+given_by-requires-clause-arriving g c κs inside =
     let s = c.args.arriving.now in
     let same = ap length c.deref-2.ensures.value in
     let len = c.in_ok-wave.ensures.len in
@@ -44,8 +37,8 @@ results_of-requires-clause-arriving g c κs inside =
     serves (record { plan = s.plan; rows = s.rows; outputs = s.outputs; ready = c.deref-2.result; workers = s.workers; block = s.block }) c.requires.wave.read c.requires.wave.early
     (subst (CanWorkAll s.plan.now s.rows.now s.outputs.now) (sym c.deref-2.ensures.value) (can-all s c.in_ok-wave.wave.stations.items c.in_ok-wave.ensures.sorted.stations)) (omega arith) c.requires.some c.requires.most c.requires.wave.block
 
-pub results_of-requires-clause-early : goal.results_of-requires-clause-early
-results_of-requires-clause-early g c κs inside = c.requires.wave.early
+pub given_by-requires-clause-early : goal.given_by-requires-clause-early
+given_by-requires-clause-early g c κs inside = c.requires.wave.early
 
 pub apart_results-requires-clause-gathering : goal.apart_results-requires-clause-gathering
 apart_results-requires-clause-gathering g c κs inside =

@@ -5,7 +5,7 @@ use Rattle.mq_crew.specs.Crew.{AreGroups, total_size}
 use Rattle.mq_engine.specs.Loads.{IsReadyMiddle}
 use Rattle.mq_engine.specs.declared.middles.Middle.{Middle}
 use Rattle.mq_engine.proofs.Groups.{middle_piece, middle_size, middles-few}
-use Rattle.mq_engine.proofs.ready.results_of.Goals as goal
+use Rattle.mq_engine.proofs.ready.given_by.Goals as goal
 
 pub run_parts-requires-clause-few : goal.run_parts-requires-clause-few
 run_parts-requires-clause-few g c κs inside =
@@ -19,17 +19,17 @@ run_parts-requires-clause-fit g c κs inside = subst (AllByRecursion IsReadyMidd
 pub all_emptied-requires-clause-groups : goal.all_emptied-requires-clause-groups
 all_emptied-requires-clause-groups g c κs inside = subst (λ (l : List Middle). AreGroups middle_size middle_piece l c.in-Ok.groups) c.as_slice.ensures c.in-Ok.ensures
 
-pub station_results-requires-clause-few : goal.station_results-requires-clause-few
-station_results-requires-clause-few g c κs inside =
+pub given_of-requires-clause-few : goal.given_of-requires-clause-few
+given_of-requires-clause-few g c κs inside =
     let len = c.in_ok-middles.ensures.len in
     let all = c.in_ok-those_emptied-in-Ok.ensures.len in
     let few = c.requires.arriving.nodes in
     omega arith
 
 pub returns-in_ok-those_emptied-in-Ok-clause-len : goal.returns-in_ok-those_emptied-in-Ok-clause-len
-returns-in_ok-those_emptied-in-Ok-clause-len g c = IfOk-weaker c.station_results.result _ _ (λ results e. e ∙ (c.in_ok-those_emptied-in-Ok.ensures.len ∙ c.in_ok-middles.ensures.len)) c.station_results.ensures.len
+returns-in_ok-those_emptied-in-Ok-clause-len g c = IfOk-weaker c.given_of.result _ _ (λ results e. e ∙ (c.in_ok-those_emptied-in-Ok.ensures.len ∙ c.in_ok-middles.ensures.len)) c.given_of.ensures.len
 
 pub returns-in_ok-those_emptied-in-Ok-clause-known : goal.returns-in_ok-those_emptied-in-Ok-clause-known
 returns-in_ok-those_emptied-in-Ok-clause-known g c =
     let s = c.args.arriving.now in
-    IfOk-weaker c.station_results.result _ _ (λ results h. h s.plan.now s.rows.now s.ready.now (c.in_ok-those_emptied-in-Ok.ensures.of s.plan.now s.rows.now s.ready.now c.in_ok-middles.ensures.of)) c.station_results.ensures.known
+    IfOk-weaker c.given_of.result _ _ (λ given h. h s.plan.now s.rows.now s.ready.now (c.in_ok-those_emptied-in-Ok.ensures.of s.plan.now s.rows.now s.ready.now c.in_ok-middles.ensures.of)) c.given_of.ensures.given

@@ -1,6 +1,0 @@
-use Rattle.mq_counts.proofs.Exits.{AreReadTo}
-use Rattle.mq_counts.proofs.leaving.streams_in.Given as goal
-
--- the outputs so far
-abbrev pub invariant-loop-output : goal.invariant-loop-output
-invariant-loop-output l = AreReadTo l.nodes l.sequences.number l.streams l.output l.all_read.items l.most

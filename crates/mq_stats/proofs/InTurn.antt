@@ -1,0 +1,13 @@
+-- Parts of visits whose jobs leave in the order in which they came.
+use Rattle.std.proofs.Common.{◌≡◌, ◌-◌, ℕ, List, drop, map, take, ap, sym, ◌∙◌}
+use Rattle.std.proofs.lemmas.List.{drop-map, take-map}
+use Rattle.mq_base.specs.Lists.{between}
+use Rattle.mq_core.specs.declared.model.Fate.{Fate}
+use Rattle.mq_core.specs.declared.model.Fate.TheVariants.{Departs}
+
+-- the fates of a part are those of its departures
+pub fates-between : (fates : List Fate) (part departs : List ℕ) (from to : ℕ) → fates ≡ map (λ time. Departs time) part → part ≡ between from to departs → fates ≡ between from to (map (λ time. Departs time) departs)
+fates-between fates part departs from to are is =
+    are
+    ∙ (ap (map (λ time. Departs time)) is
+    ∙ (sym (take-map (λ time. Departs time) (to - from) (drop from departs)) ∙ ap (take (to - from)) (sym (drop-map (λ time. Departs time) from departs))))
