@@ -142,7 +142,7 @@ module _ (plan : Plan) (rows : Rows) (form : ℕ) (counts : List NodeCount) (out
         go : (input.node ≡ v) ⊎ (input.node ≢ v) → slice_get (set outputs v left) input.node ≡ Some (streams_below (run_of plan rows) input.node (outputs_in named.kind))
         go (inl same) =
             ap (slice_get (set outputs v left)) same ∙ (get-set_same outputs v left in_outputs
-            ∙ (ap Some k.0 ∙ (λ i. Some (streams_below (run_of plan rows) (sym same i) (outputs_in (node-here plan stands v node Done there r.stand input.node named same b i).kind)))))
+            ∙ (ap Some (k.0 (record { reader = w; port = port; node = reader; input = input; there = a; reads = e; same = same })) ∙ (λ i. Some (streams_below (run_of plan rows) (sym same i) (outputs_in (node-here plan stands v node Done there r.stand input.node named same b i).kind)))))
         go (inr apart) = get-set_other outputs v input.node left apart ∙ r.kept w port reader named input a waited e b (set-away plan stands v node Done there r.stand input.node Done apart done)
 
     early : (u out : ℕ) (streams : List Stream) (stream : Stream) → slice_get (set outputs v left) u ≡ Some streams → slice_get streams out ≡ Some stream → (u ≡ v) ⊎ (u ≢ v) → IsEarlyStream stream

@@ -34,7 +34,7 @@ use Rattle.mq_stats.specs.Numbers.{AreLeaving, AreVisits}
 use Rattle.mq_stats.specs.RunNumbers.{RunsGiveStreams, RunsGiveVisits}
 use Rattle.mq_crew.specs.Crew.{AreAll}
 use Rattle.mq_crew.proofs.lemmas.Groups.{all-last, append-at, append-before}
-use Rattle.mq_engine.specs.Counting.{AreResultSequences, AreSequencesAt, AreTold, AreWaveSequences, IsCounting, IsNobody, IsToldAt, IsToldIn, IsToldOf}
+use Rattle.mq_engine.specs.Counting.{AreResultSequences, AreSequencesAt, AreTold, AreWaveSequences, IsCounting, IsNobody, IsReadBy, IsToldAt, IsToldIn, IsToldOf, handed_on, reads_some}
 use Rattle.mq_engine.specs.Progress.{AreWorkedOut, is_waiting}
 use Rattle.mq_engine.specs.declared.progress.Stand.{Stand}
 use Rattle.mq_engine.specs.declared.progress.Stand.TheVariants.{Waiting, Done}
@@ -155,7 +155,19 @@ unread-next nodes stands u v node d inputs answer there l same is fails before =
 -- A node that ended of which this is told.
 pub told-on-time : (plan : Plan) (rows : Rows) (form v : ℕ) (node : Node) (came : Visits) (left : List Stream) (count : NodeCount) → slice_get plan.net.nodes v ≡ Some node → IsKnown plan rows v node (OnTime came left) → IsToldOf plan rows form v (OnTime came left) count →
     IsToldAt plan rows form v node (Told left count)
-told-on-time plan rows form v node came left count there k is = (k.1, k.2, k.3, is node there)
+told-on-time plan rows form v node came left count there k is = (λ read. k.1, k.2, k.3, is node there)
+
+-- the same where what left it is handed on only where an input reads it
+unread : (plan : Plan) (v : ℕ) → reads_some plan.net.nodes v ≡ false → IsReadBy plan v → ⊥
+unread plan v fails h =
+    let any = any-at (λ (i : Input). i.node == v) h.node.inputs h.port h.input h.reads (same-node h.input.node v h.same) in
+    let some = any-at (λ (node : Node). list_any (λ (i : Input). i.node == v) node.inputs) plan.net.nodes h.reader h.node h.there any in
+    absurd (let clash = sym some ∙ fails in cc)
+
+pub told-handed : (plan : Plan) (rows : Rows) (form v : ℕ) (node : Node) (came : Visits) (stream : Stream) (count : NodeCount) (read : Bool) → slice_get plan.net.nodes v ≡ Some node → IsKnown plan rows v node (OnTime came (stream ∷ [])) → IsToldOf plan rows form v (OnTime came (stream ∷ [])) count →
+    read ≡ reads_some plan.net.nodes v → IsToldAt plan rows form v node (Told (handed_on read stream) count)
+told-handed plan rows form v node came stream count true there k is e = (λ read. k.1, k.2, k.3, is node there)
+told-handed plan rows form v node came stream count false there k is e = (λ read. absurd (unread plan v (sym e) read), λ out one here. absurd cc, k.3, is node there)
 
 -- what is told of the last of these nodes, and of the others
 pub told-last : (plan : Plan) (rows : Rows) (form : ℕ) (rest : List NodeResult) (node_result : NodeResult) (counts others : List NodeCount) (count : NodeCount) → AreTold plan rows form (rest ++ node_result ∷ []) counts → counts ≡ others ++ count ∷ [] →

@@ -201,7 +201,7 @@ module _ (laws : NodeLaws) (plan : Plan) (rows : Rows) (v : ℕ) (stream : Strea
   pub sent-told : (form : ℕ) (count : NodeCount) (streams : List Stream) → IsKnown plan rows v l.node (OnTime visits (stream ∷ [])) → streams ≡ stream ∷ [] → IsCountOf plan.net.nodes rows form v Source visits (stream ∷ []) count →
       IsToldAt plan rows form v l.node (Told streams count)
   sent-told form count streams k e is = (
-    e ∙ k.1,
+    λ read. e ∙ k.1,
     subst (λ (left : List Stream). (out : ℕ) (one : Stream) → slice_get left out ≡ Some one → IsEarlyStream one) (sym e) k.2,
     k.3,
     subst (λ (p : Kind × Visits × List Stream). IsCountOf plan.net.nodes rows form v p.0 p.1 p.2 count) (λ i. (sym source i, k.0 i, k.1 i)) is,

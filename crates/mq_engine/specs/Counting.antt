@@ -1,6 +1,6 @@
 -- How far a run has come that is counted as it goes: what is told of the nodes that are done, and which streams are kept.
-use Rattle.std.specs.List.{AllByRecursion}
-use Rattle.std.specs.Prelude.{◌≡◌, [], ℕ, Contains, List, length, Some, None, slice_get, slice_set, true}
+use Rattle.std.specs.List.{AllByRecursion, list_any}
+use Rattle.std.specs.Prelude.{◌≡◌, ◌==◌, ◌∷◌, [], ℕ, Bool, false, Contains, List, length, Some, None, slice_get, slice_set, true}
 use Rattle.mq_core.specs.Results.{visits_of}
 use Rattle.mq_core.specs.Sequences.{sequence_refusal, streams_below}
 use Rattle.mq_core.specs.Sound.{outputs_in}
@@ -71,10 +71,29 @@ abbrev pub IsUnread : List Node → List Stand → ℕ → Type 0
 IsUnread nodes stands u =
     (v port : ℕ) (node : Node) (input : Input) → slice_get nodes v ≡ Some node → slice_get stands v ≡ Some Waiting → slice_get node.inputs port ≡ Some input → input.node ≡ u → ⊥
 
--- how a node ends of which this is told is what the run has
+-- some input of these nodes reads an output of a node
+abbrev pub reads_some : List Node → ℕ → Bool
+reads_some nodes v = list_any (λ (node : Node). list_any (λ (i : Input). i.node == v) node.inputs) nodes
+
+-- what is handed on of a station whose jobs leave in their order: nothing where no input reads it
+abbrev pub handed_on : Bool → Stream → List Stream
+handed_on true stream = stream ∷ []
+handed_on false stream = []
+
+-- an input of the network reads an output of a node
+pub record IsReadBy (plan : Plan) (v : ℕ) : Type 0 where
+  pub reader : ℕ
+  pub port : ℕ
+  pub node : Node
+  pub input : Input
+  pub there : slice_get plan.net.nodes reader ≡ Some node
+  pub reads : slice_get node.inputs port ≡ Some input
+  pub same : input.node ≡ v
+
+-- how a node ends of which this is told is what the run has: its streams need not be there where no input reads one
 abbrev pub IsToldAt : Plan → Rows → ℕ → ℕ → Node → ToldEnding → Type 0
 IsToldAt plan rows form v node (Told streams count) =
-    (streams ≡ streams_below (run_of plan rows) v (outputs_in node.kind))
+    (IsReadBy plan v → streams ≡ streams_below (run_of plan rows) v (outputs_in node.kind))
     × ((out : ℕ) (stream : Stream) → slice_get streams out ≡ Some stream → IsEarlyStream stream)
     × (sequence_refusal plan.net.bound v (visits_of node.kind ((run_of plan rows).stations v)) ≡ None)
     × IsCountAt plan rows form v node count

@@ -83,7 +83,7 @@ pub fn run_counted<R: Threads + Sync, G: Gate>(
             drop(counting);
             return Err(RunFault::Memory);
         };
-        let Ok(told) = told_nodes(alloc, given, counts) else {
+        let Ok(told) = told_nodes(alloc, plan.net.nodes.as_slice(), given, counts) else {
             drop(counting);
             return Err(RunFault::Memory);
         };

@@ -104,7 +104,7 @@ fn put_told(counting: &mut Counting, one: ToldNode)
 }
 
 // Whether one of these inputs reads an output of the node.
-fn reads(inputs: &[Input], node: u32) -> bool
+pub fn reads(inputs: &[Input], node: u32) -> bool
     ensures { result ≡ list_any (λ i. i.node == node) inputs.now }
 {
     inputs.iter().any(|input| input.node == node)

@@ -9,12 +9,13 @@ ghost use Rattle.mq_exits.specs.Results.{IsResultOf, IsWorkedOut};
 ghost use Rattle.mq_exits.specs.Turns.{result_given, result_in_turn};
 ghost use Rattle.mq_merge.specs.Borrowed.{stream_in};
 ghost use Rattle.mq_stats.specs.InTurn.{KeepTurn, stream_in_turn};
-ghost use Rattle.mq_engine.specs.Counting.{AreResultSequences, AreTold, AreWaveSequences, IsKeepingTurn, IsNobody, IsToldAmong, IsToldIn, IsToldOf};
+ghost use Rattle.mq_engine.specs.Counting.{AreResultSequences, AreTold, AreWaveSequences, IsKeepingTurn, IsNobody, IsToldAmong, IsToldOf, handed_on, reads_some};
 ghost use Rattle.mq_engine.specs.Progress.{AreWorkedOut};
 
+use crate::counting::reads;
 use crate::progress::no_visits;
 use mq_base::{List, OutOfMemory};
-use mq_core::{OverFault, PastFault, Plan, Rows, Stream, Visits};
+use mq_core::{Node, OverFault, PastFault, Plan, Rows, Stream, Visits};
 use mq_counts::{NodeCount, NodeSequences, SeenStreams, SeenVisits, counts_of};
 use mq_crew::Gate;
 use mq_exits::{Ending, Given, Held, InTurn, NodeResult};
@@ -245,10 +246,23 @@ fn jobs_of(alloc: Global, arrivals: Arrivals) -> Result<List<u32>, OutOfMemory>
     }
 }
 
-// What leaves a station whose jobs leave in their order: its departures are handed on.
-fn stream_of_turn(alloc: Global, it: InTurn) -> Result<List<Stream>, OutOfMemory>
-    ensures { IfOk result (λ streams. streams ≡ stream_in_turn (stream_in it.entry.held.arrivals) it.entry.departs ∷ []) }
+// Whether some input of these nodes reads an output of the node.
+fn is_read_by(nodes: &[Node], node: u32) -> bool
+    ensures { result ≡ reads_some nodes.now node }
 {
+    nodes
+        .iter()
+        .any(|other| reads(other.inputs.as_slice(), node))
+}
+
+// What leaves a station whose jobs leave in their order: its departures are handed on. Where no input reads it there is nothing to hand on.
+fn stream_of_turn(alloc: Global, it: InTurn, read: bool) -> Result<List<Stream>, OutOfMemory>
+    ensures { IfOk result (λ streams. streams ≡ handed_on read (stream_in_turn (stream_in it.entry.held.arrivals) it.entry.departs)) }
+{
+    if !read {
+        drop(it);
+        return Ok(List::new(alloc));
+    }
     let InTurn { held, departs } = it;
     let Held { arrivals, .. } = held;
     match jobs_of(alloc, arrivals) {
@@ -261,12 +275,18 @@ fn stream_of_turn(alloc: Global, it: InTurn) -> Result<List<Stream>, OutOfMemory
 }
 
 // How such a station ended of which this is told.
-fn told_in_turn(alloc: Global, it: InTurn, count: NodeCount) -> Result<ToldNode, OutOfMemory>
+fn told_in_turn(
+    alloc: Global,
+    nodes: &[Node],
+    it: InTurn,
+    count: NodeCount,
+) -> Result<ToldNode, OutOfMemory>
     ensures number { IfOk result (λ told. told.number ≡ it.entry.held.number) }
-    ensures told { IfOk result (λ told. (plan : ThePlan) (rows : TheRows) (form : ℕ) (ready : Items ℕ) → IsResultOf plan rows ready (result_in_turn it.entry) → IsToldOf plan rows form it.entry.held.number (result_in_turn it.entry).ending count → IsToldAmong plan rows form ready told) }
+    ensures told { IfOk result (λ told. (plan : ThePlan) (rows : TheRows) (form : ℕ) (ready : Items ℕ) → plan.net.nodes ≡ nodes.now → IsResultOf plan rows ready (result_in_turn it.entry) → IsToldOf plan rows form it.entry.held.number (result_in_turn it.entry).ending count → IsToldAmong plan rows form ready told) }
 {
     let number = it.held.number;
-    match stream_of_turn(alloc, it) {
+    let read = is_read_by(nodes, number);
+    match stream_of_turn(alloc, it, read) {
         Ok(streams) => {
             let ending = ToldEnding::Told(streams, count);
             Ok(ToldNode { number, ending })
@@ -279,26 +299,32 @@ fn told_in_turn(alloc: Global, it: InTurn, count: NodeCount) -> Result<ToldNode,
 }
 
 // How a node ended that gives this, of which this is told.
-fn told_of(alloc: Global, given: Given, count: NodeCount) -> Result<ToldNode, OutOfMemory>
+fn told_of(
+    alloc: Global,
+    nodes: &[Node],
+    given: Given,
+    count: NodeCount,
+) -> Result<ToldNode, OutOfMemory>
     ensures number { IfOk result (λ told. told.number ≡ (result_given given.entry).number) }
-    ensures told { IfOk result (λ told. (plan : ThePlan) (rows : TheRows) (form : ℕ) (ready : Items ℕ) → IsResultOf plan rows ready (result_given given.entry) → IsToldOf plan rows form (result_given given.entry).number (result_given given.entry).ending count → IsToldAmong plan rows form ready told) }
+    ensures told { IfOk result (λ told. (plan : ThePlan) (rows : TheRows) (form : ℕ) (ready : Items ℕ) → plan.net.nodes ≡ nodes.now → IsResultOf plan rows ready (result_given given.entry) → IsToldOf plan rows form (result_given given.entry).number (result_given given.entry).ending count → IsToldAmong plan rows form ready told) }
 {
     match given {
         Given::Ended(node_result) => Ok(told_ended(node_result, count)),
-        Given::InTurn(it) => told_in_turn(alloc, it, count),
+        Given::InTurn(it) => told_in_turn(alloc, nodes, it, count),
     }
 }
 
 /// How the nodes of a wave ended that give this, of which this is told: of a station whose jobs leave in their order the departures are handed
-/// on, and no list of its visits was made. It refuses for want of memory alone.
+/// on, where some input of the network reads them, and no list of its visits was made. It refuses for want of memory alone.
 pub fn told_nodes(
     alloc: Global,
+    nodes: &[Node],
     given: List<Given>,
     counts: List<NodeCount>,
 ) -> Result<List<ToldNode>, OutOfMemory>
     requires even { length counts ≡ length given }
     ensures len { IfOk result (λ told. length told ≡ length given.entry) }
-    ensures told { IfOk result (λ told. (plan : ThePlan) (rows : TheRows) (form : ℕ) (ready : Items ℕ) → AllByRecursion (IsResultOf plan rows ready) (map result_given given.entry) → AreTold plan rows form (map result_given given.entry) counts → AllByRecursion (IsToldAmong plan rows form ready) told) }
+    ensures told { IfOk result (λ told. (plan : ThePlan) (rows : TheRows) (form : ℕ) (ready : Items ℕ) → plan.net.nodes ≡ nodes.now → AllByRecursion (IsResultOf plan rows ready) (map result_given given.entry) → AreTold plan rows form (map result_given given.entry) counts → AllByRecursion (IsToldAmong plan rows form ready) told) }
 {
     let Ok(mut told) = Vec::with_capacity(alloc, given.len()) else {
         drop(given);
@@ -311,7 +337,7 @@ pub fn told_nodes(
         let Some(count) = counts.pop() else {
             unreachable!()
         };
-        match told_of(alloc, one, count) {
+        match told_of(alloc, nodes, one, count) {
             Ok(node) => told.push_reserved(node),
             Err(fault) => {
                 drop(given);

@@ -60,7 +60,7 @@ pub settle_told-requires-in-waves-clause-waits : goal.settle_told-requires-in-wa
 settle_told-requires-in-waves-clause-waits g c =
     told-wait c.args.plan.now c.args.rows.now c.args.form c.waves.counting.stands.items c.deref-in-waves-2.result.now c.in-Ok-told_nodes.told
     (c.deref-in-waves-2.ensures.value ∙ (c.in-Ok.ensures ∙ ap (λ stands. filter (is_ready c.args.plan.now.net.nodes stands) c.args.plan.now.order) c.deref.ensures.value))
-    (c.in-Ok-told_nodes.ensures.told c.args.plan.now c.args.rows.now c.args.form c.deref-in-waves-2.result.now
+    (c.in-Ok-told_nodes.ensures.told c.args.plan.now c.args.rows.now c.args.form c.deref-in-waves-2.result.now (sym c.as_slice.ensures)
     (given-results c.args.plan.now c.args.rows.now c.deref-in-waves-2.result.now c.in-Ok-wave_of.given c.in-Ok-wave_of.ensures.known) c.in-Ok-counts_of_wave.ensures)
 
 pub counts_of_wave-requires-clause-few : goal.counts_of_wave-requires-clause-few
@@ -84,21 +84,21 @@ pub let_go-requires-clause-left : goal.let_go-requires-clause-left
 let_go-requires-clause-left g c = (
     c.settle_told-in-waves.ensures.reached c.args.plan.now c.args.rows.now c.args.form c.waves.invariant
     (told-nodes c.args.plan.now c.args.rows.now c.args.form c.deref-in-waves-2.result.now c.in-Ok-told_nodes.told
-    (c.in-Ok-told_nodes.ensures.told c.args.plan.now c.args.rows.now c.args.form c.deref-in-waves-2.result.now
+    (c.in-Ok-told_nodes.ensures.told c.args.plan.now c.args.rows.now c.args.form c.deref-in-waves-2.result.now (sym c.as_slice.ensures)
     (given-results c.args.plan.now c.args.rows.now c.deref-in-waves-2.result.now c.in-Ok-wave_of.given c.in-Ok-wave_of.ensures.known) c.in-Ok-counts_of_wave.ensures))).left
 
 pub let_go-requires-clause-stand : goal.let_go-requires-clause-stand
 let_go-requires-clause-stand g c = (
     c.settle_told-in-waves.ensures.reached c.args.plan.now c.args.rows.now c.args.form c.waves.invariant
     (told-nodes c.args.plan.now c.args.rows.now c.args.form c.deref-in-waves-2.result.now c.in-Ok-told_nodes.told
-    (c.in-Ok-told_nodes.ensures.told c.args.plan.now c.args.rows.now c.args.form c.deref-in-waves-2.result.now
+    (c.in-Ok-told_nodes.ensures.told c.args.plan.now c.args.rows.now c.args.form c.deref-in-waves-2.result.now (sym c.as_slice.ensures)
     (given-results c.args.plan.now c.args.rows.now c.deref-in-waves-2.result.now c.in-Ok-wave_of.given c.in-Ok-wave_of.ensures.known) c.in-Ok-counts_of_wave.ensures))).stand
 
 pub waves-preserved : goal.waves-preserved
 waves-preserved g c = c.let_go.ensures.counting c.args.rows.now c.args.form (
     c.settle_told-in-waves.ensures.reached c.args.plan.now c.args.rows.now c.args.form c.waves.invariant
     (told-nodes c.args.plan.now c.args.rows.now c.args.form c.deref-in-waves-2.result.now c.in-Ok-told_nodes.told
-    (c.in-Ok-told_nodes.ensures.told c.args.plan.now c.args.rows.now c.args.form c.deref-in-waves-2.result.now
+    (c.in-Ok-told_nodes.ensures.told c.args.plan.now c.args.rows.now c.args.form c.deref-in-waves-2.result.now (sym c.as_slice.ensures)
     (given-results c.args.plan.now c.args.rows.now c.deref-in-waves-2.result.now c.in-Ok-wave_of.given c.in-Ok-wave_of.ensures.known) c.in-Ok-counts_of_wave.ensures)))
 
 pub returns-then-is_empty-clause-ok : goal.returns-then-is_empty-clause-ok

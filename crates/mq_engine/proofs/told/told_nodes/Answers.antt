@@ -32,8 +32,8 @@ loop-one-preserved c =
     record {
       len = omega arith;
       even = omega arith;
-      told = λ plan rows form ready known are.
-          let now = was.told plan rows form ready known are in
+      told = λ plan rows form ready nodes known are.
+          let now = was.told plan rows form ready nodes known are in
           let parts : map result_given c.loop-one.given.items ≡ map result_given rest ++ result_given one ∷ [] = ap (map result_given) c.in-Some.ensures.items ∙ map-append result_given rest (one ∷ []) in
           let results = subst (Each (IsResultOf plan rows ready)) parts now.0 in
           let own = (Each-back (IsResultOf plan rows ready) (map result_given rest) (result_given one ∷ []) results).0 in
@@ -42,13 +42,13 @@ loop-one-preserved c =
             Each-front (IsResultOf plan rows ready) (map result_given rest) (result_given one ∷ []) results,
             last.1,
             subst (Each (IsToldAmong plan rows form ready)) (sym c.push_reserved.ensures.items)
-                (Each-append (IsToldAmong plan rows form ready) c.loop-one.told.items (node ∷ []) now.2 (c.in-Ok-told_of.ensures.told plan rows form ready own last.0, tt)),
+                (Each-append (IsToldAmong plan rows form ready) c.loop-one.told.items (node ∷ []) now.2 (c.in-Ok-told_of.ensures.told plan rows form ready nodes own last.0, tt)),
           );
       room = omega arith;
     }
 
 pub returns-clause-told : goal.returns-clause-told
-returns-clause-told c plan rows form ready known are =
+returns-clause-told c plan rows form ready nodes known are =
     subst (Each (IsToldAmong plan rows form ready)) (sym c.from_vec.ensures)
-    (c.loop-one.invariant.told plan rows form ready (subst (λ (l : List Given). Each (IsResultOf plan rows ready) (map result_given l)) (sym c.into_vec-given.ensures) known)
+    (c.loop-one.invariant.told plan rows form ready nodes (subst (λ (l : List Given). Each (IsResultOf plan rows ready) (map result_given l)) (sym c.into_vec-given.ensures) known)
     (subst (λ (z : List Given × List NodeCount). AreTold plan rows form (map result_given z.0) z.1) (λ k. (sym c.into_vec-given.ensures k, sym c.into_vec-counts.ensures k)) are)).2

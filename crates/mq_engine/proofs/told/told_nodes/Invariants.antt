@@ -13,7 +13,7 @@ abbrev pub invariant-loop-one : goal.invariant-loop-one
 invariant-loop-one l = record {
   len : length l.given.items + length l.told.items ≡ length l.initial.given.items;
   even : length l.counts.items ≡ length l.given.items;
-  told : (plan : Plan) (rows : Rows) (form : ℕ) (ready : List ℕ) → AllByRecursion (IsResultOf plan rows ready) (map result_given l.initial.given.items) → AreTold plan rows form (map result_given l.initial.given.items) l.initial.counts.items →
+  told : (plan : Plan) (rows : Rows) (form : ℕ) (ready : List ℕ) → plan.net.nodes ≡ l.nodes → AllByRecursion (IsResultOf plan rows ready) (map result_given l.initial.given.items) → AreTold plan rows form (map result_given l.initial.given.items) l.initial.counts.items →
       AllByRecursion (IsResultOf plan rows ready) (map result_given l.given.items) × AreTold plan rows form (map result_given l.given.items) l.counts.items × AllByRecursion (IsToldAmong plan rows form ready) l.told.items;
   room : length l.initial.given.items ≤ vec_capacity l.told;
 }
