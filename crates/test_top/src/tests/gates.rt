@@ -17,9 +17,10 @@ const JOBS: &[u8] = b"source,time,a,b,c\nsrc,0,2,3,1\nsrc,1,1,1,4\nsrc,2,2,1,1\n
 
 // A run by so many workers whose form of report is this, with the lines of the jobs or without them, and how many pieces each list of
 // it has, in the order in which they are made. A list of no piece or of one enters no gate, and isn't told. Without those lines nothing is worked
-// out of a source, and behind each wave come the totals of its nodes, a piece for each, and what leaves by the outputs that nobody
-// reads, a piece for each node that has one. With them the 4 last pieces of the source come first (when its jobs leave, how many each
-// found, the jobs, and when each departs), and the totals of all nodes, and what leaves, at the end.
+// out of a source, a station whose jobs leave in turn has no last pieces, and behind each wave come the totals of its nodes, a piece for
+// each, and what leaves by the outputs that nobody reads, a piece for each node that has one. With them the 4 last pieces of the source
+// come first (when its jobs leave, how many each found, the jobs, and when each departs), and the totals of all nodes, and what leaves,
+// at the end.
 #[derive(Clone, Copy)]
 struct Case<'a> {
     model: &'a [u8],
@@ -32,19 +33,19 @@ struct Case<'a> {
     passes: &'a [usize],
 }
 
-// A server. Its blocks are passed over by themselves, and its last pieces are 5: when the jobs leave, how many each found, the
-// jobs, and of what came the jobs and the times.
+// A server. Its blocks are passed over by themselves, and no list has more than one piece.
 const SERVER: Case = Case {
     model: MODEL,
     trace: TRACE,
     form: "2",
     jobs: false,
     workers: "2",
-    lists: &[5],
+    lists: &[],
     passes: &[3],
 };
 
-// The same with the lines of the jobs.
+// The same with the lines of the jobs. Its last pieces are 5: when the jobs leave, how many each found, the jobs, and of what came the
+// jobs and the times.
 const SERVER_OF_A_KEPT_RUN: Case = Case {
     jobs: true,
     lists: &[4, 5, 2],
@@ -53,18 +54,18 @@ const SERVER_OF_A_KEPT_RUN: Case = Case {
 
 // The same where two blocks are left by the single pass: the crew applies them.
 const LEFT: Case = Case {
-    lists: &[2, 5],
+    lists: &[2],
     ..SERVER
 };
 
-// A tandem of three stages: a summary of each job, an applied block of each, and its last pieces, as a server's.
+// A tandem of three stages: a summary of each job, and an applied block of each.
 const TANDEM: Case = Case {
     model: b"model 1\nsource src\ntandem line a / 2 b / 1 c from src\n",
     trace: JOBS,
     form: "2",
     jobs: false,
     workers: "2",
-    lists: &[3, 3, 5],
+    lists: &[3, 3],
     passes: &[],
 };
 
@@ -76,10 +77,10 @@ const BLOCKING: Case = Case {
 };
 
 // A fork-join of two branches, of two servers and of one: summaries and applied blocks of the first server of both branches, then
-// of the second server of the first branch, and its last pieces, as a server's.
+// of the second server of the first branch.
 const FORKJOIN: Case = Case {
     model: b"model 1\nsource src\nforkjoin both a b | c from src\n",
-    lists: &[6, 6, 3, 3, 5],
+    lists: &[6, 6, 3, 3],
     ..TANDEM
 };
 
@@ -114,26 +115,26 @@ const MERGE: Case = Case {
     ..TANDEM
 };
 
-// Two tandems of one wave, at which jobs wait: the rows of both sources, how each tandem is worked out, their summaries, applied
-// blocks and last pieces, their totals, with which the waits are counted, and what leaves each.
+// Two tandems of one wave, at which jobs wait: the rows of both sources, how each tandem is worked out, their summaries and applied
+// blocks, their totals, with which the waits are counted, and what leaves each.
 const WAITS: Case = Case {
     model: b"model 1\nsource src\nsource web\ntandem left =1 / 1 =2 from src\ntandem right =1 / 1 =3 from web\n",
     trace: b"source,time\nsrc,0\nweb,0\nsrc,0\nweb,0\nsrc,0\nweb,0\n",
-    lists: &[2, 2, 6, 6, 10, 2, 2],
+    lists: &[2, 2, 6, 6, 2, 2],
     ..TANDEM
 };
 
 // The same with waits too long to be counted: behind the totals the percentiles are a piece for each node, and then comes what leaves each.
 const LONG_WAITS: Case = Case {
     model: b"model 1\nsource src\nsource web\ntandem left =1 / 1 =20000 from src\ntandem right =1 / 1 =30000 from web\n",
-    lists: &[2, 2, 6, 6, 10, 2, 2, 2],
+    lists: &[2, 2, 6, 6, 2, 2, 2],
     ..WAITS
 };
 
 // In the first form of the report there are no percentiles.
 const UNTOLD_WAITS: Case = Case {
     form: "1",
-    lists: &[2, 2, 6, 6, 10, 2, 2],
+    lists: &[2, 2, 6, 6, 2, 2],
     ..LONG_WAITS
 };
 
@@ -147,35 +148,35 @@ const LONG_WAITS_OF_A_KEPT_RUN: Case = Case {
 
 // A loss station with two ports beside three tandems: the rows of all sources. To the station come 6 jobs of 15, more than a third, so
 // it has a worker of its own, who merges what comes and settles it alone, and enters no gate. The two others have the tandems, of
-// which no list has a piece of the station: how each is worked out, their summaries, applied blocks and last pieces. The totals
-// of all four, and what leaves them, are made by all workers.
+// which no list has a piece of the station: how each is worked out, their summaries and applied blocks. The totals of all four, and
+// what leaves them, are made by all workers.
 const LOSS_BESIDE_TANDEMS: Case = Case {
     model: b"model 1\nsource src\nsource web\nsource a\nsource b\nsource c\nloss l 1 =2 from src web\n\
         tandem one =1 / 1 =2 from a\ntandem two =1 / 1 =2 from b\ntandem three =1 / 1 =2 from c\n",
     trace: b"source,time\nsrc,0\nweb,0\na,0\nb,0\nc,0\nsrc,1\nweb,1\na,1\nb,1\nc,1\nsrc,2\nweb,2\na,2\nb,2\nc,2\n",
     form: "1",
     workers: "3",
-    lists: &[5, 3, 9, 9, 15, 4, 4],
+    lists: &[5, 3, 9, 9, 4, 4],
     ..TANDEM
 };
 
 // The same where fewer jobs come to the loss station than a third: one list has its piece and what the blocks of the tandems do.
 const SHORT_LOSS_AMONG_TANDEMS: Case = Case {
     trace: b"source,time\nsrc,0\nweb,0\na,0\nb,0\nc,0\na,1\nb,1\nc,1\na,2\nb,2\nc,2\n",
-    lists: &[5, 2, 4, 10, 9, 15, 4, 4],
+    lists: &[5, 2, 4, 10, 9, 4, 4],
     ..LOSS_BESIDE_TANDEMS
 };
 
 // Two loss stations, to each of which come 5 jobs of 15, beside a tandem, by four workers: the rows of all sources; of the stations how
-// each is worked out, both, and the copies of what came; of the tandem its summaries, applied blocks and last pieces; and
-// all totals, and what leaves all three.
+// each is worked out, both, and the copies of what came; of the tandem its summaries and applied blocks; and all totals, and what
+// leaves all three.
 const LOSSES_BESIDE_A_TANDEM: Case = Case {
     model: b"model 1\nsource a\nsource b\nsource c\nloss one 1 =2 from a\nloss two 1 =2 from b\n\
         tandem line =1 / 1 =2 from c\n",
     trace: b"source,time\na,0\nb,0\nc,0\na,1\nb,1\nc,1\na,2\nb,2\nc,2\na,3\nb,3\nc,3\na,4\nb,4\nc,4\n",
     form: "1",
     workers: "4",
-    lists: &[3, 2, 2, 4, 5, 5, 5, 3, 3],
+    lists: &[3, 2, 2, 4, 5, 5, 3, 3],
     ..TANDEM
 };
 
@@ -193,7 +194,7 @@ const TURNS: u64 = 2_000_000_000;
 // own: so none of the two goes on before the other has come, and each of them needs a thread.
 #[derive(Drop)]
 struct Entries {
-    came: [AtomicU64; 15],
+    came: [AtomicU64; 10],
     above: AtomicU64,
     zero: usize,
     one: usize,
@@ -204,11 +205,6 @@ impl Entries {
     fn held(zero: usize, one: usize) -> Entries {
         Entries {
             came: [
-                AtomicU64::new(0),
-                AtomicU64::new(0),
-                AtomicU64::new(0),
-                AtomicU64::new(0),
-                AtomicU64::new(0),
                 AtomicU64::new(0),
                 AtomicU64::new(0),
                 AtomicU64::new(0),
