@@ -102,3 +102,31 @@ module _ {F : Type 0} (told : F → List ℕ → Option (List ℕ)) (is_sure : F
   -- so it is where all names are sure
   pub first_all_sure : list_all (is_sure a) names ≡ true → faults b ≡ faults a
   first_all_sure all = first_sure (λ last is. all_last (is_sure a) names h.count last all is)
+
+-- ---- the names of a call
+
+module _ {F : Type 0} (told : F → List ℕ → Option (List ℕ)) (is_sure : F → List ℕ → Bool) (reads faults : F → ℕ) where
+  -- there are some
+  pub reads_some : (a b : F) (names : List (List ℕ)) (name : List ℕ) (more : List (List ℕ)) (reading : Reading) (count : ℕ) → names ≡ name ∷ more → IsReadCount reading (length (name ∷ more)) count
+      → ReadsNames told is_sure reads faults a b (take count (name ∷ more)) (is_unread reading) → ReadsFirst told is_sure reads faults a b names reading
+  reads_some a b names name more reading count is at h = record {
+    count = count;
+    is_count = subst (λ ns. IsReadCount reading (length ns) count) (sym is) at;
+    first = subst (λ ns. ReadsNames told is_sure reads faults a b (take count ns) (is_unread reading)) (sym is) h;
+    unread = λ none. let none' : name ∷ more ≡ [] = sym is ∙ none in absurd (cc none');
+  }
+
+  -- none was read
+  pub reads_nothing : (a : F) (names : List (List ℕ)) (reading : Reading) → IsReadCount reading (length names) 0 → ReadsFirst told is_sure reads faults a a names reading
+  reads_nothing a names reading at = record {
+    count = 0;
+    is_count = at;
+    first = subst (ReadsNames told is_sure reads faults a a []) (sym (not_failed reading (length names) at)) (reads_none told is_sure reads faults a);
+    unread = λ _. refl;
+  }
+    where
+      not_failed : (reading : Reading) (all : ℕ) → IsReadCount reading all 0 → is_unread reading ≡ false
+      not_failed Through all h = refl
+      not_failed (UpTo word) all h = refl
+      not_failed (FailedAt word) all h = absurd (omega (arith, h.0, h.1))
+      not_failed Anywhere all h = refl

@@ -1,5 +1,8 @@
 -- What a sink has of a text. In each lemma a and b are the sink at first and at last.
-use Rattle.std.proofs.Common.{◌≡◌, ap, refl, ℕ, ◌≤◌, List, length, Option, arith}
+use Rattle.std.proofs.Common.{◌≡◌, ◌∙◌, ap, ℕ, ◌≤◌, List, length, Option, arith}
+use Rattle.std.proofs.Math.Seq.{take-length}
+use Rattle.std.specs.Io.KnownBytes.{append_known}
+use Rattle.mq_outside.specs.Outside.{TakesFirst}
 use Rattle.mq_outside.specs.Writing.{Writes, Writing}
 use Rattle.mq_outside.specs.Writing.Writing.{Whole, Part, Nothing}
 
@@ -21,3 +24,7 @@ module _ {S : Type 0} (taken : S → Option (List ℕ)) (sure faults : S → ℕ
   writes_calm Whole P room h = h.quiet
   writes_calm Part P room h = h.calm (room h.text h.is_text)
   writes_calm Nothing P room h = ap faults h
+
+  -- a text that was put whole
+  pub writes_whole : (text : List ℕ) (P : List ℕ → Type 0) → P text → TakesFirst (taken a) (taken b) (sure a) (sure b) text (length text) → faults b ≡ faults a → Writes taken sure faults a b Whole P
+  writes_whole text P is took still = record { text = text; is_text = is; gained = took.gained ∙ ap (append_known (taken a)) (take-length text); quiet = still }
