@@ -1,9 +1,8 @@
 -- What the clauses `reads`, `writes` and `line` of `simulate` say in single facts: how often files are read, which faults are counted, and what the
 -- two outputs have.
-use Rattle.std.proofs.Common.{◌≡◌, ◌≢◌, ◌∙◌, ◌==◌, ◌⊎◌, inl, inr, ℕ, zero, suc, ◌+◌, ◌-◌, ◌^◌, ◌<◌, ◌≤◌, Bool, true, false, List, [], ◌∷◌, length, take, Option, Some, None, refl, sym, ap, ap₂, subst, arith, true≢false, if◌then◌else◌}
+use Rattle.std.proofs.Common.{◌≡◌, ◌≢◌, ◌∙◌, ◌==◌, ◌⊎◌, inl, inr, ℕ, zero, suc, ◌+◌, ◌-◌, ◌^◌, ◌<◌, ◌≤◌, Bool, true, false, List, [], ◌∷◌, length, take, Option, Some, None, refl, sym, ap, ap₂, subst, arith, if◌then◌else◌}
 use Rattle.std.proofs.lemmas.Bool.{and_from, eqb-true}
 use Rattle.std.specs.List.{list_all}
-use Rattle.mq_core.specs.declared.model.Network.{Network}
 use Rattle.mq_gen.specs.Made.{made_model, made_trace}
 use Rattle.mq_model.specs.NetworkOf.{network_in}
 use Rattle.mq_outcome.specs.Lines.{PutsLine, line_text, name_of}
@@ -13,14 +12,14 @@ use Rattle.mq_outside.specs.Outside.{Rose, next_count}
 use Rattle.mq_outside.specs.Reading.{IsReadCount, ReadsFirst, counted, is_unread, last_of}
 use Rattle.mq_outside.specs.Reading.Reading.{FailedAt}
 use Rattle.mq_outside.specs.Writing.{Writes}
-use Rattle.mq_outside.proofs.lemmas.Readings.{counted_few, count_within, first_all_sure, first_counts, first_sure}
+use Rattle.mq_outside.proofs.lemmas.Readings.{counted_few, first_all_sure, first_counts, first_sure}
 use Rattle.mq_outside.proofs.lemmas.Writings.{writes_calm, writes_later}
 use Rattle.mq_top.specs.Answer.{Answer, answer, wanted_by}
 use Rattle.mq_top.specs.Answer.Answer.{Reported}
 use Rattle.mq_top.specs.Ends.{IsOfMade, IsReportOf, IsText, names_read, names_unless, reading_of, writing_of}
 use Rattle.mq_top.proofs.Exits.{accepted_fit, asked_names, named_read}
 use Rattle.mq_top.proofs.MadeRuns.{some_is_none}
-use Rattle.mq_words.specs.Words.{Makes, Names, asks_made, names_needed, usage_fault, words_left}
+use Rattle.mq_words.specs.Words.{Makes, Names, asks_made, usage_fault, words_left}
 use Rattle.mq_words.specs.declared.fault.UsageFault.{UsageFault}
 
 -- ---- what is read

@@ -16,7 +16,7 @@ pub returns-in-Ok-clause-writes : goal.returns-in-Ok-clause-writes
 returns-in-Ok-clause-writes g c =
     let text = λ (jobs : Bool). report_in c.args.plan.now.net c.args.rows.now c.args.wanted.form jobs in
     let took = subst (λ (jobs : Bool). TakesFirst (g.O.Sink.taken c.args.out.now) (g.O.Sink.taken c.report.new.out) (g.O.Sink.sure c.args.out.now) (g.O.Sink.sure c.report.new.out) (text jobs) (length (text jobs))) c.requires.asked c.in-Ok.ensures.ok in
-    writes_whole _ _ _ _ _ (text c.args.wanted.jobs) _ refl took c.in-Ok.ensures.quiet
+    writes_whole g.O.Sink.taken g.O.Sink.sure g.O.Sink.faults c.args.out.now c.report.new.out (text c.args.wanted.jobs) _ refl took c.in-Ok.ensures.quiet
 
 pub returns-in-Err-clause-ends : goal.returns-in-Err-clause-ends
 returns-in-Err-clause-ends g c = rw (sym c.requires.asked) c.in-Err.ensures.err

@@ -1,4 +1,4 @@
-use Rattle.std.proofs.Common.{◌≡◌, ◌∙◌, sym, ap, subst, ℕ, List, [], ◌∷◌, Some, None}
+use Rattle.std.proofs.Common.{◌≡◌, ◌∙◌, refl, sym, ap, subst, ℕ, List, [], ◌∷◌, Some, None}
 use Rattle.std.specs.Prelude.{unwrap_or}
 use Rattle.mq_base.specs.Text.{texts}
 use Rattle.mq_gen.specs.Made.{made_model, made_trace}
