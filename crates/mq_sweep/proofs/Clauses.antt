@@ -59,7 +59,7 @@ neither false b e = (refl, e)
 
 -- words that aren't refused are no more than 65
 few_words : (words : List (List ℕ)) → refuses_words words ≡ false → length words ≤ 65
-few_words words fine = below (length words) (neither _ _ (neither _ _ fine).1).0
+few_words words fine = below (length words) (neither (nat_lt (length words) 2) (nat_lt 65 (length words)) (neither _ _ fine).0).1
   where
     below : (n : ℕ) → nat_lt 65 n ≡ false → n ≤ 65
     below n few = ltb-false 65 n few
