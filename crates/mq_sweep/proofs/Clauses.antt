@@ -1,8 +1,7 @@
 -- What the clauses `reads` and `writes` of `sweep` say in single facts: how often files are read, which faults are counted, and what the output has.
-use Rattle.std.proofs.Common.{◌≡◌, ◌≢◌, ◌∙◌, ◌||◌, ◌⊎◌, inl, inr, ℕ, ◌+◌, ◌^◌, ◌<◌, ◌≤◌, Bool, true, false, List, [], ◌∷◌, length, map, Option, Some, refl, sym, ap, subst, arith, nat_lt, true≢false}
+use Rattle.std.proofs.Common.{◌≡◌, ◌≢◌, ◌∙◌, ◌||◌, ◌⊎◌, inl, inr, ℕ, ◌+◌, ◌^◌, ◌<◌, ◌≤◌, Bool, true, false, List, length, Option, refl, sym, ap, subst, arith, nat_lt, true≢false}
 use Rattle.std.proofs.lemmas.Bool.{cases_Bool, ltb-false}
 use Rattle.std.specs.List.{list_all}
-use Rattle.std.specs.Prelude.{IsTrue}
 use Rattle.mq_outside.specs.Outside.{Rose}
 use Rattle.mq_outside.specs.Reading.{IsReadCount, ReadsFirst, counted, is_unread}
 use Rattle.mq_outside.specs.Writing.{Writes}
