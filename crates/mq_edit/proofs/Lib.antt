@@ -1,4 +1,4 @@
 mod Cases
+mod Clauses
 mod FileFacts
-mod Readings
 mod Told

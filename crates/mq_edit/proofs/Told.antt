@@ -24,25 +24,10 @@ use Rattle.mq_trace.specs.declared.fault.TraceFault.{TraceFault}
 use Rattle.mq_edit.specs.Answer.{Answer, after_answer, answer_told, before_answer, edited_report, edits_answer, edits_told, model_answer, refused_by, run_answer, trace_answer, trace_told}
 use Rattle.mq_edit.specs.Answer.Answer.{Refused, Reported}
 use Rattle.mq_edit.specs.Ends.{Breaks, Ends, IsText, RefusesModel}
-use Rattle.mq_edit.specs.Words.{name_at, refuses_words}
+use Rattle.mq_edit.specs.Words.{name_at, names_read, refuses_words}
 use Rattle.mq_edit.proofs.FileFacts.{if_told}
 use Rattle.mq_edit.specs.declared.outcome.EditOutcome.{EditOutcome}
 use Rattle.mq_edit.specs.declared.outcome.EditOutcome.TheVariants.{Done, Model, ReadFault, WriteFault, Memory}
-
--- ---- the text of an answer
-
-abbrev pub text_of : Answer → List ℕ
-text_of (Refused refusal) = []
-text_of (Reported report) = report
-
-abbrev pub text_told : Option Answer → List ℕ
-text_told None = []
-text_told (Some answer) = text_of answer
-
-pub text_is : (told : Option Answer) → IfSome told (IsText (text_told told))
-text_is None = tt
-text_is (Some (Refused refusal)) = tt
-text_is (Some (Reported report)) = refl
 
 -- ---- a break on the way
 
@@ -117,6 +102,14 @@ edits_text net rows n (Some bytes) edits same accepted =
     let none = rw same at accepted.0 in
     rw (none, accepted.1) (before_text net rows (edited_rows rows (edits_in net bytes)) (refusal_in net rows))
 
+-- ---- the trace
+
+pub trace_end : (net : Network) (rows : Rows) (trace edits edits' : Option (List ℕ)) (P : Answer → Type 0) → IfSome trace (λ bytes. (trace_fault net bytes ≡ None) × (rows ≡ rows_in net bytes)) → edits' ≡ edits
+    → IfSome (edits_told net rows edits') P → IfSome (trace_told net trace edits) P
+trace_end net rows None edits edits' P accepted same ends = tt
+trace_end net rows (Some bytes) edits edits' P accepted same ends =
+    rw accepted.0 (subst (λ e. IfSome (edits_told net (rows_in net bytes) e) P) same (subst (λ r. IfSome (edits_told net r edits') P) accepted.1 ends))
+
 -- ---- the model
 
 pub model_end : (net : Network) (told trace edits : Option (List ℕ)) (P : Answer → Type 0) → IfSome told (λ bytes. (model_fault bytes ≡ None) × (net ≡ network_in bytes))
@@ -133,7 +126,7 @@ model_refused (Some bytes) trace edits _ r = elim r [ ]
 
 -- ---- the names
 
-three : (words : List (List ℕ)) → refuses_words words ≡ false → length words ≡ 3
+pub three : (words : List (List ℕ)) → refuses_words words ≡ false → length words ≡ 3
 three words fine = elim (cases_Bool (length words == 3)) [
   | inl same ↦ eqb-true (length words) 3 same
   | inr other ↦ let made = rw other at fine in absurd (true≢false made)
@@ -168,10 +161,14 @@ trace_named told words m t e net trace' f is same accepted fault =
     subst (λ ws. IfSome (told (name_at ws 0)) (λ model. IfSome (told (name_at ws 1)) (λ bytes. trace_fault (network_in model) bytes ≡ Some f))) (sym is) here
 
 -- the names that were read
-pub first_names : (n : ℕ) (words : List (List ℕ)) (m t e : List ℕ) → words ≡ m ∷ t ∷ e ∷ [] → m ∷ t ∷ take n (e ∷ []) ≡ take (n + 2) words
-first_names n words m t e is =
+pub first_names : (n : ℕ) (m t e : List ℕ) → m ∷ t ∷ take n (e ∷ []) ≡ take (n + 2) (m ∷ t ∷ e ∷ [])
+first_names n m t e =
     let more : n + 2 ≡ suc (suc n) = omega arith in
-    sym (ap (λ ws. take (n + 2) ws) is ∙ ap (λ k. take k (m ∷ t ∷ e ∷ [])) more)
+    sym (ap (λ k. take k (m ∷ t ∷ e ∷ [])) more)
 
-pub first_name : (words : List (List ℕ)) (m t e : List ℕ) → words ≡ m ∷ t ∷ e ∷ [] → m ∷ [] ≡ take 1 words
-first_name words m t e is = sym (ap (λ ws. take 1 ws) is)
+-- words that aren't refused are read
+pub words_read : (words : List (List ℕ)) → refuses_words words ≡ false → names_read words ≡ words
+words_read words fine = rw fine refl
+
+pub none_read : (words : List (List ℕ)) → refuses_words words ≡ true → 0 ≡ length (names_read words)
+none_read words refused = rw refused refl

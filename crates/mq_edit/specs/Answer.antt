@@ -17,6 +17,7 @@ use Rattle.mq_model.specs.declared.fault.ModelFault.{ModelFault}
 use Rattle.mq_report.specs.Text.{report_in}
 use Rattle.mq_trace.specs.Trace.{trace_fault, rows_in}
 use Rattle.mq_trace.specs.declared.fault.TraceFault.{TraceFault}
+use Rattle.mq_edit.specs.Words.{name_at}
 use Rattle.mq_edit.specs.declared.outcome.EditOutcome.{EditOutcome}
 use Rattle.mq_edit.specs.declared.outcome.EditOutcome.TheVariants.{Model, Trace, Edits, Over, Past, Memory}
 
@@ -83,3 +84,7 @@ model_answer model trace edits None = trace_told (network_in model) trace edits
 abbrev pub answer_told : Option (List ℕ) → Option (List ℕ) → Option (List ℕ) → Option Answer
 answer_told None trace edits = None
 answer_told (Some model) trace edits = model_answer model trace edits (model_fault model)
+
+-- the answer to the files that three words name
+abbrev pub answer_of : (told : List ℕ → Option (List ℕ)) → List (List ℕ) → Option Answer
+answer_of told words = answer_told (told (name_at words 0)) (told (name_at words 1)) (told (name_at words 2))

@@ -1,17 +1,20 @@
--- How a call may end, for each answer of the definitions, and what the files and the output have then. Where the last row of a table
+-- How a call may end, for each answer of the definitions, how far it came with the files, and what it has written. Where the last row of a table
 -- is ⊥, no outcome without a row above it can be.
-use Rattle.std.specs.Prelude.{◌≡◌, ◌≢◌, ◌⊎◌, ◌+◌, ◌<◌, ◌≤◌, ℕ, Bool, true, false, List, length, Option, Some, IfSome, Result, Ok, Err}
-use Rattle.std.specs.Io.KnownBytes.{append_known}
+use Rattle.std.specs.Prelude.{◌≡◌, ◌≢◌, ◌⊎◌, ◌+◌, ◌<◌, ◌≤◌, ℕ, Bool, false, List, Option, Some, IfSome, Result, Ok, Err}
 use Rattle.mq_core.specs.declared.model.Network.{Network}
 use Rattle.mq_edits.specs.Edits.{edits_fault}
 use Rattle.mq_edits.specs.declared.fault.EditFault.TheVariants as edits
 use Rattle.mq_model.specs.Model.{model_fault}
 use Rattle.mq_model.specs.declared.fault.ModelFault.TheVariants as model
-use Rattle.mq_outside.specs.Outside.{Rose, TakesPrefix}
+use Rattle.mq_outside.specs.Reading.{Reading, is_unread}
+use Rattle.mq_outside.specs.Reading.Reading.{Through, UpTo, FailedAt, Anywhere}
+use Rattle.mq_outside.specs.Writing.{Writing}
+use Rattle.mq_outside.specs.Writing.Writing.{Whole, Part, Nothing}
 use Rattle.mq_trace.specs.Trace.{trace_fault}
 use Rattle.mq_trace.specs.declared.fault.TraceFault.TheVariants as trace
-use Rattle.mq_edit.specs.Answer.{Answer}
+use Rattle.mq_edit.specs.Answer.{Answer, answer_of}
 use Rattle.mq_edit.specs.Answer.Answer.{Refused, Reported}
+use Rattle.mq_edit.specs.Words.{refuses_words}
 use Rattle.mq_edit.specs.declared.outcome.EditOutcome.{EditOutcome}
 use Rattle.mq_edit.specs.declared.outcome.EditOutcome.TheVariants.{Done, Usage, Model, Trace, Edits, Over, Past, ReadFault, WriteFault, Memory}
 
@@ -28,36 +31,36 @@ reads_of (Past edited f) = 3
 reads_of WriteFault = 3
 reads_of Memory = 0
 
--- so many files were read by a call that ends so
-abbrev pub IsReadCount : EditOutcome → ℕ → Type 0
-IsReadCount Memory reads = reads ≤ 3
-IsReadCount Done reads = reads ≡ 3
-IsReadCount Usage reads = reads ≡ 0
-IsReadCount (Model f) reads = reads ≡ 1
-IsReadCount (Trace f) reads = reads ≡ 2
-IsReadCount (Edits f) reads = reads ≡ 3
-IsReadCount (Over edited f) reads = reads ≡ 3
-IsReadCount (Past edited f) reads = reads ≡ 3
-IsReadCount (ReadFault file) reads = (reads ≡ file + 1) × (file < 3)
-IsReadCount WriteFault reads = reads ≡ 3
+-- how far a call comes with the three names that ends so
+abbrev pub reading_of : EditOutcome → Reading
+reading_of Usage = Through
+reading_of (Model f) = UpTo 1
+reading_of (Trace f) = UpTo 2
+reading_of (ReadFault file) = FailedAt (file + 1)
+reading_of Done = Through
+reading_of (Edits f) = Through
+reading_of (Over edited f) = Through
+reading_of (Past edited f) = Through
+reading_of WriteFault = Through
+reading_of Memory = Anywhere
 
--- the last read of a call that ends so failed
-abbrev pub is_unread : EditOutcome → Bool
-is_unread (ReadFault file) = true
-is_unread Done = false
-is_unread Usage = false
-is_unread (Model f) = false
-is_unread (Trace f) = false
-is_unread (Edits f) = false
-is_unread (Over edited f) = false
-is_unread (Past edited f) = false
-is_unread WriteFault = false
-is_unread Memory = false
+-- how much of the report it has written
+abbrev pub writing_of : EditOutcome → Writing
+writing_of Done = Whole
+writing_of WriteFault = Part
+writing_of Usage = Nothing
+writing_of (Model f) = Nothing
+writing_of (Trace f) = Nothing
+writing_of (Edits f) = Nothing
+writing_of (Over edited f) = Nothing
+writing_of (Past edited f) = Nothing
+writing_of (ReadFault file) = Nothing
+writing_of Memory = Nothing
 
--- the same of a stage of the call
+-- the last read of a stage of the call failed
 abbrev pub stops_unread : {A : Type 0} → Result A EditOutcome → Bool
 stops_unread (Ok x) = false
-stops_unread (Err outcome) = is_unread outcome
+stops_unread (Err outcome) = is_unread (reading_of outcome)
 
 -- a read of one of so many files failed, or memory ran out; nothing else can be
 abbrev pub Breaks : ℕ → EditOutcome → Type 0
@@ -70,34 +73,14 @@ abbrev pub Ends : Answer → EditOutcome → Type 0
 Ends (Refused refusal) outcome = (outcome ≡ refusal) ⊎ Breaks (reads_of refusal) outcome
 Ends (Reported text) outcome = (outcome ≡ Done) ⊎ ((outcome ≡ WriteFault) ⊎ Breaks 3 outcome)
 
--- after every outcome but Done and WriteFault nothing changed
-abbrev pub Untouched : {A : Type 0} → EditOutcome → A → A → Type 0
-Untouched Done before now = Unit {0}
-Untouched WriteFault before now = Unit {0}
-Untouched Usage before now = now ≡ before
-Untouched (Model f) before now = now ≡ before
-Untouched (Trace f) before now = now ≡ before
-Untouched (Edits f) before now = now ≡ before
-Untouched (Over edited f) before now = now ≡ before
-Untouched (Past edited f) before now = now ≡ before
-Untouched (ReadFault file) before now = now ≡ before
-Untouched Memory before now = now ≡ before
-
--- What a sink has of a text, by how the call ends: the whole after Done, and after WriteFault a first part, where its count of
--- faults rose. That never falls, stays after all other outcomes, and where as many bytes are sure as the text has.
-pub record Writes {S : Type 0} (taken : S → Option (List ℕ)) (sure faults : S → ℕ) (before after : S) (outcome : EditOutcome) (text : List ℕ) : Type 0 where
-  pub done : outcome ≡ Done → taken after ≡ append_known (taken before) text
-  pub part : outcome ≡ WriteFault → TakesPrefix (taken before) (taken after) (sure before) (sure after) text
-  pub rose : outcome ≡ WriteFault → Rose (faults before) (faults after)
-  pub quiet : (outcome ≡ WriteFault) ⊎ (faults after ≡ faults before)
-  pub later : faults before ≤ faults after
-  pub calm : length text ≤ sure before → faults after ≡ faults before
-  pub untouched : Untouched outcome before after
-
 -- a report is this text
 abbrev pub IsText : List ℕ → Answer → Type 0
 IsText text (Refused refusal) = Unit {0}
 IsText text (Reported report) = text ≡ report
+
+-- a text is the report that a call with these words gives, as far as the files are told
+abbrev pub IsReportOf : (told : List ℕ → Option (List ℕ)) → List (List ℕ) → List ℕ → Type 0
+IsReportOf told words text = refuses_words words ≡ false → IfSome (answer_of told words) (IsText text)
 
 -- how the call may end at the model, where this is told of it: by nothing but Model, Memory and a fault of its read
 abbrev pub RefusesModel : Option (List ℕ) → EditOutcome → Type 0

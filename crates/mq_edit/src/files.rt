@@ -5,9 +5,9 @@ ghost use Rattle.mq_edits.specs.Edited.{AreEditsFor};
 ghost use Rattle.mq_edits.specs.Edits.{edits_fault, edits_in};
 ghost use Rattle.mq_model.specs.Model.{model_fault};
 ghost use Rattle.mq_model.specs.NetworkOf.{network_in};
+ghost use Rattle.mq_outside.specs.Reading.{ReadsNames, has_failed};
 ghost use Rattle.mq_trace.specs.Trace.{rows_in, trace_fault};
 ghost use Rattle.mq_edit.specs.Ends.{RefusesEdits, RefusesModel, RefusesTrace, stops_unread};
-ghost use Rattle.mq_edit.specs.Reading.{ReadsNames, has_failed};
 
 use crate::outcome::EditOutcome;
 use mq_base::List;

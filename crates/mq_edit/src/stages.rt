@@ -10,14 +10,15 @@ ghost use Rattle.mq_model.specs.Model.{model_fault};
 ghost use Rattle.mq_model.specs.NetworkOf.{network_in};
 ghost use Rattle.mq_model.specs.declared.fault.ModelFault.{ModelFault};
 ghost use Rattle.mq_outcome.specs.Lines.{PutsLine};
+ghost use Rattle.mq_outside.specs.Reading.{IsReadCount, ReadsFirst, ReadsNames, is_unread};
+ghost use Rattle.mq_outside.specs.Writing.{Writes};
 ghost use Rattle.mq_trace.specs.Trace.{trace_fault};
 ghost use Rattle.mq_trace.specs.declared.fault.TraceFault.{TraceFault};
 ghost use Rattle.mq_edits.specs.declared.fault.EditFault.{EditFault};
-ghost use Rattle.mq_edit.specs.Answer.{answer_told, edited_report, edits_told, refused_by, run_answer, trace_told};
-ghost use Rattle.mq_edit.specs.Ends.{Ends, IsBehindModel, IsBehindTrace, IsOfRun, IsReadCount, IsText, Writes, is_unread};
+ghost use Rattle.mq_edit.specs.Answer.{answer_of, edited_report, edits_told, refused_by, run_answer, trace_told};
+ghost use Rattle.mq_edit.specs.Ends.{Ends, IsBehindModel, IsBehindTrace, IsOfRun, IsReportOf, IsText, reading_of, writing_of};
 ghost use Rattle.mq_edit.specs.Lines.{line_text, name_of as name_of_outcome};
-ghost use Rattle.mq_edit.specs.Reading.{ReadsNames};
-ghost use Rattle.mq_edit.specs.Words.{name_at, refuses_words};
+ghost use Rattle.mq_edit.specs.Words.{name_at, names_read, refuses_words};
 
 use crate::files::{WORKERS, accept_edits, accept_model, accept_trace};
 use crate::line::{name_of, put_line};
@@ -85,7 +86,7 @@ fn edit_rows<R: Threads + Sync, O: Sink>(
     requires edits { AreEditsFor plan.now.net (length rows.source) edits.now }
     ensures ends { Ends (run_answer plan.now.net rows (edited_rows rows edits.now)) result }
     ensures of_run { IsOfRun result }
-    ensures writes { Writes O.taken O.sure O.faults out.old out.new result (edited_report plan.now.net rows (edited_rows rows edits.now)) }
+    ensures writes { Writes O.taken O.sure O.faults out.old out.new (writing_of result) (λ text. text ≡ edited_report plan.now.net rows (edited_rows rows edits.now)) }
 {
     runs_are_of_networks();
     let mut kept = match Kept::start(rt, alloc, plan, rows, WORKERS, BLOCK) {
@@ -118,8 +119,8 @@ fn edit_read<R: Threads + Sync, F: Files, O: Sink>(
     requires read { IsReadFor plan.now.net rows }
     ensures ends { IfSome (edits_told plan.now.net rows (F.told files.old edits.now)) (λ answer. Ends answer result) }
     ensures behind { IsBehindTrace result }
-    ensures reads { ReadsNames F.told F.is_sure F.reads F.faults files.old files.new (edits.now ∷ []) (is_unread result) }
-    ensures writes { (text : List ℕ) × Writes O.taken O.sure O.faults out.old out.new result text × IfSome (edits_told plan.now.net rows (F.told files.old edits.now)) (IsText text) }
+    ensures reads { ReadsNames F.told F.is_sure F.reads F.faults files.old files.new (edits.now ∷ []) (is_unread (reading_of result)) }
+    ensures writes { Writes O.taken O.sure O.faults out.old out.new (writing_of result) (λ text. IfSome (edits_told plan.now.net rows (F.told files.old edits.now)) (IsText text)) }
 {
     match accept_edits(alloc, plan, rows.source.len() as u32, edits, files) {
         Ok(edits) => {
@@ -147,8 +148,8 @@ fn run_edits<R: Threads + Sync, F: Files, O: Sink>(
     ensures ends { IfSome (trace_told plan.now.net (F.told files.old trace.now) (F.told files.old edits.now)) (λ answer. Ends answer result) }
     ensures behind { IsBehindModel result }
     ensures trace { (fault : TraceFault) → result ≡ EditOutcome.Trace fault → IfSome (F.told files.old trace.now) (λ bytes. trace_fault plan.now.net bytes ≡ Some fault) }
-    ensures reads { (n : ℕ) × IsReadCount result (n + 2) × ReadsNames F.told F.is_sure F.reads F.faults files.old files.new (trace.now ∷ take n (edits.now ∷ [])) (is_unread result) }
-    ensures writes { (text : List ℕ) × Writes O.taken O.sure O.faults out.old out.new result text × IfSome (trace_told plan.now.net (F.told files.old trace.now) (F.told files.old edits.now)) (IsText text) }
+    ensures reads { (n : ℕ) × IsReadCount (reading_of result) 3 (n + 2) × ReadsNames F.told F.is_sure F.reads F.faults files.old files.new (trace.now ∷ take n (edits.now ∷ [])) (is_unread (reading_of result)) }
+    ensures writes { Writes O.taken O.sure O.faults out.old out.new (writing_of result) (λ text. IfSome (trace_told plan.now.net (F.told files.old trace.now) (F.told files.old edits.now)) (IsText text)) }
 {
     match accept_trace(rt, alloc, plan, trace, files) {
         Ok(rows) => edit_read(rt, alloc, plan, rows, edits, files, out),
@@ -174,27 +175,19 @@ pub fn edit_trace<R: Threads + Sync, F: Files, O: Sink, E: Sink>(
     out: &mut O,
     err: &mut E,
 ) -> EditOutcome
-    // The words are refused exactly so, and then nothing is read.
-    ensures usage { (result ≡ EditOutcome.Usage) ↔ (refuses_words (texts words.now) ≡ true) }
-    ensures unread { refuses_words (texts words.now) ≡ true → files.new ≡ files.old }
-
     // The call ends with the answer of the definitions, as far as the files are told, or with a fault of a device or want of memory.
-    ensures ends { refuses_words (texts words.now) ≡ false →
-        IfSome (answer_told (F.told files.old (name_at (texts words.now) 0)) (F.told files.old (name_at (texts words.now) 1)) (F.told files.old (name_at (texts words.now) 2))) (λ answer. Ends answer result) }
+    ensures ends { refuses_words (texts words.now) ≡ false → IfSome (answer_of (F.told files.old) (texts words.now)) (λ answer. Ends answer result) }
 
-    // A fault of the model or the trace is theirs, whatever is told of the files behind it.
+    // The words are refused exactly so; a fault of the model or the trace is theirs, whatever is told of the files behind it.
+    ensures usage { (result ≡ EditOutcome.Usage) ↔ (refuses_words (texts words.now) ≡ true) }
     ensures model { (fault : ModelFault) → result ≡ EditOutcome.Model fault → IfSome (F.told files.old (name_at (texts words.now) 0)) (λ bytes. model_fault bytes ≡ Some fault) }
     ensures trace { (fault : TraceFault) → result ≡ EditOutcome.Trace fault → IfSome (F.told files.old (name_at (texts words.now) 0)) (λ model.
         IfSome (F.told files.old (name_at (texts words.now) 1)) (λ bytes. trace_fault (network_in model) bytes ≡ Some fault)) }
     ensures never { (result ≢ EditOutcome.Model ModelFault.Memory) × (result ≢ EditOutcome.Trace TraceFault.Memory) × (result ≢ EditOutcome.Edits EditFault.Memory) }
 
-    // The files are read in order; a fault of a read is counted, and a counted fault is answered.
-    ensures reads { refuses_words (texts words.now) ≡ false →
-        (n : ℕ) × IsReadCount result n × ReadsNames F.told F.is_sure F.reads F.faults files.old files.new (take n (texts words.now)) (is_unread result) }
-
-    // What the two outputs gain.
-    ensures writes { (text : List ℕ) × Writes O.taken O.sure O.faults out.old out.new result text × (refuses_words (texts words.now) ≡ false →
-        IfSome (answer_told (F.told files.old (name_at (texts words.now) 0)) (F.told files.old (name_at (texts words.now) 1)) (F.told files.old (name_at (texts words.now) 2))) (IsText text)) }
+    // What is read of the files, in their order, and what the two outputs gain. A fault of a device is counted, and a counted fault is answered.
+    ensures reads { ReadsFirst F.told F.is_sure F.reads F.faults files.old files.new (names_read (texts words.now)) (reading_of result) }
+    ensures writes { Writes O.taken O.sure O.faults out.old out.new (writing_of result) (IsReportOf (F.told files.old) (texts words.now)) }
     ensures line { (name : List ℕ) × PutsLine E.taken E.sure E.faults err.old err.new (line_text name result) ×
         IfSome (F.told files.old (name_at (texts words.now) 0)) (λ model. name ≡ name_of_outcome (network_in model) result) }
 {

@@ -3,11 +3,12 @@ ghost use Rattle.std.specs.Prelude.{◌≡◌, ◌≢◌, ◌⊎◌, ◌++◌, �
 ghost use Rattle.mq_core.specs.Theorems.{IsReadFor};
 ghost use Rattle.mq_kept.specs.Keeping.{IsKeptRun};
 ghost use Rattle.mq_outside.specs.Outside.{Rose, TakesFirst, TakesPrefix};
+ghost use Rattle.mq_outside.specs.Writing.{Writes};
 ghost use Rattle.mq_counts.specs.Counts.{AreCounts};
 ghost use Rattle.mq_report.specs.Text.{report_in};
 ghost use Rattle.mq_stats.specs.RunNumbers.{HasFewVisits};
 ghost use Rattle.mq_edit.specs.Answer.{again_line};
-ghost use Rattle.mq_edit.specs.Ends.{Writes};
+ghost use Rattle.mq_edit.specs.Ends.{writing_of};
 
 use crate::files::WORKERS;
 use crate::outcome::EditOutcome;
@@ -79,7 +80,7 @@ pub fn write_kept<R: Threads + Sync, O: Sink>(
     requires same { plan.now ≡ kept.now.plan }
     requires kept { IsKeptRun kept.now }
     ensures ends { (result ≡ EditOutcome.Done) ⊎ ((result ≡ EditOutcome.WriteFault) ⊎ (result ≡ EditOutcome.Memory)) }
-    ensures writes { Writes O.taken O.sure O.faults out.old out.new result (report_in plan.now.net kept.now.rows 2 false ++ again_line redone.again redone.all) }
+    ensures writes { Writes O.taken O.sure O.faults out.old out.new (writing_of result) (λ text. text ≡ report_in plan.now.net kept.now.rows 2 false ++ again_line redone.again redone.all) }
 {
     runs_have_few_visits();
     let rows = kept.rows();

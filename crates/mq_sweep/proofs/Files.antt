@@ -1,17 +1,18 @@
 -- The files of the words, of which some may be too long.
-use Rattle.std.proofs.Common.{◌≡◌, ◌∙◌, ℕ, zero, suc, ◌+◌, ◌-◌, ◌<◌, ◌≤◌, Bool, true, false, cond, List, [], ◌∷◌, ◌++◌, length, map, get_or, Option, Some, None, ap, sym, refl, subst, arith, nat_lt, below_more, le-ltb, lt-ltb, true≢false, Result, Ok, Err, OnOk, is_err}
-use Rattle.std.proofs.lemmas.List.{get_or-map, length-map, same_lists, get_or_default, get_or_push, get_or_append_left}
+use Rattle.std.proofs.Common.{◌≡◌, ◌∙◌, ℕ, zero, suc, ◌+◌, ◌-◌, ◌<◌, ◌≤◌, Bool, true, false, cond, List, [], ◌∷◌, ◌++◌, length, map, take, get_or, Option, Some, None, ap, sym, refl, subst, arith, nat_lt, below_more, le-ltb, lt-ltb, true≢false, Result, Ok, Err, OnOk, is_err}
+use Rattle.std.proofs.lemmas.List.{get_or-map, length-map, same_lists, get_or_default, get_or_push, get_or_append_left, take_more}
 use Rattle.std.specs.Borrow.{Bor}
-use Rattle.std.specs.List.{list_all}
 use Rattle.mq_base.specs.Text.{texts}
-use Rattle.mq_base.proofs.lemmas.Tests.{all_at}
-use Rattle.mq_outside.specs.Outside.{next_count}
+use Rattle.mq_outside.specs.Reading.{IsReadCount, ReadsFirst, ReadsNames, Reading, is_unread}
+use Rattle.mq_outside.specs.Writing.{Writes}
+use Rattle.mq_outside.specs.Writing.Writing.{Nothing}
+use Rattle.mq_outside.proofs.lemmas.Readings.{reads_both}
 use Rattle.std.specs.Prelude.{IfSome, unwrap_or}
-use Rattle.mq_sweep.specs.Sweep.{AreFiles, all_done, answer_unless, first_long, limit_of, sweep_answer, sweep_text, swept, told_of_word}
+use Rattle.mq_sweep.specs.Sweep.{AreFiles, all_done, answer_unless, first_long, limit_of, names_read, refuses_words, sweep_answer, sweep_text, swept, told_of_word}
 use Rattle.mq_sweep.specs.Sweep.SweepAnswer.{Swept}
-use Rattle.mq_sweep.specs.Ends.{AreRead, AreShort, HasRead, IsLong, ReadsUpTo, Reads, RefusesRead, RefusesReading, SweepEnds}
+use Rattle.mq_sweep.specs.Ends.{AreRead, AreShort, IsLong, IsOfRun, ReadsUpTo, RefusesRead, RefusesReading, SweepEnds, reading_of, writing_of}
 use Rattle.mq_sweep.specs.declared.outcome.SweepOutcome.{SweepOutcome}
-use Rattle.mq_sweep.specs.declared.outcome.SweepOutcome.TheVariants.{TooLong, ReadFault, Memory}
+use Rattle.mq_sweep.specs.declared.outcome.SweepOutcome.TheVariants.{Done, Refused, TooLong, ReadFault, WriteFault, Memory}
 use Rattle.mq_top.specs.Ends.{Taken}
 
 -- ---- the first file that is too long
@@ -124,21 +125,70 @@ refused_here words index told (ReadFault w) less short r = subst (λ (n : ℕ). 
 refused_here words index told Memory less short r = tt
 refused_here words index told _ less short r = elim r [ ]
 
-pub one_read : (index before between now : ℕ) → index < 65 → HasRead index before between → now ≡ next_count between → HasRead (index + 1) before now
-one_read index before between now small read e few = let h = read few in omega arith
+-- so many words were read by a refusal of this one
+pub refused_count : (words index : ℕ) (told : Option (List ℕ)) (o : SweepOutcome) → index < words → RefusesRead (index + 1) told o → IsReadCount (reading_of o) words (index + 1)
+refused_count words index told (TooLong w) less r = let same = r.0 in (sym same, omega arith, omega arith)
+refused_count words index told (ReadFault w) less r = (sym r, omega (arith, r), omega (arith, r))
+refused_count words index told Memory less r = omega arith
+refused_count words index told _ less r = elim r [ ]
 
-pub reads_here : (words index before between now : ℕ) (told : Option (List ℕ)) (o : SweepOutcome) → index < words → words ≤ 65 → HasRead index before between → now ≡ next_count between
-    → RefusesRead (index + 1) told o → Reads words o before now
-reads_here words index before between now told (TooLong w) less small read e r = subst (λ (n : ℕ). HasRead n before now) (sym r.0) (one_read index before between now (omega arith) read e)
-reads_here words index before between now told (ReadFault w) less small read e r = subst (λ (n : ℕ). HasRead n before now) (sym r) (one_read index before between now (omega arith) read e)
-reads_here words index before between now told Memory less small read e r = (index + 1, omega arith, one_read index before between now (omega arith) read e)
-reads_here words index before between now told _ less small read e r = elim r [ ]
+module _ {F : Type 0} (told : F → List ℕ → Option (List ℕ)) (is_sure : F → List ℕ → Bool) (reads faults : F → ℕ) (a b c : F) where
+  -- the next word was read too
+  pub next_read : (words : List (Bor (List ℕ))) (i : ℕ) (d : Bor (List ℕ)) (failed : Bool) → i < length words → ReadsNames told is_sure reads faults a b (take i (texts words)) false
+      → ReadsNames told is_sure reads faults b c ((get_or words i d).now ∷ []) failed → ReadsNames told is_sure reads faults a c (take (i + 1) (texts words)) failed
+  next_read words i d failed less h k =
+      let inside : i < length (texts words) = omega (arith, length-map words (λ (t : Bor (List ℕ)). t.now)) in
+      let here : get_or (texts words) i d.now ≡ (get_or words i d).now = get_or-map (λ (t : Bor (List ℕ)). t.now) words i d d.now less in
+      let all : take i (texts words) ++ (get_or words i d).now ∷ [] ≡ take (i + 1) (texts words) = sym (take_more (texts words) i d.now inside ∙ ap (λ name. take i (texts words) ++ name ∷ []) here) in
+      subst (λ names. ReadsNames told is_sure reads faults a c names failed) all (reads_both told is_sure reads faults a b c (take i (texts words)) (get_or words i d).now [] failed h k)
 
--- a word of which all are sure
-pub sure_at : (sure : List ℕ → Bool) (words : List (Bor (List ℕ))) (i : ℕ) (d : Bor (List ℕ)) → i < length words → list_all sure (texts words) ≡ true → sure (get_or words i d).now ≡ true
-sure_at sure words i d less all =
-    let inside : i < length (texts words) = omega (arith, length-map words (λ (t : Bor (List ℕ)). t.now)) in
-    ap sure (sym (get_or-map (λ (t : Bor (List ℕ)). t.now) words i d d.now less)) ∙ all_at sure (texts words) i d.now all inside
+-- words that aren't refused are two at least
+pub two_words : (words : List (List ℕ)) → refuses_words words ≡ false → 2 ≤ length words
+two_words [] fine = absurd (true≢false fine)
+two_words (a ∷ []) fine = absurd (true≢false fine)
+two_words (a ∷ b ∷ words) fine = omega arith
+
+pub words_read : (words : List (List ℕ)) → refuses_words words ≡ false → names_read words ≡ words
+words_read words fine = rw fine refl
+
+pub none_read : (words : List (List ℕ)) → refuses_words words ≡ true → names_read words ≡ []
+none_read words refused = rw refused refl
+
+-- the words were read so far
+pub reads_words : {F : Type 0} (told : F → List ℕ → Option (List ℕ)) (is_sure : F → List ℕ → Bool) (reads faults : F → ℕ) (a b : F) (words : List (List ℕ)) (reading : Reading) (n : ℕ) → refuses_words words ≡ false
+    → IsReadCount reading (length words) n → ReadsNames told is_sure reads faults a b (take n words) (is_unread reading) → ReadsFirst told is_sure reads faults a b (names_read words) reading
+reads_words told is_sure reads faults a b words reading n fine at h =
+    let all : words ≡ names_read words = sym (words_read words fine) in
+    record {
+      count = n;
+      is_count = subst (λ ns. IsReadCount reading (length ns) n) all at;
+      first = subst (λ ns. ReadsNames told is_sure reads faults a b (take n ns) (is_unread reading)) all h;
+      unread = λ none. let two : 2 ≤ length words = two_words words fine in let zero : length words ≡ 0 = ap length (all ∙ none) in absurd (omega arith);
+    }
+
+-- all were read by a sweep that ends behind them
+pub run_count : (o : SweepOutcome) (words n : ℕ) → IsOfRun o → n ≡ words → IsReadCount (reading_of o) words n
+run_count Done words n late all = all
+run_count Refused words n late all = all
+run_count WriteFault words n late all = all
+run_count Memory words n late all = omega (arith, all)
+run_count _ words n late all = elim late [ ]
+
+pub run_unread : (o : SweepOutcome) → IsOfRun o → is_unread (reading_of o) ≡ false
+run_unread Done late = refl
+run_unread Refused late = refl
+run_unread WriteFault late = refl
+run_unread Memory late = refl
+run_unread _ late = elim late [ ]
+
+pub writes_nothing : {S : Type 0} (taken : S → Option (List ℕ)) (sure faults : S → ℕ) (out : S) (o : SweepOutcome) (P : List ℕ → Type 0) → writing_of o ≡ Nothing → Writes taken sure faults out out (writing_of o) P
+writes_nothing taken sure faults out o P none = subst (λ w. Writes taken sure faults out out w P) (sym none) refl
+
+pub reading_unwritten : (words : ℕ) (told : List (Option (List ℕ))) (o : SweepOutcome) → RefusesReading words told o → writing_of o ≡ Nothing
+reading_unwritten words told (TooLong w) r = refl
+reading_unwritten words told (ReadFault w) r = refl
+reading_unwritten words told Memory r = refl
+reading_unwritten words told _ r = elim r [ ]
 
 -- ---- how a sweep ends
 

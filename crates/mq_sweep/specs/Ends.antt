@@ -1,9 +1,13 @@
 -- How a sweep may end, for each answer, and what it leaves. Where the last row of a table is ⊥, no outcome without a row above it can be.
-use Rattle.std.specs.Prelude.{◌≡◌, ◌≤◌, ◌<◌, ◌+◌, ◌-◌, ◌^◌, ℕ, true, false, List, [], ◌∷◌, ◌++◌, length, codes, decimal, Option, Some, None, IfSome, slice_index_or}
+use Rattle.std.specs.Prelude.{◌≡◌, ◌≤◌, ◌<◌, ◌+◌, ◌-◌, ℕ, true, false, List, [], ◌∷◌, ◌++◌, length, codes, decimal, Option, Some, None, IfSome, Result, Ok, Err, slice_index_or}
 use Rattle.std.specs.Io.KnownBytes.{append_known}
 use Rattle.mq_outside.specs.Outside.{TakesPrefix}
+use Rattle.mq_outside.specs.Reading.{Reading}
+use Rattle.mq_outside.specs.Reading.Reading.{Through, UpTo, FailedAt, Anywhere}
+use Rattle.mq_outside.specs.Writing.{Writing}
+use Rattle.mq_outside.specs.Writing.Writing.{Whole, Part, Nothing}
 use Rattle.mq_top.specs.Ends.{Taken}
-use Rattle.mq_sweep.specs.Sweep.{SweepAnswer, limit_of, told_of_word}
+use Rattle.mq_sweep.specs.Sweep.{AreFiles, SweepAnswer, limit_of, sweep_answer, told_of_word}
 use Rattle.mq_sweep.specs.Sweep.SweepAnswer.{LongFile, Swept}
 use Rattle.mq_sweep.specs.declared.outcome.SweepOutcome.{SweepOutcome}
 use Rattle.mq_sweep.specs.declared.outcome.SweepOutcome.TheVariants.{Done, Refused, Usage, TooLong, ReadFault, WriteFault, Memory}
@@ -23,29 +27,39 @@ SweepEnds (Swept text true) Done t = t.now ≡ append_known t.before text
 SweepEnds (Swept text false) Refused t = t.now ≡ append_known t.before text
 SweepEnds _ _ _ = ⊥
 
--- after every outcome but Done, Refused and WriteFault nothing changed
-abbrev pub Untouched : {A : Type 0} → SweepOutcome → A → A → Type 0
-Untouched Done before now = Unit {0}
-Untouched Refused before now = Unit {0}
-Untouched WriteFault before now = Unit {0}
-Untouched Usage before now = now ≡ before
-Untouched (TooLong word) before now = now ≡ before
-Untouched (ReadFault word) before now = now ≡ before
-Untouched Memory before now = now ≡ before
+-- how far a sweep comes with its words that ends so
+abbrev pub reading_of : SweepOutcome → Reading
+reading_of (TooLong word) = UpTo word
+reading_of (ReadFault word) = FailedAt word
+reading_of Done = Through
+reading_of Refused = Through
+reading_of Usage = Through
+reading_of WriteFault = Through
+reading_of Memory = Anywhere
 
--- so many reads were made; it is stated where their number is below 2 ^ 63 at entry
-abbrev pub HasRead : (count before now : ℕ) → Type 0
-HasRead count before now = before < 2 ^ 63 → now ≡ before + count
+-- how far a stage of it comes
+abbrev pub stage_reading : {A : Type 0} → Result A SweepOutcome → Reading
+stage_reading (Ok x) = Through
+stage_reading (Err outcome) = reading_of outcome
 
--- how many reads a sweep of so many words made, by its outcome; want of memory may come before each of them
-abbrev pub Reads : ℕ → SweepOutcome → ℕ → ℕ → Type 0
-Reads words Usage before now = now ≡ before
-Reads words (TooLong word) before now = HasRead word before now
-Reads words (ReadFault word) before now = HasRead word before now
-Reads words Memory before now = (count : ℕ) × (count ≤ words) × HasRead count before now
-Reads words Done before now = HasRead words before now
-Reads words Refused before now = HasRead words before now
-Reads words WriteFault before now = HasRead words before now
+-- how much of its text it has written
+abbrev pub writing_of : SweepOutcome → Writing
+writing_of Done = Whole
+writing_of Refused = Whole
+writing_of WriteFault = Part
+writing_of Usage = Nothing
+writing_of (TooLong word) = Nothing
+writing_of (ReadFault word) = Nothing
+writing_of Memory = Nothing
+
+-- the text of a sweep is this
+abbrev pub IsText : List ℕ → SweepAnswer → Type 0
+IsText text (LongFile word) = Unit {0}
+IsText text (Swept all done) = text ≡ all
+
+-- a text is that of a sweep, as far as the files of its words are told
+abbrev pub IsSweepOf : List (Option (List ℕ)) → List ℕ → Type 0
+IsSweepOf told text = (contents : List (List ℕ)) → AreFiles told contents → IsText text (sweep_answer contents)
 
 -- the files of the first words are told with no more bytes than their limits
 abbrev pub AreShort : ℕ → List (Option (List ℕ)) → Type 0

@@ -30,6 +30,10 @@ all_done trace (model ∷ models) = (scenario_status trace model == 0) && all_do
 abbrev pub refuses_words : List (List ℕ) → Bool
 refuses_words words = nat_lt (length words) 2 || nat_lt 65 (length words) || list_any begins_with_dash words
 
+-- the names of the files that are read: all words, or none where these are refused
+abbrev pub names_read : List (List ℕ) → List (List ℕ)
+names_read words = if refuses_words words then [] else words
+
 -- the most bytes of the file that a word names; words count from 1, and the first names the trace
 abbrev pub limit_of : ℕ → ℕ
 limit_of word = if word == 1 then 134217728 else 65536

@@ -1,9 +1,8 @@
 // The files that the words name.
-ghost use Rattle.std.specs.Prelude.{◌≡◌, ◌⊎◌, ◌≤◌, ℕ, List as Items, true, length, map, IfOk, IfErr, IfSome, IsErrOf, OnOk};
-ghost use Rattle.std.specs.List.{list_all};
+ghost use Rattle.std.specs.Prelude.{◌≡◌, ◌≤◌, ℕ, [], ◌∷◌, length, map, take, IfOk, IfErr, IfSome, OnOk};
 ghost use Rattle.mq_base.specs.Text.{texts};
-ghost use Rattle.mq_outside.specs.Outside.{next_count, Rose};
-ghost use Rattle.mq_sweep.specs.Ends.{AreRead, AreShort, HasRead, Reads, RefusesRead, RefusesReading};
+ghost use Rattle.mq_outside.specs.Reading.{IsReadCount, ReadsNames, is_unread};
+ghost use Rattle.mq_sweep.specs.Ends.{AreRead, AreShort, RefusesRead, RefusesReading, stage_reading};
 ghost use Rattle.mq_sweep.specs.Sweep.{limit_of, refuses_words as refuses_words_of};
 
 use crate::SweepOutcome;
@@ -34,14 +33,7 @@ fn read_one<F: Files>(
     name: &str,
     files: &mut F,
 ) -> Result<List<u8>, SweepOutcome>
-    ensures counted { F.reads files.new ≡ next_count (F.reads files.old) }
-    ensures later { F.faults files.old ≤ F.faults files.new }
-    ensures failed { (w : ℕ) → IsErrOf result (SweepOutcome.ReadFault w) → F.faults files.new ≡ F.reads files.new }
-    ensures rose { (w : ℕ) → IsErrOf result (SweepOutcome.ReadFault w) → Rose (F.faults files.old) (F.faults files.new) }
-    ensures quiet { IsErrOf result (SweepOutcome.ReadFault word) ⊎ (F.faults files.new ≡ F.faults files.old) }
-    ensures sure { F.is_sure files.old name.now ≡ true → F.faults files.new ≡ F.faults files.old }
-    ensures same_told { (n : Items ℕ) → F.told files.new n ≡ F.told files.old n }
-    ensures same_sure { (n : Items ℕ) → F.is_sure files.new n ≡ F.is_sure files.old n }
+    ensures reads { ReadsNames F.told F.is_sure F.reads F.faults files.old files.new (name.now ∷ []) (is_unread (stage_reading result)) }
     ensures read { IfOk result (λ bytes. IfSome (F.told files.old name.now) (λ told. (bytes ≡ told) × (length told ≤ limit_of word))) }
     ensures refused { IfErr result (λ outcome. RefusesRead word (F.told files.old name.now) outcome) }
 {
@@ -66,15 +58,7 @@ pub fn read_files<F: Files>(
     ensures read { IfOk result (λ contents. AreRead (length words.now) (map (F.told files.old) (texts words.now)) contents) }
     ensures short { OnOk result (AreShort (length words.now) (map (F.told files.old) (texts words.now))) }
     ensures refused { IfErr result (RefusesReading (length words.now) (map (F.told files.old) (texts words.now))) }
-    ensures all { OnOk result (HasRead (length words.now) (F.reads files.old) (F.reads files.new)) }
-    ensures reads { IfErr result (λ outcome. Reads (length words.now) outcome (F.reads files.old) (F.reads files.new)) }
-    ensures failed { (w : ℕ) → IsErrOf result (SweepOutcome.ReadFault w) → F.faults files.new ≡ F.reads files.new }
-    ensures rose { (w : ℕ) → IsErrOf result (SweepOutcome.ReadFault w) → Rose (F.faults files.old) (F.faults files.new) }
-    ensures later { F.faults files.old ≤ F.faults files.new }
-    ensures quiet { ((w : ℕ) × IsErrOf result (SweepOutcome.ReadFault w)) ⊎ (F.faults files.new ≡ F.faults files.old) }
-    ensures sure { list_all (F.is_sure files.old) (texts words.now) ≡ true → F.faults files.new ≡ F.faults files.old }
-    ensures same_told { (n : Items ℕ) → F.told files.new n ≡ F.told files.old n }
-    ensures same_sure { (n : Items ℕ) → F.is_sure files.new n ≡ F.is_sure files.old n }
+    ensures reads { (n : ℕ) × IsReadCount (stage_reading result) (length words.now) n × ReadsNames F.told F.is_sure F.reads F.faults files.old files.new (take n (texts words.now)) (is_unread (stage_reading result)) }
 {
     let mut contents = List::new(alloc);
     'words: for (index, name) in words.iter().enumerate() {

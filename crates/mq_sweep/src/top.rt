@@ -1,12 +1,12 @@
 // The call that the program makes.
-ghost use Rattle.std.specs.Prelude.{◌≡◌, ◌⊎◌, ◌-◌, ◌^◌, ◌<◌, ◌≤◌, ◌↔◌, ℕ, List as Items, Bool, true, false, length, map, Some, IsTrue, IfOk};
-ghost use Rattle.std.specs.List.{list_all};
+ghost use Rattle.std.specs.Prelude.{◌≡◌, ◌<◌, ◌≤◌, ◌↔◌, ℕ, List as Items, false, length, map, Some, IsTrue, IfOk};
 ghost use Rattle.mq_base.specs.Text.{texts};
 ghost use Rattle.mq_outcome.specs.Lines.{PutsLine};
-ghost use Rattle.mq_outside.specs.Outside.{Rose};
-ghost use Rattle.mq_top.specs.Ends.{FailedAt, takings};
-ghost use Rattle.mq_sweep.specs.Ends.{IsLong, IsOfRun, Reads, StopsBy, SweepEnds, Untouched, sweep_line};
-ghost use Rattle.mq_sweep.specs.Sweep.{AreFiles, limit_of, refuses_words as refuses_words_of, sweep_answer, swept, told_of_word};
+ghost use Rattle.mq_outside.specs.Reading.{ReadsFirst};
+ghost use Rattle.mq_outside.specs.Writing.{Writes};
+ghost use Rattle.mq_top.specs.Ends.{takings};
+ghost use Rattle.mq_sweep.specs.Ends.{IsLong, IsOfRun, IsSweepOf, IsText, StopsBy, SweepEnds, reading_of, sweep_line, writing_of};
+ghost use Rattle.mq_sweep.specs.Sweep.{AreFiles, limit_of, names_read, refuses_words as refuses_words_of, sweep_answer, swept, told_of_word};
 ghost use Rattle.mq_sweep.specs.Sweep.SweepAnswer.{Swept};
 
 use crate::crew::by_workers;
@@ -44,11 +44,7 @@ fn scenarios_in<R: Threads + Wait + Sync, G: SweepGate>(
 fn write_text<O: Sink>(scenarios: &Scenarios, out: &mut O) -> SweepOutcome
     ensures ends { SweepEnds (Swept scenarios.now.text.items scenarios.now.done) result (takings O.taken O.sure out.old out.new) }
     ensures late { IsOfRun result }
-    ensures later { O.faults out.old ≤ O.faults out.new }
-    ensures rose { result ≡ SweepOutcome.WriteFault → Rose (O.faults out.old) (O.faults out.new) }
-    ensures quiet { (result ≡ SweepOutcome.WriteFault) ⊎ (O.faults out.new ≡ O.faults out.old) }
-    ensures sure { length scenarios.now.text.items ≤ O.sure out.old → O.faults out.new ≡ O.faults out.old }
-    ensures untouched { Untouched result out.old out.new }
+    ensures writes { Writes O.taken O.sure O.faults out.old out.new (writing_of result) (λ text. text ≡ scenarios.now.text.items) }
 {
     match put_all(out, &scenarios.text) {
         Ok(()) => {
@@ -77,11 +73,7 @@ fn run_files<R: Threads + Wait + Sync, O: Sink, G: SweepGate>(
     requires few { length contents.now ≤ 65 }
     ensures ends { SweepEnds (swept contents.now) result (takings O.taken O.sure out.old out.new) }
     ensures late { IsOfRun result }
-    ensures later { O.faults out.old ≤ O.faults out.new }
-    ensures rose { result ≡ SweepOutcome.WriteFault → Rose (O.faults out.old) (O.faults out.new) }
-    ensures quiet { (result ≡ SweepOutcome.WriteFault) ⊎ (O.faults out.new ≡ O.faults out.old) }
-    ensures sure { (text : Items ℕ) (done : Bool) → swept contents.now ≡ Swept text done → length text ≤ O.sure out.old → O.faults out.new ≡ O.faults out.old }
-    ensures untouched { Untouched result out.old out.new }
+    ensures writes { Writes O.taken O.sure O.faults out.old out.new (writing_of result) (λ text. IsText text (swept contents.now)) }
 {
     let Ok(scenarios) = scenarios_in(rt, alloc, contents, workers, gate) else {
         return SweepOutcome::Memory;
@@ -106,23 +98,11 @@ fn sweep_words<R: Threads + Wait + Sync, F: Files, O: Sink, G: SweepGate>(
     ensures ends { (contents : Items (Items ℕ)) → refuses_words_of (texts words.now) ≡ false → AreFiles (map (F.told files.old) (texts words.now)) contents →
         SweepEnds (sweep_answer contents) result (takings O.taken O.sure out.old out.new) }
     ensures usage { IsTrue (refuses_words_of (texts words.now)) ↔ (result ≡ SweepOutcome.Usage) }
-    ensures unread { IsTrue (refuses_words_of (texts words.now)) → files.new ≡ files.old }
     ensures too_long { (w : ℕ) → result ≡ SweepOutcome.TooLong w → (1 ≤ w) × (w ≤ length words.now) × IsLong w (told_of_word (map (F.told files.old) (texts words.now)) w) }
     ensures too_long_comes { (w : ℕ) (bytes : Items ℕ) → refuses_words_of (texts words.now) ≡ false → 1 ≤ w → told_of_word (map (F.told files.old) (texts words.now)) w ≡ Some bytes → limit_of w < length bytes →
         StopsBy w result }
-    ensures read_fault { (w : ℕ) → result ≡ SweepOutcome.ReadFault w → (1 ≤ w) × (w ≤ length words.now) × FailedAt w (F.reads files.old) (F.reads files.new) (F.faults files.new) × Rose (F.faults files.old) (F.faults files.new) }
-    ensures reads { Reads (length words.now) result (F.reads files.old) (F.reads files.new) }
-    ensures sure_names { list_all (F.is_sure files.old) (texts words.now) ≡ true → F.faults files.new ≡ F.faults files.old }
-    ensures files_quiet { ((w : ℕ) × (result ≡ SweepOutcome.ReadFault w)) ⊎ (F.faults files.new ≡ F.faults files.old) }
-    ensures files_later { F.faults files.old ≤ F.faults files.new }
-    ensures same_told { (n : Items ℕ) → F.told files.new n ≡ F.told files.old n }
-    ensures same_sure { (n : Items ℕ) → F.is_sure files.new n ≡ F.is_sure files.old n }
-    ensures out_later { O.faults out.old ≤ O.faults out.new }
-    ensures write { result ≡ SweepOutcome.WriteFault → Rose (O.faults out.old) (O.faults out.new) }
-    ensures out_quiet { (result ≡ SweepOutcome.WriteFault) ⊎ (O.faults out.new ≡ O.faults out.old) }
-    ensures sure { (contents : Items (Items ℕ)) (text : Items ℕ) (done : Bool) → AreFiles (map (F.told files.old) (texts words.now)) contents → sweep_answer contents ≡ Swept text done →
-        length text ≤ O.sure out.old → O.faults out.new ≡ O.faults out.old }
-    ensures untouched { Untouched result out.old out.new }
+    ensures reads { ReadsFirst F.told F.is_sure F.reads F.faults files.old files.new (names_read (texts words.now)) (reading_of result) }
+    ensures writes { Writes O.taken O.sure O.faults out.old out.new (writing_of result) (IsSweepOf (map (F.told files.old) (texts words.now))) }
 {
     if refuses_words(words) {
         return SweepOutcome::Usage;
@@ -165,27 +145,13 @@ pub fn sweep<R: Threads + Wait + Sync, F: Files, O: Sink, E: Sink, G: SweepGate>
 
     // The words are refused exactly so, and a file is too long whatever is told of the others.
     ensures usage { IsTrue (refuses_words_of (texts words.now)) ↔ (result ≡ SweepOutcome.Usage) }
-    ensures unread { IsTrue (refuses_words_of (texts words.now)) → files.new ≡ files.old }
     ensures too_long { (w : ℕ) → result ≡ SweepOutcome.TooLong w → (1 ≤ w) × (w ≤ length words.now) × IsLong w (told_of_word (map (F.told files.old) (texts words.now)) w) }
     ensures too_long_comes { (w : ℕ) (bytes : Items ℕ) → refuses_words_of (texts words.now) ≡ false → 1 ≤ w → told_of_word (map (F.told files.old) (texts words.now)) w ≡ Some bytes → limit_of w < length bytes →
         StopsBy w result }
 
-    // A fault of a device is counted, and a counted fault is answered.
-    ensures read_fault { (w : ℕ) → result ≡ SweepOutcome.ReadFault w → (1 ≤ w) × (w ≤ length words.now) × FailedAt w (F.reads files.old) (F.reads files.new) (F.faults files.new) × Rose (F.faults files.old) (F.faults files.new) }
-    ensures reads { Reads (length words.now) result (F.reads files.old) (F.reads files.new) }
-    ensures sure_names { list_all (F.is_sure files.old) (texts words.now) ≡ true → F.faults files.new ≡ F.faults files.old }
-    ensures files_quiet { ((w : ℕ) × (result ≡ SweepOutcome.ReadFault w)) ⊎ (F.faults files.new ≡ F.faults files.old) }
-    ensures files_later { F.faults files.old ≤ F.faults files.new }
-    ensures same_told { (n : Items ℕ) → F.told files.new n ≡ F.told files.old n }
-    ensures same_sure { (n : Items ℕ) → F.is_sure files.new n ≡ F.is_sure files.old n }
-    ensures out_later { O.faults out.old ≤ O.faults out.new }
-    ensures write { result ≡ SweepOutcome.WriteFault → Rose (O.faults out.old) (O.faults out.new) }
-    ensures out_quiet { (result ≡ SweepOutcome.WriteFault) ⊎ (O.faults out.new ≡ O.faults out.old) }
-    ensures sure { (contents : Items (Items ℕ)) (text : Items ℕ) (done : Bool) → AreFiles (map (F.told files.old) (texts words.now)) contents → sweep_answer contents ≡ Swept text done →
-        length text ≤ O.sure out.old → O.faults out.new ≡ O.faults out.old }
-
-    // What the two outputs gain.
-    ensures untouched { Untouched result out.old out.new }
+    // What is read of the files, in their order, and what the two outputs gain. A fault of a device is counted, and a counted fault is answered.
+    ensures reads { ReadsFirst F.told F.is_sure F.reads F.faults files.old files.new (names_read (texts words.now)) (reading_of result) }
+    ensures writes { Writes O.taken O.sure O.faults out.old out.new (writing_of result) (IsSweepOf (map (F.told files.old) (texts words.now))) }
     ensures line { PutsLine E.taken E.sure E.faults err.old err.new (sweep_line result) }
 {
     let outcome = sweep_words(rt, alloc, words, workers, files, out, gate);

@@ -1,3 +1,4 @@
 pub mod Told
 pub mod MadeRuns
 pub mod Exits
+mod Clauses

@@ -1,16 +1,22 @@
--- How a call may end, for each answer of the definitions. Where the last row of a table is ⊥, no outcome without a row above it can be.
-use Rattle.std.specs.Prelude.{◌≡◌, ◌≢◌, ◌⊎◌, ◌<◌, ◌+◌, ◌^◌, ℕ, true, false, List, Option, Some, IfSome}
+-- How a call may end, for each answer of the definitions, how far it came with the files, and what it has written. Where the last row of a table is ⊥, no outcome without a row above it can be.
+use Rattle.std.specs.Prelude.{◌≡◌, ◌≢◌, ℕ, Bool, true, false, List, [], Option, Some, None, IfSome, Result, Ok, Err}
 use Rattle.std.specs.Io.KnownBytes.{append_known}
-use Rattle.mq_outside.specs.Outside.{TakesPrefix, next_count}
+use Rattle.mq_outside.specs.Outside.{TakesPrefix}
+use Rattle.mq_outside.specs.Reading.{Reading, is_unread}
+use Rattle.mq_outside.specs.Reading.Reading.{Through, UpTo, FailedAt, Anywhere}
+use Rattle.mq_outside.specs.Writing.{Writing}
+use Rattle.mq_outside.specs.Writing.Writing.{Whole, Part, Nothing}
 use Rattle.mq_core.specs.declared.model.Network.{Network}
 use Rattle.mq_core.specs.Results.Refusal.{Over as OverRefusal, Past as PastRefusal}
+use Rattle.mq_gen.specs.Made.{made_model, made_trace}
 use Rattle.mq_model.specs.Model.{model_fault}
 use Rattle.mq_model.specs.declared.fault.ModelFault.TheVariants as model
 use Rattle.mq_trace.specs.Trace.{trace_fault}
 use Rattle.mq_trace.specs.declared.fault.TraceFault.TheVariants as trace
-use Rattle.mq_top.specs.Answer.{Answer}
+use Rattle.mq_top.specs.Answer.{Answer, answer, wanted_by}
 use Rattle.mq_top.specs.Answer.Answer.{ModelRefused, TraceRefused, Refused, Reported}
-use Rattle.mq_words.specs.Words.{refuses_words, usage_fault}
+use Rattle.mq_words.specs.Words.{Makes, Names, refuses_words, usage_fault, words_left}
+use Rattle.mq_words.specs.declared.fault.UsageFault.{UsageFault}
 use Rattle.mq_outcome.specs.declared.outcome.Outcome.{Outcome}
 use Rattle.mq_outcome.specs.declared.outcome.Outcome.TheVariants.{Done, Usage, Model, Trace, Past, Over, ReadFault, WriteFault, Memory}
 
@@ -45,22 +51,56 @@ Ends (Reported text) (ReadFault second) t = Unit {0}
 Ends (Reported text) Memory t = Unit {0}
 Ends _ _ _ = ⊥
 
--- no read, one or two
-abbrev pub AtMostTwo : ℕ → ℕ → Type 0
-AtMostTwo before now = (now ≡ before) ⊎ ((now ≡ next_count before) ⊎ (now ≡ next_count (next_count before)))
+-- how far a call comes with the names of the model and of the trace that ends so
+abbrev pub reading_of : Outcome → Reading
+reading_of (Model f) = UpTo 1
+reading_of (Trace f) = UpTo 2
+reading_of (ReadFault false) = FailedAt 1
+reading_of (ReadFault true) = FailedAt 2
+reading_of Done = Through
+reading_of (Usage f) = Through
+reading_of (Past f) = Through
+reading_of (Over f) = Through
+reading_of WriteFault = Through
+reading_of Memory = Anywhere
 
--- how many reads a call made, by its outcome, where no made input is asked for; want of memory may come before each of them
-abbrev pub Reads : Outcome → ℕ → ℕ → Type 0
-Reads (Usage f) before now = now ≡ before
-Reads (Model f) before now = now ≡ next_count before
-Reads (ReadFault false) before now = now ≡ next_count before
-Reads Memory before now = AtMostTwo before now
-Reads Done before now = now ≡ next_count (next_count before)
-Reads (Trace f) before now = now ≡ next_count (next_count before)
-Reads (Past f) before now = now ≡ next_count (next_count before)
-Reads (Over f) before now = now ≡ next_count (next_count before)
-Reads (ReadFault true) before now = now ≡ next_count (next_count before)
-Reads WriteFault before now = now ≡ next_count (next_count before)
+-- how much of the report it has written
+abbrev pub writing_of : Outcome → Writing
+writing_of Done = Whole
+writing_of WriteFault = Part
+writing_of (Usage f) = Nothing
+writing_of (Model f) = Nothing
+writing_of (Trace f) = Nothing
+writing_of (Past f) = Nothing
+writing_of (Over f) = Nothing
+writing_of (ReadFault second) = Nothing
+writing_of Memory = Nothing
+
+-- the last read of a stage of the call failed
+abbrev pub stops_unread : {A : Type 0} → Result A Outcome → Bool
+stops_unread (Ok x) = false
+stops_unread (Err outcome) = is_unread (reading_of outcome)
+
+-- these names, unless the words have a fault
+abbrev pub names_unless : Option UsageFault → List (List ℕ) → List (List ℕ)
+names_unless None names = names
+names_unless (Some fault) names = []
+
+-- the names of the files that are read: the two that accepted words name; none where these ask for a made input, or are refused
+abbrev pub names_read : List (List ℕ) → List (List ℕ)
+names_read words = names_unless (usage_fault words) (words_left words)
+
+-- a report is this text
+abbrev pub IsText : List ℕ → Answer → Type 0
+IsText text (ModelRefused f) = Unit {0}
+IsText text (TraceRefused f) = Unit {0}
+IsText text (Refused why) = Unit {0}
+IsText text (Reported report) = text ≡ report
+
+-- a text is the report that a call with these words gives, as far as the files are told
+pub record IsReportOf (told : List ℕ → Option (List ℕ)) (words : List (List ℕ)) (text : List ℕ) : Type 0 where
+  pub named : (m t model trace : List ℕ) → Names words m t → told m ≡ Some model → told t ≡ Some trace → IsText text (answer model trace (wanted_by words))
+  pub made : (number : ℕ) → Makes words number → IsText text (answer (made_model number) (made_trace number) (wanted_by words))
 
 -- an outcome of a made input, which is never refused and reads no file: no Usage, Model, Trace, Past, Over or ReadFault can be
 abbrev pub IsOfMade : Outcome → Type 0
@@ -68,22 +108,6 @@ IsOfMade Done = Unit {0}
 IsOfMade WriteFault = Unit {0}
 IsOfMade Memory = Unit {0}
 IsOfMade _ = ⊥
-
--- The count of faults rose in this read of a call, from 1. It is stated where the number of reads is below 2 ^ 63 at entry.
-abbrev pub FailedAt : (nth reads reads' faults' : ℕ) → Type 0
-FailedAt nth reads reads' faults' = reads < 2 ^ 63 → (reads' ≡ reads + nth) × (faults' ≡ reads')
-
--- after every outcome but Done and WriteFault nothing changed
-abbrev pub Untouched : {A : Type 0} → Outcome → A → A → Type 0
-Untouched Done before now = Unit {0}
-Untouched WriteFault before now = Unit {0}
-Untouched (Usage f) before now = now ≡ before
-Untouched (Model f) before now = now ≡ before
-Untouched (Trace f) before now = now ≡ before
-Untouched (Past f) before now = now ≡ before
-Untouched (Over f) before now = now ≡ before
-Untouched (ReadFault second) before now = now ≡ before
-Untouched Memory before now = now ≡ before
 
 -- how a command may end before the model is read: by nothing but Usage and Memory, and want of memory comes only where the words meet the rule
 abbrev pub RefusesCall : List (List ℕ) → Outcome → Type 0

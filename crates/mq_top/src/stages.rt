@@ -1,6 +1,7 @@
 // The call that the program makes, stage by stage.
-ghost use Rattle.std.specs.Prelude.{◌≡◌, ◌≢◌, ◌⊎◌, ◌-◌, ◌^◌, ◌<◌, ◌≤◌, ℕ, List, Bool, true, false, length, Err, IsErrOf, IfOk, IfErr, IfSome, IsTrue, is_some, Some, None, []};
-ghost use Rattle.mq_outside.specs.Outside.{next_count, Rose};
+ghost use Rattle.std.specs.Prelude.{◌≡◌, ◌≢◌, ◌⊎◌, ◌≤◌, ℕ, List, Bool, true, false, IfOk, IfErr, IfSome, IsTrue, is_some, Some, None, [], ◌∷◌};
+ghost use Rattle.mq_outside.specs.Reading.{ReadsFirst, ReadsNames, is_unread};
+ghost use Rattle.mq_outside.specs.Writing.{Writes};
 ghost use Rattle.mq_base.specs.Text.{texts};
 ghost use Rattle.mq_core.specs.NetworkRun.{refusal_in};
 ghost use Rattle.mq_core.specs.Theorems.{IsReadFor};
@@ -14,9 +15,9 @@ ghost use Rattle.mq_stats.specs.RunNumbers.{HasFewVisits};
 ghost use Rattle.mq_trace.specs.Trace.{trace_fault, rows_in};
 ghost use Rattle.mq_top.specs.Answer.{answer, answer_over, run_answer, wanted_by};
 ghost use Rattle.mq_top.specs.Answer.Answer.{Reported};
-ghost use Rattle.mq_top.specs.Ends.{Ends, FailedAt, IsLate, IsOfMade, Reads, RefusesCall, RefusesModel, RefusesTrace, Untouched, takings};
+ghost use Rattle.mq_top.specs.Ends.{Ends, IsLate, IsOfMade, IsReportOf, IsText, RefusesCall, RefusesModel, RefusesTrace, names_read, reading_of, stops_unread, takings, writing_of};
 ghost use Rattle.mq_outcome.specs.Lines.{PutsLine, line_text, name_of as name_of_outcome};
-ghost use Rattle.mq_words.specs.Words.{Asks, Makes, Names, asks_made, refuses_words, usage_fault};
+ghost use Rattle.mq_words.specs.Words.{Asks, Makes, Names, refuses_words, usage_fault};
 
 use mq_core::{Plan, Rows, Run, runs_are_of_networks};
 use mq_counts::{Counts, counts_of_run};
@@ -82,7 +83,7 @@ struct Wanted {
 fn judge_model(alloc: Global, bytes: &[u8]) -> Result<Plan, Outcome>
     ensures accepted { IfOk result (λ plan. (model_fault bytes.now ≡ None) × (plan.net ≡ network_in bytes.now)) }
     ensures refused { IfErr result (λ outcome. RefusesModel outcome (Some bytes.now)) }
-    ensures unread { result ≢ Err (Outcome.ReadFault false) }
+    ensures unread { stops_unread result ≡ false }
 {
     match read_model(alloc, bytes) {
         Ok(plan) => Ok(plan),
@@ -101,7 +102,7 @@ fn judge_trace<R: Threads + Sync, G: Gate>(
     ensures read { IfOk result (λ rows. IsReadFor plan.now.net rows) }
     ensures accepted { IfOk result (λ rows. (trace_fault plan.now.net bytes.now ≡ None) × (rows ≡ rows_in plan.now.net bytes.now)) }
     ensures refused { IfErr result (λ outcome. RefusesTrace plan.now.net outcome (Some bytes.now)) }
-    ensures unread { result ≢ Err (Outcome.ReadFault true) }
+    ensures unread { stops_unread result ≡ false }
 {
     match read_trace(crew.rt, alloc, crew.workers, bytes, &plan.net) {
         Ok(rows) => Ok(rows),
@@ -120,7 +121,7 @@ fn judge_own_trace<R: Threads + Sync, G: Gate>(
     ensures read { IfOk result (λ rows. IsReadFor plan.now.net rows) }
     ensures accepted { IfOk result (λ rows. (trace_fault plan.now.net bytes.items ≡ None) × (rows ≡ rows_in plan.now.net bytes.items)) }
     ensures refused { IfErr result (λ outcome. RefusesTrace plan.now.net outcome (Some bytes.items)) }
-    ensures unread { result ≢ Err (Outcome.ReadFault true) }
+    ensures unread { stops_unread result ≡ false }
 {
     match take_trace(crew.rt, alloc, crew.workers, bytes, &plan.net) {
         Ok(rows) => Ok(rows),
@@ -131,15 +132,7 @@ fn judge_own_trace<R: Threads + Sync, G: Gate>(
 
 // Reads the model of this name, and judges it.
 fn accept_model<F: Files>(alloc: Global, name: &str, files: &mut F) -> Result<Plan, Outcome>
-    ensures counted { F.reads files.new ≡ next_count (F.reads files.old) }
-    ensures later { F.faults files.old ≤ F.faults files.new }
-    ensures failed { IsErrOf result (Outcome.ReadFault false) → F.faults files.new ≡ F.reads files.new }
-    ensures sure { F.is_sure files.old name.now ≡ true → F.faults files.new ≡ F.faults files.old }
-    ensures rose { IsErrOf result (Outcome.ReadFault false) → Rose (F.faults files.old) (F.faults files.new) }
-    ensures quiet { IsErrOf result (Outcome.ReadFault false) ⊎ (F.faults files.new ≡ F.faults files.old) }
-    ensures same_told { (n : List ℕ) → F.told files.new n ≡ F.told files.old n }
-    ensures same_sure { (n : List ℕ) → F.is_sure files.new n ≡ F.is_sure files.old n }
-
+    ensures reads { ReadsNames F.told F.is_sure F.reads F.faults files.old files.new (name.now ∷ []) (stops_unread result) }
     ensures accepted { IfOk result (λ plan. IfSome (F.told files.old name.now) (λ bytes. (model_fault bytes ≡ None) × (plan.net ≡ network_in bytes))) }
     ensures refused { IfErr result (λ outcome. RefusesModel outcome (F.told files.old name.now)) }
 {
@@ -161,15 +154,7 @@ fn accept_trace<R: Threads + Sync, G: Gate, F: Files>(
     name: &str,
     files: &mut F,
 ) -> Result<Rows, Outcome>
-    ensures counted { F.reads files.new ≡ next_count (F.reads files.old) }
-    ensures later { F.faults files.old ≤ F.faults files.new }
-    ensures failed { IsErrOf result (Outcome.ReadFault true) → F.faults files.new ≡ F.reads files.new }
-    ensures sure { F.is_sure files.old name.now ≡ true → F.faults files.new ≡ F.faults files.old }
-    ensures rose { IsErrOf result (Outcome.ReadFault true) → Rose (F.faults files.old) (F.faults files.new) }
-    ensures quiet { IsErrOf result (Outcome.ReadFault true) ⊎ (F.faults files.new ≡ F.faults files.old) }
-    ensures same_told { (n : List ℕ) → F.told files.new n ≡ F.told files.old n }
-    ensures same_sure { (n : List ℕ) → F.is_sure files.new n ≡ F.is_sure files.old n }
-
+    ensures reads { ReadsNames F.told F.is_sure F.reads F.faults files.old files.new (name.now ∷ []) (stops_unread result) }
     ensures read { IfOk result (λ rows. IsReadFor plan.now.net rows) }
     ensures accepted { IfOk result (λ rows. IfSome (F.told files.old name.now) (λ bytes. (trace_fault plan.now.net bytes ≡ None) × (rows ≡ rows_in plan.now.net bytes))) }
     ensures refused { IfErr result (λ outcome. RefusesTrace plan.now.net outcome (F.told files.old name.now)) }
@@ -213,11 +198,7 @@ fn report_told<O: Sink>(
     requires asked { is_some jobs ≡ wanted.jobs }
     ensures ends { Ends (Reported (report_in plan.now.net rows.now wanted.form wanted.jobs)) result (takings O.taken O.sure out.old out.new) }
     ensures unread { (second : Bool) → result ≢ Outcome.ReadFault second }
-    ensures later { O.faults out.old ≤ O.faults out.new }
-    ensures rose { result ≡ Outcome.WriteFault → Rose (O.faults out.old) (O.faults out.new) }
-    ensures quiet { (result ≡ Outcome.WriteFault) ⊎ (O.faults out.new ≡ O.faults out.old) }
-    ensures sure { length (report_in plan.now.net rows.now wanted.form wanted.jobs) ≤ O.sure out.old → O.faults out.new ≡ O.faults out.old }
-    ensures untouched { Untouched result out.old out.new }
+    ensures writes { Writes O.taken O.sure O.faults out.old out.new (writing_of result) (λ text. text ≡ report_in plan.now.net rows.now wanted.form wanted.jobs) }
 {
     match report(plan, rows, counts, jobs, wanted.form, out) {
         Ok(()) => Outcome::Done,
@@ -241,11 +222,7 @@ fn report_kept<R: Threads + Sync, G: Gate, O: Sink>(
     requires asked { wanted.jobs ≡ true }
     ensures ends { Ends (Reported (report_in plan.now.net rows.now wanted.form wanted.jobs)) result (takings O.taken O.sure out.old out.new) }
     ensures unread { (second : Bool) → result ≢ Outcome.ReadFault second }
-    ensures later { O.faults out.old ≤ O.faults out.new }
-    ensures rose { result ≡ Outcome.WriteFault → Rose (O.faults out.old) (O.faults out.new) }
-    ensures quiet { (result ≡ Outcome.WriteFault) ⊎ (O.faults out.new ≡ O.faults out.old) }
-    ensures sure { length (report_in plan.now.net rows.now wanted.form wanted.jobs) ≤ O.sure out.old → O.faults out.new ≡ O.faults out.old }
-    ensures untouched { Untouched result out.old out.new }
+    ensures writes { Writes O.taken O.sure O.faults out.old out.new (writing_of result) (λ text. text ≡ report_in plan.now.net rows.now wanted.form wanted.jobs) }
 {
     let Ok(counts) = counts_of_run(
         crew.rt,
@@ -277,11 +254,7 @@ fn report_jobs<R: Threads + Sync, G: Gate, O: Sink>(
     requires asked { wanted.jobs ≡ true }
     ensures ends { Ends (run_answer plan.now.net rows.now wanted (refusal_in plan.now.net rows.now)) result (takings O.taken O.sure out.old out.new) }
     ensures unread { (second : Bool) → result ≢ Outcome.ReadFault second }
-    ensures later { O.faults out.old ≤ O.faults out.new }
-    ensures rose { result ≡ Outcome.WriteFault → Rose (O.faults out.old) (O.faults out.new) }
-    ensures quiet { (result ≡ Outcome.WriteFault) ⊎ (O.faults out.new ≡ O.faults out.old) }
-    ensures sure { length (report_in plan.now.net rows.now wanted.form wanted.jobs) ≤ O.sure out.old → O.faults out.new ≡ O.faults out.old }
-    ensures untouched { Untouched result out.old out.new }
+    ensures writes { Writes O.taken O.sure O.faults out.old out.new (writing_of result) (λ text. text ≡ report_in plan.now.net rows.now wanted.form wanted.jobs) }
 {
     runs_are_of_networks();
     runs_have_few_visits();
@@ -317,11 +290,7 @@ fn report_counts<R: Threads + Sync, G: Gate, O: Sink>(
     requires asked { wanted.jobs ≡ false }
     ensures ends { Ends (run_answer plan.now.net rows.now wanted (refusal_in plan.now.net rows.now)) result (takings O.taken O.sure out.old out.new) }
     ensures unread { (second : Bool) → result ≢ Outcome.ReadFault second }
-    ensures later { O.faults out.old ≤ O.faults out.new }
-    ensures rose { result ≡ Outcome.WriteFault → Rose (O.faults out.old) (O.faults out.new) }
-    ensures quiet { (result ≡ Outcome.WriteFault) ⊎ (O.faults out.new ≡ O.faults out.old) }
-    ensures sure { length (report_in plan.now.net rows.now wanted.form wanted.jobs) ≤ O.sure out.old → O.faults out.new ≡ O.faults out.old }
-    ensures untouched { Untouched result out.old out.new }
+    ensures writes { Writes O.taken O.sure O.faults out.old out.new (writing_of result) (λ text. text ≡ report_in plan.now.net rows.now wanted.form wanted.jobs) }
 {
     runs_are_of_networks();
     runs_have_few_visits();
@@ -357,11 +326,7 @@ fn report_run<R: Threads + Sync, G: Gate, O: Sink>(
     requires { IsReadFor plan.now.net rows.now }
     ensures ends { Ends (run_answer plan.now.net rows.now wanted (refusal_in plan.now.net rows.now)) result (takings O.taken O.sure out.old out.new) }
     ensures unread { (second : Bool) → result ≢ Outcome.ReadFault second }
-    ensures later { O.faults out.old ≤ O.faults out.new }
-    ensures rose { result ≡ Outcome.WriteFault → Rose (O.faults out.old) (O.faults out.new) }
-    ensures quiet { (result ≡ Outcome.WriteFault) ⊎ (O.faults out.new ≡ O.faults out.old) }
-    ensures sure { length (report_in plan.now.net rows.now wanted.form wanted.jobs) ≤ O.sure out.old → O.faults out.new ≡ O.faults out.old }
-    ensures untouched { Untouched result out.old out.new }
+    ensures writes { Writes O.taken O.sure O.faults out.old out.new (writing_of result) (λ text. text ≡ report_in plan.now.net rows.now wanted.form wanted.jobs) }
 {
     let crew = &Crew {
         rt: crew.rt,
@@ -387,20 +352,8 @@ fn run_trace<R: Threads + Sync, G: Gate, F: Files, O: Sink>(
 ) -> Outcome
     ensures ends { IfSome (F.told files.old name.now) (λ trace. Ends (answer_over plan.now.net trace wanted) result (takings O.taken O.sure out.old out.new)) }
     ensures late { IsLate result }
-    ensures counted { F.reads files.new ≡ next_count (F.reads files.old) }
-    ensures files_later { F.faults files.old ≤ F.faults files.new }
-    ensures failed { result ≡ Outcome.ReadFault true → F.faults files.new ≡ F.reads files.new }
-    ensures files_rose { result ≡ Outcome.ReadFault true → Rose (F.faults files.old) (F.faults files.new) }
-    ensures files_quiet { (result ≡ Outcome.ReadFault true) ⊎ (F.faults files.new ≡ F.faults files.old) }
-    ensures sure_name { F.is_sure files.old name.now ≡ true → F.faults files.new ≡ F.faults files.old }
-    ensures same_told { (n : List ℕ) → F.told files.new n ≡ F.told files.old n }
-    ensures same_sure { (n : List ℕ) → F.is_sure files.new n ≡ F.is_sure files.old n }
-
-    ensures later { O.faults out.old ≤ O.faults out.new }
-    ensures rose { result ≡ Outcome.WriteFault → Rose (O.faults out.old) (O.faults out.new) }
-    ensures quiet { (result ≡ Outcome.WriteFault) ⊎ (O.faults out.new ≡ O.faults out.old) }
-    ensures sure { (trace text : List ℕ) → F.told files.old name.now ≡ Some trace → answer_over plan.now.net trace wanted ≡ Reported text → length text ≤ O.sure out.old → O.faults out.new ≡ O.faults out.old }
-    ensures untouched { Untouched result out.old out.new }
+    ensures reads { ReadsNames F.told F.is_sure F.reads F.faults files.old files.new (name.now ∷ []) (is_unread (reading_of result)) }
+    ensures writes { Writes O.taken O.sure O.faults out.old out.new (writing_of result) (λ text. IfSome (F.told files.old name.now) (λ trace. IsText text (answer_over plan.now.net trace wanted))) }
 {
     match accept_trace(alloc, crew, plan, name, files) {
         Ok(rows) => {
@@ -424,11 +377,7 @@ fn run_text<R: Threads + Sync, G: Gate, O: Sink>(
     ensures ends { Ends (answer_over plan.now.net trace.now wanted) result (takings O.taken O.sure out.old out.new) }
     ensures late { IsLate result }
     ensures unread { result ≢ Outcome.ReadFault true }
-    ensures later { O.faults out.old ≤ O.faults out.new }
-    ensures rose { result ≡ Outcome.WriteFault → Rose (O.faults out.old) (O.faults out.new) }
-    ensures quiet { (result ≡ Outcome.WriteFault) ⊎ (O.faults out.new ≡ O.faults out.old) }
-    ensures sure { (text : List ℕ) → answer_over plan.now.net trace.now wanted ≡ Reported text → length text ≤ O.sure out.old → O.faults out.new ≡ O.faults out.old }
-    ensures untouched { Untouched result out.old out.new }
+    ensures writes { Writes O.taken O.sure O.faults out.old out.new (writing_of result) (λ text. IsText text (answer_over plan.now.net trace.now wanted)) }
 {
     match judge_trace(alloc, crew, plan, trace) {
         Ok(rows) => {
@@ -456,11 +405,7 @@ fn run_bytes<R: Threads + Sync, G: Gate, O: Sink, E: Sink>(
     ensures usage { (fault : UsageFault) → result ≢ Outcome.Usage fault }
     ensures unread { (second : Bool) → result ≢ Outcome.ReadFault second }
     ensures never { (result ≢ Outcome.Model ModelFault.Memory) × (result ≢ Outcome.Trace TraceFault.Memory) }
-    ensures later { O.faults out.old ≤ O.faults out.new }
-    ensures rose { result ≡ Outcome.WriteFault → Rose (O.faults out.old) (O.faults out.new) }
-    ensures quiet { (result ≡ Outcome.WriteFault) ⊎ (O.faults out.new ≡ O.faults out.old) }
-    ensures sure { (text : List ℕ) → answer model.now trace.now wanted ≡ Reported text → length text ≤ O.sure out.old → O.faults out.new ≡ O.faults out.old }
-    ensures untouched { Untouched result out.old out.new }
+    ensures writes { Writes O.taken O.sure O.faults out.old out.new (writing_of result) (λ text. IsText text (answer model.now trace.now wanted)) }
     ensures line { PutsLine E.taken E.sure E.faults err.old err.new (line_text (name_of_outcome (network_in model.now) result) result) }
 {
     match judge_model(alloc, model) {
@@ -488,11 +433,7 @@ fn run_made<R: Threads + Sync, G: Gate, O: Sink, E: Sink>(
 ) -> Outcome
     ensures ends { Ends (answer (made_model number) (made_trace number) wanted) result (takings O.taken O.sure out.old out.new) }
     ensures made { IsOfMade result }
-    ensures later { O.faults out.old ≤ O.faults out.new }
-    ensures rose { result ≡ Outcome.WriteFault → Rose (O.faults out.old) (O.faults out.new) }
-    ensures quiet { (result ≡ Outcome.WriteFault) ⊎ (O.faults out.new ≡ O.faults out.old) }
-    ensures sure { (text : List ℕ) → answer (made_model number) (made_trace number) wanted ≡ Reported text → length text ≤ O.sure out.old → O.faults out.new ≡ O.faults out.old }
-    ensures untouched { Untouched result out.old out.new }
+    ensures writes { Writes O.taken O.sure O.faults out.old out.new (writing_of result) (λ text. IsText text (answer (made_model number) (made_trace number) wanted)) }
     ensures line { PutsLine E.taken E.sure E.faults err.old err.new (line_text [] result) }
 {
     made_inputs_are_accepted();
@@ -540,14 +481,8 @@ pub fn simulate_bytes<R: Threads + Sync, O: Sink, E: Sink>(
     ensures unread { (second : Bool) → result ≢ Outcome.ReadFault second }
     ensures never { (result ≢ Outcome.Model ModelFault.Memory) × (result ≢ Outcome.Trace TraceFault.Memory) }
 
-    // A fault of a device is counted, and a counted fault is answered.
-    ensures out_later { O.faults out.old ≤ O.faults out.new }
-    ensures write { result ≡ Outcome.WriteFault → Rose (O.faults out.old) (O.faults out.new) }
-    ensures out_quiet { (result ≡ Outcome.WriteFault) ⊎ (O.faults out.new ≡ O.faults out.old) }
-    ensures sure { (text : List ℕ) → answer model.now trace.now (record { form = form; jobs = jobs }) ≡ Reported text → length text ≤ O.sure out.old → O.faults out.new ≡ O.faults out.old }
-
-    // What the two outputs gain.
-    ensures untouched { Untouched result out.old out.new }
+    // What the two outputs gain. A fault of the output is counted, and a counted fault is answered.
+    ensures writes { Writes O.taken O.sure O.faults out.old out.new (writing_of result) (λ text. IsText text (answer model.now trace.now (record { form = form; jobs = jobs }))) }
     ensures line { PutsLine E.taken E.sure E.faults err.old err.new (line_text (name_of_outcome (network_in model.now) result) result) }
 {
     let crew = &Crew {
@@ -579,9 +514,12 @@ pub fn simulate_gated<R: Threads + Sync, F: Files, O: Sink, E: Sink, G: Gate>(
     gate: &G,
 ) -> Outcome
     // A finished run has written exactly the report of the event list, and a run ends otherwise only with the fault
-    // that the definitions give, or with a fault of a device or want of memory.
+    // that the definitions give, or with a fault of a device or want of memory. A made input is never refused.
     ensures ends { (m t model trace : List ℕ) → Names (texts words.now) m t → F.told files.old m ≡ Some model → F.told files.old t ≡ Some trace →
         Ends (answer model trace (wanted_by (texts words.now))) result (takings O.taken O.sure out.old out.new) }
+    ensures made { (number : ℕ) → Makes (texts words.now) number →
+        Ends (answer (made_model number) (made_trace number) (wanted_by (texts words.now))) result (takings O.taken O.sure out.old out.new) }
+    ensures made_accepted { (number : ℕ) → Makes (texts words.now) number → IsOfMade result }
 
     // The words are refused exactly so, and a model is refused whatever is told of the trace.
     ensures usage { (fault : UsageFault) → result ≡ Outcome.Usage fault → usage_fault (texts words.now) ≡ Some fault }
@@ -592,39 +530,11 @@ pub fn simulate_gated<R: Threads + Sync, F: Files, O: Sink, E: Sink, G: Gate>(
     ensures model_only { (m t model : List ℕ) (fault : ModelFault) → Names (texts words.now) m t → F.told files.old m ≡ Some model → result ≡ Outcome.Model fault → model_fault model ≡ Some fault }
     ensures never { (result ≢ Outcome.Model ModelFault.Memory) × (result ≢ Outcome.Trace TraceFault.Memory) }
 
-    // A fault of a device is counted, and a counted fault is answered.
-    ensures first { result ≡ Outcome.ReadFault false → FailedAt 1 (F.reads files.old) (F.reads files.new) (F.faults files.new) × Rose (F.faults files.old) (F.faults files.new) }
-    ensures second { result ≡ Outcome.ReadFault true → FailedAt 2 (F.reads files.old) (F.reads files.new) (F.faults files.new) × Rose (F.faults files.old) (F.faults files.new) }
-    ensures reads { asks_made (texts words.now) ≡ false → Reads result (F.reads files.old) (F.reads files.new) }
-    ensures first_name { (m t : List ℕ) → Names (texts words.now) m t → F.is_sure files.old m ≡ true → F.faults files.old < 2 ^ 64 - 1 → result ≢ Outcome.ReadFault false }
-    ensures second_name { (m t : List ℕ) → Names (texts words.now) m t → F.is_sure files.old t ≡ true → F.faults files.old < 2 ^ 64 - 1 → result ≢ Outcome.ReadFault true }
-    ensures unread { (fault : UsageFault) → usage_fault (texts words.now) ≡ Some fault → files.new ≡ files.old }
-    ensures sure_names { (m t : List ℕ) → Names (texts words.now) m t → F.is_sure files.old m ≡ true → F.is_sure files.old t ≡ true → F.faults files.new ≡ F.faults files.old }
-    ensures files_quiet { (result ≡ Outcome.ReadFault false) ⊎ ((result ≡ Outcome.ReadFault true) ⊎ (F.faults files.new ≡ F.faults files.old)) }
-    ensures files_later { F.faults files.old ≤ F.faults files.new }
-    ensures same_told { (n : List ℕ) → F.told files.new n ≡ F.told files.old n }
-    ensures same_sure { (n : List ℕ) → F.is_sure files.new n ≡ F.is_sure files.old n }
-    ensures out_later { O.faults out.old ≤ O.faults out.new }
-    ensures write { result ≡ Outcome.WriteFault → Rose (O.faults out.old) (O.faults out.new) }
-    ensures out_quiet { (result ≡ Outcome.WriteFault) ⊎ (O.faults out.new ≡ O.faults out.old) }
-    ensures sure { (m t model trace text : List ℕ) → Names (texts words.now) m t → F.told files.old m ≡ Some model → F.told files.old t ≡ Some trace → answer model trace (wanted_by (texts words.now)) ≡ Reported text →
-        length text ≤ O.sure out.old → O.faults out.new ≡ O.faults out.old }
-
-    // With `--made` no file is read. A made input is accepted, so that its run ends with its report, or with a fault of
-    // the output or want of memory.
-    ensures made { (number : ℕ) → Makes (texts words.now) number →
-        Ends (answer (made_model number) (made_trace number) (wanted_by (texts words.now))) result (takings O.taken O.sure out.old out.new) }
-    ensures made_accepted { (number : ℕ) → Makes (texts words.now) number → IsOfMade result }
-    ensures made_unread { asks_made (texts words.now) ≡ true → files.new ≡ files.old }
-    ensures made_sure { (number : ℕ) (text : List ℕ) → Makes (texts words.now) number → answer (made_model number) (made_trace number) (wanted_by (texts words.now)) ≡ Reported text →
-        length text ≤ O.sure out.old → O.faults out.new ≡ O.faults out.old }
-    ensures made_line { (number : ℕ) → Makes (texts words.now) number → PutsLine E.taken E.sure E.faults err.old err.new (line_text [] result) }
-
-    // What the two outputs gain.
-    ensures untouched { Untouched result out.old out.new }
-    ensures line { (name : List ℕ) × PutsLine E.taken E.sure E.faults err.old err.new (line_text name result) }
-    ensures named { (m t model : List ℕ) → Names (texts words.now) m t → F.told files.old m ≡ Some model →
-        PutsLine E.taken E.sure E.faults err.old err.new (line_text (name_of_outcome (network_in model) result) result) }
+    // What is read of the files, in their order, and what the two outputs gain. A fault of a device is counted, and a counted fault is answered.
+    ensures reads { ReadsFirst F.told F.is_sure F.reads F.faults files.old files.new (names_read (texts words.now)) (reading_of result) }
+    ensures writes { Writes O.taken O.sure O.faults out.old out.new (writing_of result) (IsReportOf (F.told files.old) (texts words.now)) }
+    ensures line { (name : List ℕ) × PutsLine E.taken E.sure E.faults err.old err.new (line_text name result) ×
+        ((m t model : List ℕ) → Names (texts words.now) m t → F.told files.old m ≡ Some model → name ≡ name_of_outcome (network_in model) result) }
 {
     let settings = match accept_words(alloc, words) {
         Ok(settings) => settings,
@@ -671,9 +581,12 @@ pub fn simulate<R: Threads + Sync, F: Files, O: Sink, E: Sink>(
     err: &mut E,
 ) -> Outcome
     // A finished run has written exactly the report of the event list, and a run ends otherwise only with the fault
-    // that the definitions give, or with a fault of a device or want of memory.
+    // that the definitions give, or with a fault of a device or want of memory. A made input is never refused.
     ensures ends { (m t model trace : List ℕ) → Names (texts words.now) m t → F.told files.old m ≡ Some model → F.told files.old t ≡ Some trace →
         Ends (answer model trace (wanted_by (texts words.now))) result (takings O.taken O.sure out.old out.new) }
+    ensures made { (number : ℕ) → Makes (texts words.now) number →
+        Ends (answer (made_model number) (made_trace number) (wanted_by (texts words.now))) result (takings O.taken O.sure out.old out.new) }
+    ensures made_accepted { (number : ℕ) → Makes (texts words.now) number → IsOfMade result }
 
     // The words are refused exactly so, and a model is refused whatever is told of the trace.
     ensures usage { (fault : UsageFault) → result ≡ Outcome.Usage fault → usage_fault (texts words.now) ≡ Some fault }
@@ -684,39 +597,11 @@ pub fn simulate<R: Threads + Sync, F: Files, O: Sink, E: Sink>(
     ensures model_only { (m t model : List ℕ) (fault : ModelFault) → Names (texts words.now) m t → F.told files.old m ≡ Some model → result ≡ Outcome.Model fault → model_fault model ≡ Some fault }
     ensures never { (result ≢ Outcome.Model ModelFault.Memory) × (result ≢ Outcome.Trace TraceFault.Memory) }
 
-    // A fault of a device is counted, and a counted fault is answered.
-    ensures first { result ≡ Outcome.ReadFault false → FailedAt 1 (F.reads files.old) (F.reads files.new) (F.faults files.new) × Rose (F.faults files.old) (F.faults files.new) }
-    ensures second { result ≡ Outcome.ReadFault true → FailedAt 2 (F.reads files.old) (F.reads files.new) (F.faults files.new) × Rose (F.faults files.old) (F.faults files.new) }
-    ensures reads { asks_made (texts words.now) ≡ false → Reads result (F.reads files.old) (F.reads files.new) }
-    ensures first_name { (m t : List ℕ) → Names (texts words.now) m t → F.is_sure files.old m ≡ true → F.faults files.old < 2 ^ 64 - 1 → result ≢ Outcome.ReadFault false }
-    ensures second_name { (m t : List ℕ) → Names (texts words.now) m t → F.is_sure files.old t ≡ true → F.faults files.old < 2 ^ 64 - 1 → result ≢ Outcome.ReadFault true }
-    ensures unread { (fault : UsageFault) → usage_fault (texts words.now) ≡ Some fault → files.new ≡ files.old }
-    ensures sure_names { (m t : List ℕ) → Names (texts words.now) m t → F.is_sure files.old m ≡ true → F.is_sure files.old t ≡ true → F.faults files.new ≡ F.faults files.old }
-    ensures files_quiet { (result ≡ Outcome.ReadFault false) ⊎ ((result ≡ Outcome.ReadFault true) ⊎ (F.faults files.new ≡ F.faults files.old)) }
-    ensures files_later { F.faults files.old ≤ F.faults files.new }
-    ensures same_told { (n : List ℕ) → F.told files.new n ≡ F.told files.old n }
-    ensures same_sure { (n : List ℕ) → F.is_sure files.new n ≡ F.is_sure files.old n }
-    ensures out_later { O.faults out.old ≤ O.faults out.new }
-    ensures write { result ≡ Outcome.WriteFault → Rose (O.faults out.old) (O.faults out.new) }
-    ensures out_quiet { (result ≡ Outcome.WriteFault) ⊎ (O.faults out.new ≡ O.faults out.old) }
-    ensures sure { (m t model trace text : List ℕ) → Names (texts words.now) m t → F.told files.old m ≡ Some model → F.told files.old t ≡ Some trace → answer model trace (wanted_by (texts words.now)) ≡ Reported text →
-        length text ≤ O.sure out.old → O.faults out.new ≡ O.faults out.old }
-
-    // With `--made` no file is read. A made input is accepted, so that its run ends with its report, or with a fault of
-    // the output or want of memory.
-    ensures made { (number : ℕ) → Makes (texts words.now) number →
-        Ends (answer (made_model number) (made_trace number) (wanted_by (texts words.now))) result (takings O.taken O.sure out.old out.new) }
-    ensures made_accepted { (number : ℕ) → Makes (texts words.now) number → IsOfMade result }
-    ensures made_unread { asks_made (texts words.now) ≡ true → files.new ≡ files.old }
-    ensures made_sure { (number : ℕ) (text : List ℕ) → Makes (texts words.now) number → answer (made_model number) (made_trace number) (wanted_by (texts words.now)) ≡ Reported text →
-        length text ≤ O.sure out.old → O.faults out.new ≡ O.faults out.old }
-    ensures made_line { (number : ℕ) → Makes (texts words.now) number → PutsLine E.taken E.sure E.faults err.old err.new (line_text [] result) }
-
-    // What the two outputs gain.
-    ensures untouched { Untouched result out.old out.new }
-    ensures line { (name : List ℕ) × PutsLine E.taken E.sure E.faults err.old err.new (line_text name result) }
-    ensures named { (m t model : List ℕ) → Names (texts words.now) m t → F.told files.old m ≡ Some model →
-        PutsLine E.taken E.sure E.faults err.old err.new (line_text (name_of_outcome (network_in model) result) result) }
+    // What is read of the files, in their order, and what the two outputs gain. A fault of a device is counted, and a counted fault is answered.
+    ensures reads { ReadsFirst F.told F.is_sure F.reads F.faults files.old files.new (names_read (texts words.now)) (reading_of result) }
+    ensures writes { Writes O.taken O.sure O.faults out.old out.new (writing_of result) (IsReportOf (F.told files.old) (texts words.now)) }
+    ensures line { (name : List ℕ) × PutsLine E.taken E.sure E.faults err.old err.new (line_text name result) ×
+        ((m t model : List ℕ) → Names (texts words.now) m t → F.told files.old m ≡ Some model → name ≡ name_of_outcome (network_in model) result) }
 {
     simulate_gated(rt, alloc, words, files, out, err, &Open)
 }

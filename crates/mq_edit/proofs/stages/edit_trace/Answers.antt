@@ -1,12 +1,13 @@
 use Rattle.std.proofs.Common.{◌∙◌, sym, subst, [], ◌∷◌, ◌+◌}
 use Rattle.mq_base.specs.Text.{texts}
-use Rattle.mq_edit.specs.Answer.{answer_told}
-use Rattle.mq_edit.specs.Ends.{Ends, IsText, is_unread}
-use Rattle.mq_edit.specs.Reading.{ReadsNames}
-use Rattle.mq_edit.specs.Words.{name_at}
+use Rattle.mq_outside.specs.Reading.{ReadsNames, is_unread}
+use Rattle.mq_outside.specs.Reading.Reading.{Through}
+use Rattle.mq_outside.proofs.lemmas.Readings.{reads_both, reads_nothing, reads_some}
+use Rattle.mq_outside.proofs.lemmas.Writings.{writes_wider}
+use Rattle.mq_edit.specs.Ends.{Ends, IsText, reading_of, writing_of}
+use Rattle.mq_edit.specs.Words.{names_read}
 use Rattle.mq_edit.proofs.Cases.{model_refusal_count, model_refusal_unwritten, writes_nothing}
-use Rattle.mq_edit.proofs.Readings.{reads_both}
-use Rattle.mq_edit.proofs.Told.{first_name, first_names, model_behind, model_refused, named, names_are, text_is, text_told, trace_named}
+use Rattle.mq_edit.proofs.Told.{first_names, model_behind, model_refused, named, names_are, none_read, trace_named, words_read}
 use Rattle.mq_edit.proofs.stages.edit_trace.Goals as goal
 
 pub returns-in-Ok-clause-ends : goal.returns-in-Ok-clause-ends
@@ -21,22 +22,18 @@ returns-in-Ok-clause-trace g c fault is =
     (c.in-Ok.ensures.reads.same_told _) c.in-Ok.ensures.accepted (c.run_edits-outcome.ensures.trace fault is)
 
 pub returns-in-Ok-clause-reads : goal.returns-in-Ok-clause-reads
-returns-in-Ok-clause-reads g c fine =
-    let (n, count, more) = c.run_edits-outcome.ensures.reads in (
-      n + 2,
-      count,
-      subst (λ names. ReadsNames g.F.Files.told g.F.Files.is_sure g.F.Files.reads g.F.Files.faults c.args.files.now c.run_edits-outcome.new.files names (is_unread c.run_edits-outcome.result))
-          (first_names n (texts c.args.words.now) _ _ _ (names_are c.args.words.now (record { ref_ptr = (0, 0); now = [] }) fine)) (reads_both _ _ _ _ _ _ _ (_ ∷ []) _ _ _ c.in-Ok.ensures.reads more),
-    )
+returns-in-Ok-clause-reads g c =
+    let fine = sym c.refuses_words.ensures ∙ c.if-refuses_words.false in
+    let (n, count, more) = c.run_edits-outcome.ensures.reads in
+    reads_some _ _ _ _ _ _ (names_read (texts c.args.words.now)) _ _ (reading_of c.run_edits-outcome.result) (n + 2) (words_read (texts c.args.words.now) fine ∙ names_are c.args.words.now (record { ref_ptr = (0, 0); now = [] }) fine) count
+    (subst (λ names. ReadsNames g.F.Files.told g.F.Files.is_sure g.F.Files.reads g.F.Files.faults c.args.files.now c.run_edits-outcome.new.files names (is_unread (reading_of c.run_edits-outcome.result)))
+    (first_names n _ _ _) (reads_both _ _ _ _ _ _ _ (_ ∷ []) _ _ _ c.in-Ok.ensures.reads more))
 
 pub returns-in-Ok-clause-writes : goal.returns-in-Ok-clause-writes
 returns-in-Ok-clause-writes g c =
-    let (text, writes, is) = c.run_edits-outcome.ensures.writes in (
-      text,
-      writes,
-      λ fine. named (g.F.Files.told c.args.files.now) (texts c.args.words.now) _ _ _ (IsText text) (names_are c.args.words.now (record { ref_ptr = (0, 0); now = [] }) fine)
-          (model_behind c.in-Ok.plan.net _ _ _ _ _ (IsText text) (c.in-Ok.ensures.reads.same_told _) (c.in-Ok.ensures.reads.same_told _) c.in-Ok.ensures.accepted is),
-    )
+    writes_wider _ _ _ _ _ (writing_of c.run_edits-outcome.result) _ _
+    (λ text is fine. named (g.F.Files.told c.args.files.now) (texts c.args.words.now) _ _ _ (IsText text) (names_are c.args.words.now (record { ref_ptr = (0, 0); now = [] }) fine)
+    (model_behind c.in-Ok.plan.net _ _ _ _ _ (IsText text) (c.in-Ok.ensures.reads.same_told _) (c.in-Ok.ensures.reads.same_told _) c.in-Ok.ensures.accepted is)) c.run_edits-outcome.ensures.writes
 
 pub returns-in-Err-clause-ends : goal.returns-in-Err-clause-ends
 returns-in-Err-clause-ends g c fine =
@@ -44,18 +41,14 @@ returns-in-Err-clause-ends g c fine =
     (model_refused _ _ _ c.in-Err.outcome c.in-Err.ensures.refused)
 
 pub returns-in-Err-clause-reads : goal.returns-in-Err-clause-reads
-returns-in-Err-clause-reads g c fine = (
-  1,
-  model_refusal_count _ _ c.in-Err.ensures.refused,
-  subst (λ names. ReadsNames g.F.Files.told g.F.Files.is_sure g.F.Files.reads g.F.Files.faults c.args.files.now c.accept_model.new.files names (is_unread c.in-Err.outcome))
-      (first_name (texts c.args.words.now) _ _ _ (names_are c.args.words.now (record { ref_ptr = (0, 0); now = [] }) fine)) c.in-Err.ensures.reads,
-)
+returns-in-Err-clause-reads g c =
+    let fine = sym c.refuses_words.ensures ∙ c.if-refuses_words.false in
+    reads_some _ _ _ _ _ _ (names_read (texts c.args.words.now)) _ _ (reading_of c.in-Err.outcome) 1 (words_read (texts c.args.words.now) fine ∙ names_are c.args.words.now (record { ref_ptr = (0, 0); now = [] }) fine)
+    (model_refusal_count _ _ c.in-Err.ensures.refused) c.in-Err.ensures.reads
 
 pub returns-in-Err-clause-writes : goal.returns-in-Err-clause-writes
-returns-in-Err-clause-writes g c =
-    let told =
-    answer_told (g.F.Files.told c.args.files.now (name_at (texts c.args.words.now) 0)) (g.F.Files.told c.args.files.now (name_at (texts c.args.words.now) 1)) (g.F.Files.told c.args.files.now (name_at (texts c.args.words.now) 2)) in (
-      text_told told,
-      writes_nothing _ _ _ _ _ _ (model_refusal_unwritten _ _ c.in-Err.ensures.refused),
-      λ _. text_is told,
-    )
+returns-in-Err-clause-writes g c = writes_nothing _ _ _ _ _ _ (model_refusal_unwritten _ _ c.in-Err.ensures.refused)
+
+pub returns-then-refuses_words-clause-reads : goal.returns-then-refuses_words-clause-reads
+returns-then-refuses_words-clause-reads g c =
+    reads_nothing _ _ _ _ _ (names_read (texts c.args.words.now)) Through (none_read (texts c.args.words.now) (sym c.refuses_words.ensures ∙ c.if-refuses_words.true))

@@ -4,8 +4,8 @@ use Rattle.mq_model.specs.NetworkOf.{network_in}
 use Rattle.mq_outside.specs.Memory.{SinkState, sure_bytes}
 use Rattle.mq_outcome.specs.Lines.{line_text, name_of}
 use Rattle.mq_outcome.specs.declared.outcome.Outcome.{Outcome}
-use Rattle.mq_sweep.specs.Scenario.{scenario_status, scenario_text}
-use Rattle.mq_sweep.proofs.Runs.{Finished, calm, finished}
+use Rattle.mq_sweep.specs.Scenario.{scenario_answer, scenario_status, scenario_text}
+use Rattle.mq_sweep.proofs.Runs.{Finished, calm, finished, out_rose}
 use Rattle.mq_sweep.proofs.scenario.run_scenario.Goals as goal
 
 pub returns-clause-right : goal.returns-clause-right
@@ -21,8 +21,8 @@ returns-clause-right g c =
     let err_calm : err'.faults ≡ 0 = sym c.faults-else-faults-ne0.ensures ∙ c.if-faults-ne0-2.false in
     let done : Finished trace model o out'.taken err'.taken =
     finished trace model o out out' err err' (record { before = Some out.taken; now = Some out'.taken; sure_before = sure_bytes out; sure_now = sure_bytes out' }) c.new-out.ensures.taken c.new-err.ensures.taken refl refl
-    c.simulate_bytes-outcome.ensures.ends c.simulate_bytes-outcome.ensures.untouched c.in_default.not-Memory
-    (λ e. calm out.faults out'.faults c.new-out.ensures.faults out_calm (c.simulate_bytes-outcome.ensures.write e)) c.simulate_bytes-outcome.ensures.unread
+    c.simulate_bytes-outcome.ensures.ends c.simulate_bytes-outcome.ensures.writes c.in_default.not-Memory
+    (λ e. calm out.faults out'.faults c.new-out.ensures.faults out_calm (out_rose out out' o (scenario_answer trace model) c.simulate_bytes-outcome.ensures.writes e)) c.simulate_bytes-outcome.ensures.unread
     (λ a e. c.simulate_bytes-outcome.ensures.line.whole (λ rose. calm err.faults err'.faults c.new-err.ensures.faults err_calm rose)
     ∙ ap (λ (p : Outcome). append_known (Some err.taken) (line_text (name_of (network_in model) p) p)) e) in
     let same : c.from_vec-model.result ≡ model = c.from_vec-model.ensures ∙ c.in_ok-from_slice.ensures.items in

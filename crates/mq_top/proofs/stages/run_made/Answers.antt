@@ -3,8 +3,9 @@ use Rattle.mq_gen.specs.Accepted.{IsAccepted}
 use Rattle.mq_gen.specs.Made.{made_model, made_trace}
 use Rattle.mq_model.specs.NetworkOf.{network_in}
 use Rattle.mq_outcome.specs.Lines.{PutsLine}
+use Rattle.mq_outside.specs.Writing.{Writes}
 use Rattle.mq_top.specs.Answer.{answer}
-use Rattle.mq_top.specs.Ends.{Ends, IsOfMade, takings}
+use Rattle.mq_top.specs.Ends.{Ends, IsOfMade, IsText, takings, writing_of}
 use Rattle.mq_top.proofs.MadeRuns.{made_line, made_outcome}
 use Rattle.mq_top.proofs.stages.run_made.Given as Given
 use Rattle.mq_top.proofs.stages.run_made.Goals as goal
@@ -27,8 +28,9 @@ returns-in-Ok-clause-ends g c = ends_made g c
 pub returns-in-Ok-clause-made : goal.returns-in-Ok-clause-made
 returns-in-Ok-clause-made g c = is_made g c
 
-pub returns-in-Ok-clause-sure : goal.returns-in-Ok-clause-sure
-returns-in-Ok-clause-sure g c text is room = c.run_bytes.ensures.sure text (same g c ∙ is) room
+pub returns-in-Ok-clause-writes : goal.returns-in-Ok-clause-writes
+returns-in-Ok-clause-writes g c =
+    subst (λ a. Writes g.O.Sink.taken g.O.Sink.sure g.O.Sink.faults c.args.out.now c.run_bytes.new.out (writing_of c.run_bytes.result) (λ text. IsText text a)) (same g c) c.run_bytes.ensures.writes
 
 pub returns-in-Ok-clause-line : goal.returns-in-Ok-clause-line
 returns-in-Ok-clause-line g c =

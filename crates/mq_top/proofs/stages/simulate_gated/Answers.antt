@@ -1,17 +1,17 @@
-use Rattle.std.proofs.Common.{◌≡◌, ◌∙◌, sym, ap, refl, subst, true≢false, ℕ, List, Some, None, Err}
-use Rattle.std.specs.Prelude.{true, false, unwrap_or}
+use Rattle.std.proofs.Common.{◌≡◌, ◌∙◌, refl, sym, ap, subst, ℕ, List, [], ◌∷◌, Some, None}
+use Rattle.std.specs.Prelude.{unwrap_or}
 use Rattle.mq_base.specs.Text.{texts}
 use Rattle.mq_gen.specs.Made.{made_model, made_trace}
 use Rattle.mq_model.specs.Model.{model_fault}
 use Rattle.mq_model.specs.NetworkOf.{network_in}
-use Rattle.mq_outside.specs.Outside.{Rose, next_count}
+use Rattle.mq_outside.proofs.lemmas.Readings.{reads_both, reads_nothing, reads_some}
+use Rattle.mq_outside.proofs.lemmas.Writings.{writes_wider}
 use Rattle.mq_top.specs.Answer.{answer, answer_over, wanted_by}
-use Rattle.mq_top.specs.Ends.{Ends, IsLate, IsOfMade, RefusesCall, RefusesModel, Taken, takings}
-use Rattle.mq_outcome.specs.Lines.{PutsLine, line_text, name_of}
-use Rattle.mq_outcome.specs.declared.outcome.Outcome.TheVariants.{ReadFault}
+use Rattle.mq_top.specs.Ends.{Ends, IsLate, IsOfMade, IsText, RefusesCall, RefusesModel, Taken, names_read, reading_of, takings, writing_of}
+use Rattle.mq_outcome.specs.Lines.{name_of}
 use Rattle.mq_words.specs.Words.{Asks, AsksFor, Makes, Names}
-use Rattle.mq_words.proofs.Faults.{names_alone, not_both, same_names, same_number}
-use Rattle.mq_top.proofs.Exits.{call_ends, call_line, call_made, call_model, call_reads, call_untouched, call_usage, call_words, err_quiet, first_read, late_reads, later_too, makes_asks, model_ends, model_line, model_reads, model_untouched, no_rise, not_refused, ok_quiet, quiet_too, second_read}
+use Rattle.mq_words.proofs.Faults.{not_both, same_names, same_number}
+use Rattle.mq_top.proofs.Exits.{call_count, call_ends, call_made, call_model, call_name, call_unwritten, call_usage, call_words, late_count, made_count, makes_asks, model_count, model_ends, model_name, model_unwritten, named_read, not_refused, writes_nothing}
 use Rattle.mq_top.proofs.MadeRuns.{same_answer, some_is_none}
 use Rattle.mq_top.proofs.Told.{answer_is, told_is}
 use Rattle.mq_top.specs.declared.stages.Wanted.{Wanted}
@@ -51,24 +51,6 @@ returns-in-Err-clause-model_only g c m t model fault names told_m is = elim (sub
 pub returns-in-Err-clause-never : goal.returns-in-Err-clause-never
 returns-in-Err-clause-never g c = (λ e. subst (RefusesCall (texts c.args.words.now)) e c.in-Err.ensures.refused, λ e. subst (RefusesCall (texts c.args.words.now)) e c.in-Err.ensures.refused)
 
-pub returns-in-Err-clause-first : goal.returns-in-Err-clause-first
-returns-in-Err-clause-first g c e = elim (subst (RefusesCall (texts c.args.words.now)) e c.in-Err.ensures.refused) [ ]
-
-pub returns-in-Err-clause-second : goal.returns-in-Err-clause-second
-returns-in-Err-clause-second g c e = elim (subst (RefusesCall (texts c.args.words.now)) e c.in-Err.ensures.refused) [ ]
-
-pub returns-in-Err-clause-reads : goal.returns-in-Err-clause-reads
-returns-in-Err-clause-reads g c asked = call_reads (texts c.args.words.now) c.in-Err.outcome (g.F.Files.reads c.args.files.now) c.in-Err.ensures.refused
-
-pub returns-in-Err-clause-first_name : goal.returns-in-Err-clause-first_name
-returns-in-Err-clause-first_name g c m t names sure few e = subst (RefusesCall (texts c.args.words.now)) e c.in-Err.ensures.refused
-
-pub returns-in-Err-clause-second_name : goal.returns-in-Err-clause-second_name
-returns-in-Err-clause-second_name g c m t names sure few e = subst (RefusesCall (texts c.args.words.now)) e c.in-Err.ensures.refused
-
-pub returns-in-Err-clause-write : goal.returns-in-Err-clause-write
-returns-in-Err-clause-write g c e = elim (subst (RefusesCall (texts c.args.words.now)) e c.in-Err.ensures.refused) [ ]
-
 pub returns-in-Err-clause-made : goal.returns-in-Err-clause-made
 returns-in-Err-clause-made g c number makes =
     call_ends (texts c.args.words.now) c.in-Err.outcome (answer (made_model number) (made_trace number) (wanted_by (texts c.args.words.now))) (takings g.O.Sink.taken g.O.Sink.sure c.args.out.now c.args.out.now) c.in-Err.ensures.refused makes.accepted
@@ -76,15 +58,14 @@ returns-in-Err-clause-made g c number makes =
 pub returns-in-Err-clause-made_accepted : goal.returns-in-Err-clause-made_accepted
 returns-in-Err-clause-made_accepted g c number makes = call_made (texts c.args.words.now) c.in-Err.outcome c.in-Err.ensures.refused makes.accepted
 
-pub returns-in-Err-clause-made_sure : goal.returns-in-Err-clause-made_sure
-returns-in-Err-clause-made_sure g c number text makes is room = refl
+pub returns-in-Err-clause-reads : goal.returns-in-Err-clause-reads
+returns-in-Err-clause-reads g c = reads_nothing _ _ _ _ _ (names_read (texts c.args.words.now)) (reading_of c.in-Err.outcome) (call_count (texts c.args.words.now) c.in-Err.outcome c.in-Err.ensures.refused)
 
-pub returns-in-Err-clause-untouched : goal.returns-in-Err-clause-untouched
-returns-in-Err-clause-untouched g c = call_untouched (texts c.args.words.now) c.in-Err.outcome c.args.out.now c.in-Err.ensures.refused
+pub returns-in-Err-clause-writes : goal.returns-in-Err-clause-writes
+returns-in-Err-clause-writes g c = writes_nothing _ _ _ _ _ _ (call_unwritten (texts c.args.words.now) c.in-Err.outcome c.in-Err.ensures.refused)
 
-pub returns-in-Err-clause-named : goal.returns-in-Err-clause-named
-returns-in-Err-clause-named g c m t model names told_m =
-    subst (PutsLine g.E.Sink.taken g.E.Sink.sure g.E.Sink.faults c.args.err.now c.put_line.new.err) (call_line (texts c.args.words.now) c.in-Err.outcome (network_in model) c.in-Err.ensures.refused) c.put_line.ensures
+pub returns-in-Err-clause-line : goal.returns-in-Err-clause-line
+returns-in-Err-clause-line g c = ([], c.put_line.ensures, λ m t model names told_m. call_name (texts c.args.words.now) c.in-Err.outcome (network_in model) c.in-Err.ensures.refused)
 
 -- ---- once the model was accepted
 
@@ -101,7 +82,7 @@ read g c m t model names told_m =
 trace_told : (g : Given.Over) (c : goal.After-drop g) (m t trace : List ℕ) → Names (texts c.args.words.now) m t → g.F.Files.told c.args.files.now t ≡ Some trace
     → g.F.Files.told c.accept_model.new.files c.in-Named.trace.now ≡ Some trace
 trace_told g c m t trace names told_t =
-    c.accept_model.ensures.same_told c.in-Named.trace.now ∙ (ap (g.F.Files.told c.args.files.now) (sym (same_names (texts c.args.words.now) m t _ _ names (names_of g c)).1) ∙ told_t)
+    c.in-Ok-accept_model.ensures.reads.same_told c.in-Named.trace.now ∙ (ap (g.F.Files.told c.args.files.now) (sym (same_names (texts c.args.words.now) m t _ _ names (names_of g c)).1) ∙ told_t)
 
 -- the answer over the network is that to the named model
 same : (g : Given.Over) (c : goal.After-drop g) (m t model trace : List ℕ) → Names (texts c.args.words.now) m t → g.F.Files.told c.args.files.now m ≡ Some model
@@ -109,17 +90,6 @@ same : (g : Given.Over) (c : goal.After-drop g) (m t model trace : List ℕ) →
 same g c m t model trace names told_m =
     let is = read g c m t model names told_m in
     answer_is c.in-Ok-accept_model.plan.net model trace (asked_for c.in-Ok.settings) (wanted_by (texts c.args.words.now)) is.0 is.1 (wanted_is (texts c.args.words.now) c.in-Ok.settings c.in-Ok.ensures.asked)
-
--- the read of the model counted no fault
-calm : (g : Given.Over) (c : goal.After-drop g) → g.F.Files.faults c.accept_model.new.files ≡ g.F.Files.faults c.args.files.now
-calm g c = ok_quiet c.accept_model.result c.in-Ok-accept_model.plan _ c.in-Ok-accept_model.is c.accept_model.ensures.quiet
-
--- nor did that of a trace whose name is sure
-sure : (g : Given.Over) (c : goal.After-drop g) (m t : List ℕ) → Names (texts c.args.words.now) m t → g.F.Files.is_sure c.args.files.now t ≡ true
-    → g.F.Files.faults c.run_trace-outcome.new.files ≡ g.F.Files.faults c.accept_model.new.files
-sure g c m t names sure_t =
-    c.run_trace-outcome.ensures.sure_name
-    (c.accept_model.ensures.same_sure c.in-Named.trace.now ∙ (ap (g.F.Files.is_sure c.args.files.now) (sym (same_names (texts c.args.words.now) m t _ _ names (names_of g c)).1) ∙ sure_t))
 
 pub returns-in-Ok-accept_model-clause-ends : goal.returns-in-Ok-accept_model-clause-ends
 returns-in-Ok-accept_model-clause-ends g c m t model trace names told_m told_t =
@@ -145,78 +115,30 @@ returns-in-Ok-accept_model-clause-model_only g c m t model fault names told_m is
 pub returns-in-Ok-accept_model-clause-never : goal.returns-in-Ok-accept_model-clause-never
 returns-in-Ok-accept_model-clause-never g c = (λ e. subst IsLate e c.run_trace-outcome.ensures.late, λ e. subst IsLate e c.run_trace-outcome.ensures.late refl)
 
-pub returns-in-Ok-accept_model-clause-first : goal.returns-in-Ok-accept_model-clause-first
-returns-in-Ok-accept_model-clause-first g c e = elim (subst IsLate e c.run_trace-outcome.ensures.late) [ ]
-
-pub returns-in-Ok-accept_model-clause-second : goal.returns-in-Ok-accept_model-clause-second
-returns-in-Ok-accept_model-clause-second g c e = (
-  λ few. (second_read _ _ _ c.accept_model.ensures.counted c.run_trace-outcome.ensures.counted few, c.run_trace-outcome.ensures.failed e),
-  subst (λ n. Rose n (g.F.Files.faults c.run_trace-outcome.new.files)) (calm g c) (c.run_trace-outcome.ensures.files_rose e),
-)
-
-pub returns-in-Ok-accept_model-clause-reads : goal.returns-in-Ok-accept_model-clause-reads
-returns-in-Ok-accept_model-clause-reads g c asked =
-    late_reads c.run_trace-outcome.result (g.F.Files.reads c.args.files.now) (g.F.Files.reads c.run_trace-outcome.new.files)
-    (c.run_trace-outcome.ensures.counted ∙ ap next_count c.accept_model.ensures.counted) c.run_trace-outcome.ensures.late
-
-pub returns-in-Ok-accept_model-clause-first_name : goal.returns-in-Ok-accept_model-clause-first_name
-returns-in-Ok-accept_model-clause-first_name g c m t names sure_m few e = subst IsLate e c.run_trace-outcome.ensures.late
-
-pub returns-in-Ok-accept_model-clause-second_name : goal.returns-in-Ok-accept_model-clause-second_name
-returns-in-Ok-accept_model-clause-second_name g c m t names sure_t few e =
-    no_rise (g.F.Files.faults c.args.files.now) (g.F.Files.faults c.run_trace-outcome.new.files) (sure g c m t names sure_t ∙ calm g c) few
-    (subst (λ n. Rose n (g.F.Files.faults c.run_trace-outcome.new.files)) (calm g c) (c.run_trace-outcome.ensures.files_rose e))
-
-pub returns-in-Ok-accept_model-clause-unread : goal.returns-in-Ok-accept_model-clause-unread
-returns-in-Ok-accept_model-clause-unread g c fault is = some_is_none _ fault is c.in-Ok.ensures.asked.accepted
-
-pub returns-in-Ok-accept_model-clause-sure_names : goal.returns-in-Ok-accept_model-clause-sure_names
-returns-in-Ok-accept_model-clause-sure_names g c m t names sure_m sure_t = sure g c m t names sure_t ∙ calm g c
-
-pub returns-in-Ok-accept_model-clause-files_quiet : goal.returns-in-Ok-accept_model-clause-files_quiet
-returns-in-Ok-accept_model-clause-files_quiet g c = quiet_too _ _ _ (calm g c) c.run_trace-outcome.ensures.files_quiet
-
-pub returns-in-Ok-accept_model-clause-files_later : goal.returns-in-Ok-accept_model-clause-files_later
-returns-in-Ok-accept_model-clause-files_later g c = later_too _ _ _ c.accept_model.ensures.later c.run_trace-outcome.ensures.files_later
-
-pub returns-in-Ok-accept_model-clause-same_told : goal.returns-in-Ok-accept_model-clause-same_told
-returns-in-Ok-accept_model-clause-same_told g c n = c.run_trace-outcome.ensures.same_told n ∙ c.accept_model.ensures.same_told n
-
-pub returns-in-Ok-accept_model-clause-same_sure : goal.returns-in-Ok-accept_model-clause-same_sure
-returns-in-Ok-accept_model-clause-same_sure g c n = c.run_trace-outcome.ensures.same_sure n ∙ c.accept_model.ensures.same_sure n
-
-pub returns-in-Ok-accept_model-clause-write : goal.returns-in-Ok-accept_model-clause-write
-returns-in-Ok-accept_model-clause-write g c = c.run_trace-outcome.ensures.rose
-
-pub returns-in-Ok-accept_model-clause-out_quiet : goal.returns-in-Ok-accept_model-clause-out_quiet
-returns-in-Ok-accept_model-clause-out_quiet g c = c.run_trace-outcome.ensures.quiet
-
-pub returns-in-Ok-accept_model-clause-sure : goal.returns-in-Ok-accept_model-clause-sure
-returns-in-Ok-accept_model-clause-sure g c m t model trace text names told_m told_t is room =
-    c.run_trace-outcome.ensures.sure trace text (trace_told g c m t trace names told_t) (same g c m t model trace names told_m ∙ is) room
-
 pub returns-in-Ok-accept_model-clause-made : goal.returns-in-Ok-accept_model-clause-made
 returns-in-Ok-accept_model-clause-made g c number makes = elim (not_both (texts c.args.words.now) _ _ number (names_of g c) makes) [ ]
-
-pub returns-in-Ok-accept_model-clause-made_sure : goal.returns-in-Ok-accept_model-clause-made_sure
-returns-in-Ok-accept_model-clause-made_sure g c number text makes is room = elim (not_both (texts c.args.words.now) _ _ number (names_of g c) makes) [ ]
 
 pub returns-in-Ok-accept_model-clause-made_accepted : goal.returns-in-Ok-accept_model-clause-made_accepted
 returns-in-Ok-accept_model-clause-made_accepted g c number makes = elim (not_both (texts c.args.words.now) _ _ number (names_of g c) makes) [ ]
 
-pub returns-in-Ok-accept_model-clause-made_line : goal.returns-in-Ok-accept_model-clause-made_line
-returns-in-Ok-accept_model-clause-made_line g c number makes = elim (not_both (texts c.args.words.now) _ _ number (names_of g c) makes) [ ]
+pub returns-in-Ok-accept_model-clause-reads : goal.returns-in-Ok-accept_model-clause-reads
+returns-in-Ok-accept_model-clause-reads g c =
+    reads_some _ _ _ _ _ _ (names_read (texts c.args.words.now)) c.in-Named.model.now (c.in-Named.trace.now ∷ []) (reading_of c.run_trace-outcome.result) 2
+    (named_read (texts c.args.words.now) c.in-Named.model.now c.in-Named.trace.now (names_of g c)) (late_count c.run_trace-outcome.result c.run_trace-outcome.ensures.late)
+    (reads_both _ _ _ _ _ _ _ (c.in-Named.model.now ∷ []) c.in-Named.trace.now [] _ c.in-Ok-accept_model.ensures.reads c.run_trace-outcome.ensures.reads)
 
-pub returns-in-Ok-accept_model-clause-made_unread : goal.returns-in-Ok-accept_model-clause-made_unread
-returns-in-Ok-accept_model-clause-made_unread g c asked = elim (names_alone (texts c.args.words.now) _ _ (names_of g c) asked) [ ]
+pub returns-in-Ok-accept_model-clause-writes : goal.returns-in-Ok-accept_model-clause-writes
+returns-in-Ok-accept_model-clause-writes g c =
+    writes_wider _ _ _ _ _ (writing_of c.run_trace-outcome.result) _ _
+    (λ text is. record {
+      named = λ m t model trace names told_m told_t. subst (IsText text) (same g c m t model trace names told_m)
+          (told_is _ trace (λ bytes. IsText text (answer_over c.in-Ok-accept_model.plan.net bytes (asked_for c.in-Ok.settings))) (trace_told g c m t trace names told_t) is);
+      made = λ number makes. elim (not_both (texts c.args.words.now) _ _ number (names_of g c) makes) [ ];
+    }) c.run_trace-outcome.ensures.writes
 
-pub returns-in-Ok-accept_model-clause-untouched : goal.returns-in-Ok-accept_model-clause-untouched
-returns-in-Ok-accept_model-clause-untouched g c = c.run_trace-outcome.ensures.untouched
-
-pub returns-in-Ok-accept_model-clause-named : goal.returns-in-Ok-accept_model-clause-named
-returns-in-Ok-accept_model-clause-named g c m t model names told_m =
-    subst (λ text. PutsLine g.E.Sink.taken g.E.Sink.sure g.E.Sink.faults c.args.err.now c.put_line-in-Ok-accept_model.new.err (line_text text c.run_trace-outcome.result))
-    (c.name_of.ensures ∙ ap (λ net. name_of net c.run_trace-outcome.result) (read g c m t model names told_m).1) c.put_line-in-Ok-accept_model.ensures
+pub returns-in-Ok-accept_model-clause-line : goal.returns-in-Ok-accept_model-clause-line
+returns-in-Ok-accept_model-clause-line g c =
+    (_, c.put_line-in-Ok-accept_model.ensures, λ m t model names told_m. c.name_of.ensures ∙ ap (λ net. name_of net c.run_trace-outcome.result) (read g c m t model names told_m).1)
 
 -- ---- at the model
 
@@ -228,12 +150,6 @@ refused : (g : Given.Over) (c : goal.After-put_line-in-Err-accept_model g) (m t 
 refused g c m t model names told_m =
     subst (RefusesModel c.in-Err-accept_model.outcome)
     (ap (g.F.Files.told c.args.files.now) (sym (same_names (texts c.args.words.now) m t _ _ names (names_at_model g c)).0) ∙ told_m) c.in-Err-accept_model.ensures.refused
-
--- a name that is sure is read with no fault
-sure_model : (g : Given.Over) (c : goal.After-put_line-in-Err-accept_model g) (m t : List ℕ) → Names (texts c.args.words.now) m t → g.F.Files.is_sure c.args.files.now m ≡ true
-    → g.F.Files.faults c.accept_model.new.files ≡ g.F.Files.faults c.args.files.now
-sure_model g c m t names sure_m =
-    c.accept_model.ensures.sure (ap (g.F.Files.is_sure c.args.files.now) (sym (same_names (texts c.args.words.now) m t _ _ names (names_at_model g c)).0) ∙ sure_m)
 
 pub returns-in-Err-accept_model-clause-ends : goal.returns-in-Err-accept_model-clause-ends
 returns-in-Err-accept_model-clause-ends g c m t model trace names told_m told_t =
@@ -260,58 +176,23 @@ returns-in-Err-accept_model-clause-never g c = (
   λ e. subst (λ o. RefusesModel o (g.F.Files.told c.args.files.now c.in-Named.model.now)) e c.in-Err-accept_model.ensures.refused,
 )
 
-pub returns-in-Err-accept_model-clause-first : goal.returns-in-Err-accept_model-clause-first
-returns-in-Err-accept_model-clause-first g c e =
-    (λ few. (first_read _ _ c.accept_model.ensures.counted few, c.accept_model.ensures.failed (c.in-Err-accept_model.is ∙ ap Err e)), c.accept_model.ensures.rose (c.in-Err-accept_model.is ∙ ap Err e))
-
-pub returns-in-Err-accept_model-clause-second : goal.returns-in-Err-accept_model-clause-second
-returns-in-Err-accept_model-clause-second g c e = elim (subst (λ o. RefusesModel o (g.F.Files.told c.args.files.now c.in-Named.model.now)) e c.in-Err-accept_model.ensures.refused) [ ]
-
-pub returns-in-Err-accept_model-clause-reads : goal.returns-in-Err-accept_model-clause-reads
-returns-in-Err-accept_model-clause-reads g c asked =
-    model_reads (g.F.Files.told c.args.files.now c.in-Named.model.now) c.in-Err-accept_model.outcome (g.F.Files.reads c.args.files.now) (g.F.Files.reads c.accept_model.new.files)
-    c.accept_model.ensures.counted c.in-Err-accept_model.ensures.refused
-
-pub returns-in-Err-accept_model-clause-first_name : goal.returns-in-Err-accept_model-clause-first_name
-returns-in-Err-accept_model-clause-first_name g c m t names sure_m few e =
-    no_rise (g.F.Files.faults c.args.files.now) (g.F.Files.faults c.accept_model.new.files) (sure_model g c m t names sure_m) few (c.accept_model.ensures.rose (c.in-Err-accept_model.is ∙ ap Err e))
-
-pub returns-in-Err-accept_model-clause-second_name : goal.returns-in-Err-accept_model-clause-second_name
-returns-in-Err-accept_model-clause-second_name g c m t names sure_t few e =
-    subst (λ o. RefusesModel o (g.F.Files.told c.args.files.now c.in-Named.model.now)) e c.in-Err-accept_model.ensures.refused
-
-pub returns-in-Err-accept_model-clause-unread : goal.returns-in-Err-accept_model-clause-unread
-returns-in-Err-accept_model-clause-unread g c fault is = some_is_none _ fault is c.in-Ok.ensures.asked.accepted
-
-pub returns-in-Err-accept_model-clause-sure_names : goal.returns-in-Err-accept_model-clause-sure_names
-returns-in-Err-accept_model-clause-sure_names g c m t names sure_m sure_t = sure_model g c m t names sure_m
-
-pub returns-in-Err-accept_model-clause-files_quiet : goal.returns-in-Err-accept_model-clause-files_quiet
-returns-in-Err-accept_model-clause-files_quiet g c = err_quiet c.accept_model.result c.in-Err-accept_model.outcome (ReadFault false) c.in-Err-accept_model.is c.accept_model.ensures.quiet
-
-pub returns-in-Err-accept_model-clause-write : goal.returns-in-Err-accept_model-clause-write
-returns-in-Err-accept_model-clause-write g c e = elim (subst (λ o. RefusesModel o (g.F.Files.told c.args.files.now c.in-Named.model.now)) e c.in-Err-accept_model.ensures.refused) [ ]
-
 pub returns-in-Err-accept_model-clause-made : goal.returns-in-Err-accept_model-clause-made
 returns-in-Err-accept_model-clause-made g c number makes = elim (not_both (texts c.args.words.now) _ _ number (names_at_model g c) makes) [ ]
 
 pub returns-in-Err-accept_model-clause-made_accepted : goal.returns-in-Err-accept_model-clause-made_accepted
 returns-in-Err-accept_model-clause-made_accepted g c number makes = elim (not_both (texts c.args.words.now) _ _ number (names_at_model g c) makes) [ ]
 
-pub returns-in-Err-accept_model-clause-made_unread : goal.returns-in-Err-accept_model-clause-made_unread
-returns-in-Err-accept_model-clause-made_unread g c asked = elim (names_alone (texts c.args.words.now) _ _ (names_at_model g c) asked) [ ]
+pub returns-in-Err-accept_model-clause-reads : goal.returns-in-Err-accept_model-clause-reads
+returns-in-Err-accept_model-clause-reads g c =
+    reads_some _ _ _ _ _ _ (names_read (texts c.args.words.now)) c.in-Named.model.now (c.in-Named.trace.now ∷ []) (reading_of c.in-Err-accept_model.outcome) 1
+    (named_read (texts c.args.words.now) c.in-Named.model.now c.in-Named.trace.now (names_at_model g c)) (model_count _ c.in-Err-accept_model.outcome c.in-Err-accept_model.ensures.refused) c.in-Err-accept_model.ensures.reads
 
-pub returns-in-Err-accept_model-clause-made_sure : goal.returns-in-Err-accept_model-clause-made_sure
-returns-in-Err-accept_model-clause-made_sure g c number text makes is room = refl
+pub returns-in-Err-accept_model-clause-writes : goal.returns-in-Err-accept_model-clause-writes
+returns-in-Err-accept_model-clause-writes g c = writes_nothing _ _ _ _ _ _ (model_unwritten _ c.in-Err-accept_model.outcome c.in-Err-accept_model.ensures.refused)
 
-pub returns-in-Err-accept_model-clause-untouched : goal.returns-in-Err-accept_model-clause-untouched
-returns-in-Err-accept_model-clause-untouched g c =
-    model_untouched (g.F.Files.told c.args.files.now c.in-Named.model.now) c.in-Err-accept_model.outcome c.args.out.now c.in-Err-accept_model.ensures.refused
-
-pub returns-in-Err-accept_model-clause-named : goal.returns-in-Err-accept_model-clause-named
-returns-in-Err-accept_model-clause-named g c m t model names told_m =
-    subst (PutsLine g.E.Sink.taken g.E.Sink.sure g.E.Sink.faults c.args.err.now c.put_line-in-Err-accept_model.new.err)
-    (model_line (g.F.Files.told c.args.files.now c.in-Named.model.now) c.in-Err-accept_model.outcome (network_in model) c.in-Err-accept_model.ensures.refused) c.put_line-in-Err-accept_model.ensures
+pub returns-in-Err-accept_model-clause-line : goal.returns-in-Err-accept_model-clause-line
+returns-in-Err-accept_model-clause-line g c =
+    ([], c.put_line-in-Err-accept_model.ensures, λ m t model names told_m. model_name _ c.in-Err-accept_model.outcome (network_in model) c.in-Err-accept_model.ensures.refused)
 
 -- ---- a made input
 
@@ -328,9 +209,6 @@ same_made g c number makes =
 pub returns-in-Made-clause-made : goal.returns-in-Made-clause-made
 returns-in-Made-clause-made g c number makes =
     subst (λ a. Ends a c.run_made.result (takings g.O.Sink.taken g.O.Sink.sure c.args.out.now c.run_made.new.out)) (same_made g c number makes) c.run_made.ensures.ends
-
-pub returns-in-Made-clause-made_sure : goal.returns-in-Made-clause-made_sure
-returns-in-Made-clause-made_sure g c number text makes is room = c.run_made.ensures.sure text (same_made g c number makes ∙ is) room
 
 pub returns-in-Made-clause-made_accepted : goal.returns-in-Made-clause-made_accepted
 returns-in-Made-clause-made_accepted g c number makes = c.run_made.ensures.made
@@ -356,32 +234,18 @@ returns-in-Made-clause-model_only g c m t model fault names told_m is = elim (su
 pub returns-in-Made-clause-never : goal.returns-in-Made-clause-never
 returns-in-Made-clause-never g c = (λ e. subst IsOfMade e c.run_made.ensures.made, λ e. subst IsOfMade e c.run_made.ensures.made)
 
-pub returns-in-Made-clause-first : goal.returns-in-Made-clause-first
-returns-in-Made-clause-first g c e = elim (subst IsOfMade e c.run_made.ensures.made) [ ]
-
-pub returns-in-Made-clause-second : goal.returns-in-Made-clause-second
-returns-in-Made-clause-second g c e = elim (subst IsOfMade e c.run_made.ensures.made) [ ]
-
 pub returns-in-Made-clause-reads : goal.returns-in-Made-clause-reads
-returns-in-Made-clause-reads g c asked = absurd (true≢false (sym (makes_asks (texts c.args.words.now) c.in-Made.number (makes_of g c)) ∙ asked))
+returns-in-Made-clause-reads g c =
+    reads_nothing _ _ _ _ _ (names_read (texts c.args.words.now)) (reading_of c.run_made.result)
+    (made_count (texts c.args.words.now) c.run_made.result (makes_asks (texts c.args.words.now) c.in-Made.number (makes_of g c)) c.run_made.ensures.made)
 
-pub returns-in-Made-clause-first_name : goal.returns-in-Made-clause-first_name
-returns-in-Made-clause-first_name g c m t names sure_m few e = subst IsOfMade e c.run_made.ensures.made
+pub returns-in-Made-clause-writes : goal.returns-in-Made-clause-writes
+returns-in-Made-clause-writes g c =
+    writes_wider _ _ _ _ _ (writing_of c.run_made.result) _ _
+    (λ text is. record {
+      named = λ m t model trace names told_m told_t. elim (not_both (texts c.args.words.now) m t _ names (makes_of g c)) [ ];
+      made = λ number makes. subst (IsText text) (same_made g c number makes) is;
+    }) c.run_made.ensures.writes
 
-pub returns-in-Made-clause-second_name : goal.returns-in-Made-clause-second_name
-returns-in-Made-clause-second_name g c m t names sure_t few e = subst IsOfMade e c.run_made.ensures.made
-
-pub returns-in-Made-clause-write : goal.returns-in-Made-clause-write
-returns-in-Made-clause-write g c = c.run_made.ensures.rose
-
-pub returns-in-Made-clause-out_quiet : goal.returns-in-Made-clause-out_quiet
-returns-in-Made-clause-out_quiet g c = c.run_made.ensures.quiet
-
-pub returns-in-Made-clause-sure : goal.returns-in-Made-clause-sure
-returns-in-Made-clause-sure g c m t model trace text names told_m told_t is room = elim (not_both (texts c.args.words.now) m t _ names (makes_of g c)) [ ]
-
-pub returns-in-Made-clause-untouched : goal.returns-in-Made-clause-untouched
-returns-in-Made-clause-untouched g c = c.run_made.ensures.untouched
-
-pub returns-in-Made-clause-named : goal.returns-in-Made-clause-named
-returns-in-Made-clause-named g c m t model names told_m = elim (not_both (texts c.args.words.now) m t _ names (makes_of g c)) [ ]
+pub returns-in-Made-clause-line : goal.returns-in-Made-clause-line
+returns-in-Made-clause-line g c = ([], c.run_made.ensures.line, λ m t model names told_m. elim (not_both (texts c.args.words.now) m t _ names (makes_of g c)) [ ])

@@ -1,0 +1,65 @@
+-- How files change that are read one after another.
+use Rattle.std.specs.Prelude.{◌≡◌, ◌≤◌, ℕ, zero, suc, Bool, true, false, List, [], ◌∷◌, length, take, Option, Some, None, Result, Ok, Err}
+use Rattle.mq_outside.specs.declared.outside.FileFault.{FileFault}
+use Rattle.mq_outside.specs.declared.outside.FileFault.TheVariants as fault
+use Rattle.mq_outside.specs.Outside.{Rose, next_count}
+
+-- a count so many reads later
+abbrev pub counted : ℕ → ℕ → ℕ
+counted zero count = count
+counted (suc reads) count = next_count (counted reads count)
+
+-- the last of these names
+abbrev pub last_of : List (List ℕ) → Option (List ℕ)
+last_of [] = None
+last_of (name ∷ []) = Some name
+last_of (name ∷ next ∷ names) = last_of (next ∷ names)
+
+-- These names were read, one after another, and none but maybe the last read failed: then the count of faults rose in that
+-- read, and else it stands; it stands too where the last name is sure, and never falls. What is told of names, and which are
+-- sure, stays.
+pub record ReadsNames {F : Type 0} (told : F → List ℕ → Option (List ℕ)) (is_sure : F → List ℕ → Bool) (reads faults : F → ℕ) (before after : F) (names : List (List ℕ)) (failed : Bool) : Type 0 where
+  pub counts : reads after ≡ counted (length names) (reads before)
+  pub later : faults before ≤ faults after
+  pub at : failed ≡ true → faults after ≡ reads after
+  pub rose : failed ≡ true → Rose (faults before) (faults after)
+  pub quiet : failed ≡ false → faults after ≡ faults before
+  pub sure : (name : List ℕ) → last_of names ≡ Some name → is_sure before name ≡ true → faults after ≡ faults before
+  pub same_told : (name : List ℕ) → told after name ≡ told before name
+  pub same_sure : (name : List ℕ) → is_sure after name ≡ is_sure before name
+
+-- a read failed
+abbrev pub has_failed : {A : Type 0} → Result A FileFault → Bool
+has_failed (Ok x) = false
+has_failed (Err fault.Failed) = true
+has_failed (Err fault.TooLong) = false
+has_failed (Err fault.Memory) = false
+
+-- How far a call comes with the names that it reads: through all of them; up to one, from 1, whose file it refuses, or whose
+-- read failed; or anywhere, since want of memory may come before each read and behind the last.
+pub data Reading : Type 0 where
+  Through : Reading
+  UpTo : ℕ → Reading
+  FailedAt : ℕ → Reading
+  Anywhere : Reading
+
+-- so many of all the names are read by a call that comes so far
+abbrev pub IsReadCount : Reading → (all count : ℕ) → Type 0
+IsReadCount Through all count = count ≡ all
+IsReadCount (UpTo word) all count = (count ≡ word) × (1 ≤ word) × (word ≤ all)
+IsReadCount (FailedAt word) all count = (count ≡ word) × (1 ≤ word) × (word ≤ all)
+IsReadCount Anywhere all count = count ≤ all
+
+-- its last read failed
+abbrev pub is_unread : Reading → Bool
+is_unread Through = false
+is_unread (UpTo word) = false
+is_unread (FailedAt word) = true
+is_unread Anywhere = false
+
+-- These names were read, in their order, as far as the call came. Where there are none the files are as before.
+pub record ReadsFirst {F : Type 0} (told : F → List ℕ → Option (List ℕ)) (is_sure : F → List ℕ → Bool) (reads faults : F → ℕ) (before after : F) (names : List (List ℕ)) (reading : Reading) : Type 0 where
+  pub count : ℕ
+  pub is_count : IsReadCount reading (length names) count
+  pub first : ReadsNames told is_sure reads faults before after (take count names) (is_unread reading)
+  pub unread : names ≡ [] → after ≡ before
