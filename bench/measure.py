@@ -1,9 +1,16 @@
 """What the scripts beside this one share: the inputs that mpsim is timed on, and how a run is measured."""
+import ctypes
 import os
 import random
 import subprocess
 import time
 from collections import namedtuple
+
+MEMORY = os.path.join(os.path.dirname(os.path.dirname(os.path.abspath(__file__))), "tools", "memory.sh")
+# The first word of `prctl` for a process that takes in those whose parents end, as <linux/prctl.h> has it.
+SUBREAPER = 36
+# A shell that sets a variable, tells that it is ready, waits until its input ends, and ends while the command goes on.
+BEGINS = 'export "$1"; shift; echo; read -r line; "$@" </dev/null &'
 
 # The lines of a model behind its sources, the columns of its trace and what they hold: a number below this one, or this
 # text. From one record to the next the time grows by a number below `step`, or by 1 where that is 0. The model is of this version.
@@ -102,3 +109,38 @@ def measure(words):
 
 def least(runs):
     return min(run.seconds for run in runs)
+
+
+def memory_settings():
+    """The settings of memory that the scripts at the top folder run their programs with, as NAME=VALUE."""
+    words = ["sh", "-c", '. "$0"; echo "GLIBC_TUNABLES=$GLIBC_TUNABLES"', MEMORY]
+    return subprocess.run(words, check=True, stdout=subprocess.PIPE, text=True).stdout.rstrip("\n")
+
+
+def measure_small(words, setting):
+    """As `measure`, of a run that may take little memory, with a variable of the environment set, as NAME=VALUE.
+
+    The system counts for a child what its parent took as it began it, of this interpreter some 15 MB. So a shell begins the run and ends at once, and
+    the run, which has no parent then, is taken in. The clock begins when the shell is ready.
+    """
+    if ctypes.CDLL(None, use_errno=True).prctl(SUBREAPER, 1, 0, 0, 0):
+        raise OSError(ctypes.get_errno(), "no process is taken in whose parent ends")
+    pipes = dict.fromkeys(("stdin", "stdout", "stderr"), subprocess.PIPE)
+    with subprocess.Popen(["sh", "-c", BEGINS, "sh", setting, *words], **pipes) as shell:
+        shell.stdout.readline()
+        began = time.perf_counter()
+        shell.stdin.close()
+        out, err = shell.stdout.read(), shell.stderr.read()
+        ends = [os.wait4(-1, 0) for _ in ("the shell", "the run")]
+        seconds = time.perf_counter() - began
+        shell.returncode = 0
+    status, usage = next(it[1:] for it in ends if it[0] != shell.pid)
+    return Measure(seconds, usage.ru_utime + usage.ru_stime, usage.ru_maxrss / 1024, os.waitstatus_to_exitcode(status), out, err)
+
+
+def processors():
+    """What all processors of the machine worked since it began, and what its host took from them (`steal`), in seconds."""
+    with open("/proc/stat") as file:
+        user, nice, system, _, _, interrupts, soft, steal = map(int, file.readline().split()[1:9])
+    ticks = os.sysconf("SC_CLK_TCK")
+    return (user + nice + system + interrupts + soft) / ticks, steal / ticks
