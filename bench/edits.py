@@ -12,7 +12,7 @@ import argparse
 import os
 import tempfile
 
-from bench import INPUTS, measure, write_model, write_trace
+from measure import INPUTS, measure, write_model, write_trace
 
 # Where the row stands that is edited, in parts of the trace.
 PLACES = {"first": 0.005, "middle": 0.5, "last": 0.995}

@@ -1,0 +1,130 @@
+#!/usr/bin/env python3
+"""Times mpsim as its input grows, over rows and over nodes, and makes the tables of docs/TIMES.md, which it prints, and docs/growth.svg.
+
+usage: growth.py PROGRAM [--runs R] [--rows N,..] [--servers N,..] [--over N] [--workers N,..] [--keep FILE] [--out FILE]
+       growth.py --numbers FILE [--out FILE]
+PROGRAM is the built program. It is run as its script runs it, with the settings of memory of tools/memory.sh, but without the milliseconds that
+the script takes. Over rows: a server, the call centre and twelve stations in a row, inputs of bench.py. Over nodes: a source and servers in a
+row, as many as --servers says (63 at most, since a network has 64 nodes), over a trace of --over rows. Each by so many workers, R times in turn,
+in form 2. Where a run fails, or writes another report than the others of its input, the series ends.
+--keep writes the numbers into a file, of which --numbers makes tables and picture again; --out names the picture. Of {} it has no marks.
+"""
+import argparse
+import json
+import os
+import sys
+import tempfile
+import time
+
+from growth_picture import STYLES, Point, picture, tables
+from measure import INPUTS, Input, least, measure_small, memory_settings, processors, write_model, write_trace
+
+PICTURE = os.path.join(os.path.dirname(os.path.dirname(os.path.abspath(__file__))), "docs", "growth.svg")
+OVER_ROWS = "server", "call-centre", "twelve"
+OVER = 250_000
+# The figures of a series, and what each is where nothing was measured.
+NUMBERS = {"runs": 0, "took": 0, "others": 0, "steal": 0, "over": OVER, "rows": [], "nodes": []}
+
+
+def count(word):
+    """A whole number from 1 on."""
+    if int(word) < 1:
+        raise ValueError
+    return int(word)
+
+
+def counts(words):
+    """Numbers between commas, the least first."""
+    return sorted(count(it) for it in words.split(","))
+
+
+def in_a_row(servers):
+    """A source and so many servers, with the demands of the two columns by turns."""
+    names = ["src", *(f"s{number}" for number in range(1, servers + 1))]
+    return Input(["src"], [f"server {name} {'de'[at % 2]} from {names[at]}" for at, name in enumerate(names[1:])], {"d": 9, "e": 9}, 10)
+
+
+def points_of(args, setting, name, at, model, trace):
+    """The points of an input at one size. All numbers of workers run in turn, so that a slow minute is one for all."""
+    runs = {workers: [] for workers in args.workers}
+    for workers in args.workers * args.runs:
+        run = measure_small([args.program, model, trace, "--report", "2", "--workers", str(workers)], setting)
+        runs[workers].append(run)
+        if run.status or run.out != runs[args.workers[0]][0].out:
+            told = f"status {run.status}: {run.err.decode(errors='replace').strip()}" if run.status else "another report"
+            sys.exit(f"growth: {STYLES[name].name}, {at:,}, --workers {workers}: {told}")
+    points = [Point(name, at, workers, round(least(done), 6), round(max(it.megabytes for it in done), 2)) for workers, done in runs.items()]
+    print(f"{STYLES[name].name}, {at:,}:", *(f"{it.seconds:.4f}" for it in points), file=sys.stderr, flush=True)
+    return points
+
+
+def series(args):
+    """Runs all, and gives the numbers of it."""
+    began, before, setting, rows, nodes = time.monotonic(), processors(), memory_settings(), [], []
+    with tempfile.TemporaryDirectory() as folder:
+        model, trace = (os.path.join(folder, name) for name in ("model", "trace"))
+        for name in OVER_ROWS:
+            write_model(model, INPUTS[name])
+            for at in args.rows:
+                write_trace(trace, INPUTS[name], at)
+                rows += points_of(args, setting, name, at, model, trace)
+        write_trace(trace, in_a_row(1), args.over)
+        for at in args.servers:
+            write_model(model, in_a_row(at))
+            nodes += points_of(args, setting, "row", at, model, trace)
+    took = time.monotonic() - began
+    worked, steal = (after - then for after, then in zip(processors(), before))
+    others = max(0.0, worked - sum(os.times()[:4]))
+    figures = {name: round(it, 2) for name, it in (("took", took), ("others", others), ("steal", steal))}
+    return {"runs": args.runs, **figures, "over": args.over, "rows": rows, "nodes": nodes}
+
+
+def kept(numbers):
+    """The text of the numbers, a line for each point."""
+    parts = []
+    for name, value in numbers.items():
+        points = ",\n  ".join(json.dumps(it._asdict()) for it in value) if name in ("rows", "nodes") else None
+        parts.append(f'"{name}": ' + (json.dumps(value) if points is None else f"[\n  {points}\n ]"))
+    return "{\n " + ",\n ".join(parts) + "\n}\n"
+
+
+def read(path):
+    """The numbers of a file that --keep wrote."""
+    try:
+        with open(path) as file:
+            numbers = {**NUMBERS, **json.load(file)}
+        for name in "rows", "nodes":
+            numbers[name] = [Point(**it) for it in numbers[name]]
+            if not all(it.input in STYLES and min(it.at, it.workers, it.seconds) > 0 for it in numbers[name]):
+                raise ValueError
+        return numbers
+    except (OSError, TypeError, ValueError) as fault:
+        sys.exit(f"growth: {path}: {fault.strerror if isinstance(fault, OSError) else 'not what --keep writes'}")
+
+
+def main():
+    parser = argparse.ArgumentParser(description=__doc__, formatter_class=argparse.RawDescriptionHelpFormatter)
+    parser.add_argument("program", nargs="?")
+    parser.add_argument("--runs", type=count, default=5)
+    parser.add_argument("--rows", type=counts, default=[62_500, 125_000, 250_000, 500_000, 1_000_000])
+    parser.add_argument("--servers", type=counts, default=[1, 2, 4, 8, 16, 32, 63])
+    parser.add_argument("--over", type=count, default=OVER)
+    parser.add_argument("--workers", type=counts, default=[1, 2, 3, 4])
+    parser.add_argument("--keep")
+    parser.add_argument("--numbers")
+    parser.add_argument("--out", default=PICTURE)
+    args = parser.parse_args()
+    if bool(args.program) == bool(args.numbers):
+        parser.error("either PROGRAM or --numbers")
+    numbers = read(args.numbers) if args.numbers else series(args)
+    if args.keep:
+        with open(args.keep, "w") as file:
+            file.write(kept(numbers))
+    with open(args.out, "w") as file:
+        file.write(picture(numbers))
+    for line in tables(numbers):
+        print(line)
+
+
+if __name__ == "__main__":
+    main()
