@@ -1,4 +1,4 @@
 mod Cases
-mod Clauses
+pub mod Clauses
 mod FileFacts
 mod Told

@@ -22,7 +22,7 @@ use Rattle.mq_model.specs.declared.fault.ModelFault.{ModelFault}
 use Rattle.mq_trace.specs.Trace.{rows_in, trace_fault}
 use Rattle.mq_trace.specs.declared.fault.TraceFault.{TraceFault}
 use Rattle.mq_edit.specs.Answer.{Answer, after_answer, answer_told, before_answer, edited_report, edits_answer, edits_told, model_answer, refused_by, run_answer, trace_answer, trace_told}
-use Rattle.mq_edit.specs.Answer.Answer.{Refused, Reported}
+use Rattle.mq_edit.specs.Answer.Answer.{Reported}
 use Rattle.mq_edit.specs.Ends.{Breaks, Ends, IsText, RefusesModel}
 use Rattle.mq_edit.specs.Words.{name_at, names_read, refuses_words}
 use Rattle.mq_edit.proofs.FileFacts.{if_told}

@@ -2,4 +2,4 @@ pub mod QueueRule
 pub mod Runs
 pub mod Texts
 pub mod Files
-mod Clauses
+pub mod Clauses

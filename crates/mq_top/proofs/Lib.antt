@@ -1,4 +1,4 @@
 pub mod Told
 pub mod MadeRuns
 pub mod Exits
-mod Clauses
+pub mod Clauses
