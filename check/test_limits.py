@@ -50,6 +50,23 @@ node f fork in 262144 out 262144 lost 0 held 0 wait 0 max 0 busy 0 area 0 peak 0
 node w delay in 1048576 out 1048576 lost 0 held 0 wait 0 max 0 busy 0 area 0 peak 1 util -
 exit w.0 1048576 sojourn 0
 """
+# Stations whose jobs leave in the order in which they came, one behind the other.
+IN_TURN = """model 1
+source src
+server a =1 from src
+tandem t =1 / 1 =0 from a
+forkjoin f =0 | =1 from t
+server b =0 from f
+"""
+ALL_IN_TURN = """mpsim report 1
+jobs 1048576 span 1048578
+node src source in 1048576 out 1048576 lost 0 wait 0 max 0 busy 0 area 0 peak 0 util -
+node a server in 1048576 out 1048576 lost 0 wait 549755289600 max 1048575 busy 1048576 area 549756338176 peak 1048576 util 0.9999
+node t tandem in 1048576 out 1048576 lost 0 wait 0 max 0 busy 1048576 area 1048576 peak 1 util 0.4999
+node f forkjoin in 1048576 out 1048576 lost 0 wait 0 max 0 busy 1048576 area 1048576 peak 1 util 0.4999
+node b server in 1048576 out 1048576 lost 0 wait 0 max 0 busy 0 area 0 peak 1 util 0.0000
+exit b.0 1048576 sojourn 549758435328
+"""
 # Four forks in a row, a fifth, and a server, which passes the bound.
 FIVE_FORKS = """model 2
 bound 5
@@ -108,6 +125,12 @@ class Limits(Check):
         model = self.file("four.txt", FOUR_VISITS)
         self.writes(MOST_VISITS, model, self.file("trace.csv", records(262144)))
         self.refuses_texts(9, "mpsim: node w has 1048580 visits", model, records(262145))
+
+    def test_visits_in_turn(self):
+        """As many visits as a node may have, at stations of which no visits are made, each read by the next."""
+        model, trace = self.file("turn.txt", IN_TURN), self.file("trace.csv", records(1048576))
+        for workers in "1", "4":
+            self.writes(ALL_IN_TURN, model, trace, "--workers", workers)
 
     def test_visits_behind_forks(self):
         """Behind four forks in a row a few thousand rows are too many. What stands behind the fifth isn't run: it would pass the bound."""
