@@ -1,5 +1,5 @@
 -- The latest departures, as many as there are servers, tell as much as all do.
-use Rattle.std.proofs.Common.{◌≡◌, ℕ, zero, suc, ◌<◌, ◌≤◌, Bool, true, false, List, [], ◌∷◌, length, replicate, Some, refl, ap, ◌∙◌, arith}
+use Rattle.std.proofs.Common.{◌≡◌, ℕ, zero, suc, ◌<◌, ◌≤◌, Bool, true, false, List, [], ◌∷◌, ◌++◌, length, replicate, drop, take, Some, refl, sym, ap, ◌∙◌, subst, arith}
 use Rattle.std.specs.Prelude.{min, nat_lt, slice_get, slice_index, if◌then◌else◌}
 use Rattle.std.proofs.lemmas.List.{length-replicate}
 use Rattle.std.proofs.lemmas.Option.{slice_get-get_or}
@@ -92,6 +92,33 @@ length-by time other times false s k = ap suc k
 pub place-length : (time : ℕ) (times : List ℕ) → length (take_place time times) ≡ length times
 place-length time [] = refl
 place-length time (other ∷ times) = length-by time other times (nat_lt other time) (place-length other times) (place-length time times)
+
+-- what is left of times that fall, behind as many as come after a time
+pub record IsBehind (time place : ℕ) (times : List ℕ) : Type 0 where
+  pub same : take place times ++ take_place time (drop place times) ≡ take_place time times
+  pub first : busy_at time (drop place times) ≡ 0
+  pub falls : IsFalling (drop place times)
+
+behind-by : (time other : ℕ) (times : List ℕ) (b : Bool) → nat_lt time other ≡ b → IsFalling (other ∷ times) → IsBehind time (busy_at time times) times →
+    IsBehind time (busy_at time (other ∷ times)) (other ∷ times)
+behind-by time other times true e f h =
+    let more : suc (busy_at time times) ≡ busy_at time (other ∷ times) = grind (arith, nat_tests) in
+    let past : false ≡ nat_lt other time = grind (arith, nat_tests) in
+    subst (λ n. IsBehind time n (other ∷ times)) more (record {
+      same = ap (λ ts. other ∷ ts) h.same ∙ ap (λ b. if b then (time ∷ take_place other times) else (other ∷ take_place time times)) past;
+      first = h.first;
+      falls = h.falls;
+    })
+behind-by time other times false e f h =
+    let none = f.0 in
+    let least : busy_at time times ≤ busy_at other times = busy-least other time times (grind (arith, nat_tests)) in
+    let zero' : 0 ≡ busy_at time (other ∷ times) = grind (arith, nat_tests) in
+    subst (λ n. IsBehind time n (other ∷ times)) zero' (record { same = refl; first = sym zero'; falls = f })
+
+-- one takes its place behind those that come after it
+pub place-behind : (time : ℕ) (times : List ℕ) → IsFalling times → IsBehind time (busy_at time times) times
+place-behind time [] f = record { same = refl; first = refl; falls = f }
+place-behind time (other ∷ times) f = behind-by time other times (nat_lt time other) refl f (place-behind time times f.1)
 
 none-busy : (now count : ℕ) → busy_at now (replicate count 0) ≡ 0
 none-busy now zero = refl

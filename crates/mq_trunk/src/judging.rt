@@ -1,4 +1,4 @@
-ghost use Rattle.std.specs.Prelude.{◌≡◌, ◌+◌, ◌<◌, nat_lt};
+ghost use Rattle.std.specs.Prelude.{◌≡◌, ◌+◌, ◌<◌, ◌≤◌, length, nat_lt};
 ghost use Rattle.mq_trunk.specs.Kept.{IsFalling, take_place};
 ghost use Rattle.mq_core.specs.Recurrences.{busy_at};
 
@@ -33,22 +33,40 @@ pub fn busy_among(latest: &[u64], now: u64) -> usize
     low
 }
 
-// Puts one departure more in its place among these, the latest first; the earliest goes.
+// How many of these departures, the latest first, may come after this time, as far as a judgement asks: all,
+// or one fewer where the earliest doesn't.
+pub fn busy_at_most(latest: &[u64], now: u64) -> usize
+    requires { IsFalling latest.now }
+    ensures within { result ≤ length latest.now }
+    ensures most { busy_at now latest.now ≤ result }
+    ensures all { length latest.now ≤ result → busy_at now latest.now ≡ result }
+{
+    let servers = latest.len();
+    if servers > 0 && latest[servers - 1] <= now {
+        servers - 1
+    } else {
+        servers
+    }
+}
+
+// Puts one departure more in its place among these, the latest first: each from there on moves one place
+// further, and the earliest goes.
 fn put_in_place(latest: &mut [u64], depart: u64)
+    requires { IsFalling latest.old }
     ensures { latest.new ≡ take_place depart latest.old }
 {
+    let place = busy_among(latest, depart);
     let mut held = depart;
-    for at in 0..latest.len() {
+    for at in place..latest.len() {
         let other = latest[at];
-        if other < held {
-            latest[at] = held;
-            held = other;
-        }
+        latest[at] = held;
+        held = other;
     }
 }
 
 // The same in a vector.
 pub fn keep_latest(latest: &mut Vec<u64>, depart: u64)
+    requires { IsFalling latest.old.items }
     ensures { latest.new.items ≡ take_place depart latest.old.items }
 {
     put_in_place(latest.as_mut_slice(), depart);

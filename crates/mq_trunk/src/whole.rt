@@ -27,6 +27,7 @@ fn has_server(latest: &[u64], servers: u8, arrive: u64) -> bool
 
 // The latest departures behind one more job, which departs where it is admitted.
 fn follow(latest: &mut Vec<u64>, admit: bool, depart: u64)
+    requires { IsFalling latest.old.items }
     ensures { latest.new.items ≡ (if admit then take_place depart latest.old.items else latest.old.items) }
 {
     if admit {

@@ -3,7 +3,7 @@ ghost use Rattle.mq_core.specs.Recurrences.{busy_at};
 ghost use Rattle.mq_trunk.specs.Kept.{IsFalling, IsKept};
 ghost use Rattle.mq_trunk.specs.Rounds.{trunk_rule};
 
-use crate::judging::{busy_among, judge_trunk, keep_latest};
+use crate::judging::{busy_at_most, judge_trunk, keep_latest};
 use mq_base::{List, Steps};
 use mq_core::Stream;
 use mq_rounds::Judge;
@@ -24,7 +24,7 @@ fn judge_arrival<L: Ledger>(latest: &[u64], servers: u8, arrive: u64, steps: &mu
     ensures answer { result ≡ nat_lt (busy_at arrive latest.now) servers }
     ensures cost { steps.new ≡ steps.old + 1 }
 {
-    judge_trunk(busy_among(latest, arrive) as u32, servers, steps)
+    judge_trunk(busy_at_most(latest, arrive) as u32, servers, steps)
 }
 
 impl Judge for Group {
