@@ -22,6 +22,7 @@ use Rattle.mq_stations.specs.Leaving.{AreServed, IsLoad}
 use Rattle.mq_exits.specs.Afters.{IsServed}
 use Rattle.mq_exits.specs.Loads.{IsLoaded}
 use Rattle.mq_exits.specs.Splits.{AreSplitGroup, IsSplitAt}
+use Rattle.mq_exits.proofs.InOrder.{in-turn-served}
 use Rattle.mq_engine.specs.Loads.{IsRouted, IsScanOf, IsScanned, IsSplitPart}
 use Rattle.mq_engine.specs.declared.firsts.Part.{Part}
 use Rattle.mq_engine.specs.declared.firsts.Part.TheVariants.{Routed}
@@ -76,7 +77,7 @@ forkjoin-sound plan rows v arrivals scan its l e =
 -- what its blocks give, or its single pass, is when its jobs depart
 served-at : (plan : Plan) (rows : Rows) (v : ℕ) (arrivals : Stream) (kind : Kind) (departs : List ℕ) → (l : IsLoaded plan rows v arrivals) → l.node.kind ≡ kind → AreServed rows kind arrivals departs → IsServed plan rows v arrivals departs
 served-at plan rows v arrivals kind departs l e s =
-    λ node there. let same : l.node ≡ node = some_inj _ _ (sym l.there ∙ there) in subst (λ (k : Kind). AreServed rows k arrivals departs) (sym e ∙ ap (λ (n : Node). n.kind) same) s
+    λ node there. let same : l.node ≡ node = some_inj _ _ (sym l.there ∙ there) in in-turn-served rows node.kind arrivals departs (subst (λ (k : Kind). AreServed rows k arrivals departs) (sym e ∙ ap (λ (n : Node). n.kind) same) s)
 
 pub server-leaves : (plan : Plan) (rows : Rows) (v : ℕ) (arrivals : Stream) (scan : Scan) (demands departs : List ℕ) → IsScanned plan rows v arrivals scan → scan ≡ OfServer demands → departs ≡ lindley 0 arrivals.time demands → IsServed plan rows v arrivals departs
 server-leaves plan rows v arrivals scan demands departs l e d =

@@ -3,6 +3,7 @@ pub mod Passing
 pub mod Early
 pub mod Known
 pub mod Closings
+pub mod InOrder
 pub mod Opening
 pub mod DelayOrder
 pub mod SplitBlocks

@@ -6,14 +6,14 @@ use Rattle.mq_core.specs.declared.model.Fate.TheVariants.{Departs}
 use Rattle.mq_core.specs.declared.model.Plan.{Plan}
 use Rattle.mq_core.specs.declared.model.Rows.{Rows}
 use Rattle.mq_core.specs.declared.model.Stream.{Stream}
-use Rattle.mq_stations.proofs.lemmas.Leaves.{departs-left}
+use Rattle.mq_stations.specs.Leaving.{AreStreams}
 use Rattle.mq_exits.specs.Afters.{IsAfterAt, IsServed}
 use Rattle.mq_exits.specs.Exits.{IsShut}
 use Rattle.mq_exits.specs.Loads.{IsLoaded}
 use Rattle.mq_exits.specs.declared.exits.Closed.TheVariants.{Found, Jobs, Times}
 use Rattle.mq_exits.specs.declared.working.After.{After}
 use Rattle.mq_exits.specs.declared.working.After.TheVariants.{Seen}
-use Rattle.mq_exits.proofs.Leavings.{kept-streams}
+use Rattle.mq_exits.proofs.InOrder.{in-turn-streams}
 
 -- a node of the plan that is loaded is there
 pub loaded-inside : (plan : Plan) (rows : Rows) (v : ℕ) (arrivals : Stream) → IsLoaded plan rows v arrivals → v < length plan.net.nodes
@@ -27,7 +27,7 @@ opens fated law plan rows v arrivals departs times found jobs l served f g h aft
     subst (IsAfterAt plan rows v arrivals) (sym e) (λ node there. (
       record {
         fates_are = sym (served node there).0.fates;
-        streams_are = kept-streams fated rows node.kind arrivals streams (served node there).0.once (served node there).1 (departs-left law rows node.kind arrivals departs streams l.load.ordered.ordered.even (served node there).0 (λ k. record { job = h.1 k; time = f.1 k } ∷ []));
+        streams_are = subst (AreStreams rows node.kind arrivals) (sym (λ k. record { job = h.1 k; time = f.1 k } ∷ [])) (in-turn-streams fated law rows node.kind arrivals departs l.load.ordered.ordered.even (served node there));
         none = f.2 node there;
       },
       g.1,

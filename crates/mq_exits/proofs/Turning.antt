@@ -15,7 +15,7 @@ use Rattle.std.specs.Prelude.{slice_get}
 use Rattle.mq_merge.specs.Borrowed.{stream_in}
 use Rattle.mq_stats.specs.InTurn.{KeepTurn, stream_in_turn, visits_in_turn}
 use Rattle.mq_stations.specs.Late.{late_told}
-use Rattle.mq_stations.proofs.lemmas.Leaves.{served-even, served-rises}
+use Rattle.mq_stations.proofs.lemmas.Leaves.{departs-even}
 use Rattle.mq_exits.specs.Afters.{IsServed}
 use Rattle.mq_exits.specs.Exits.{IsReadyCompletion}
 use Rattle.mq_exits.specs.Loads.{IsLoadOf, IsReadyLoad}
@@ -33,6 +33,7 @@ use Rattle.mq_exits.specs.declared.working.Ending.TheVariants.{OnTime, TooLate}
 use Rattle.mq_exits.specs.declared.working.NodeResult.{NodeResult}
 use Rattle.mq_exits.proofs.Apart.{AreApart}
 use Rattle.mq_exits.proofs.Emptying.{IsEmptiedOf, IsGivenOf, Wave, result-of}
+use Rattle.mq_exits.proofs.InOrder.{in-turn-rises}
 use Rattle.mq_exits.proofs.Known.{known}
 use Rattle.mq_exits.proofs.Leavings.{late-by, seen-result}
 use Rattle.mq_exits.proofs.Opening.{opens}
@@ -40,10 +41,10 @@ use Rattle.mq_exits.proofs.Opening.{opens}
 module _ (laws : NodeLaws) (timely : FatesAreInTime) (held : Held) (departs : List ℕ) (ready : IsReadyLoad held) (served : IsServed held.plan.now held.rows.now held.number (stream_in held.arrivals) departs) where
   -- there are no more departures than arrivals, and both rise
   pub turn-few : length departs ≤ 1048576
-  turn-few = let load = ready.1.load in subst (λ n. n ≤ 1048576) (sym (served-even timely held.rows.now ready.1.node.kind (stream_in held.arrivals) departs load (served ready.1.node ready.1.there))) load.few
+  turn-few = let load = ready.1.load in subst (λ n. n ≤ 1048576) (sym (departs-even timely held.rows.now ready.1.node.kind (stream_in held.arrivals) departs load (served ready.1.node ready.1.there).0)) load.few
 
   pub turn-rises : Rises (λ a b. a ≤ b) departs
-  turn-rises = served-rises laws.go timely held.rows.now ready.1.node.kind (stream_in held.arrivals) departs ready.1.load (served ready.1.node ready.1.there)
+  turn-rises = in-turn-rises laws.go timely held.rows.now ready.1.node.kind (stream_in held.arrivals) departs ready.1.load (served ready.1.node ready.1.there)
 
   turn-kept : KeepTurn (stream_in held.arrivals) departs
   turn-kept = record { come = ready.1.load.ordered.ordered.rising; leave = turn-rises }

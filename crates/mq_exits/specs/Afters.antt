@@ -3,7 +3,7 @@ use Rattle.std.specs.Prelude.{◌≡◌, ℕ, List, map, Some, None, slice_get}
 use Rattle.mq_core.specs.Came.{came_in}
 use Rattle.mq_core.specs.OnceOut.{founds_of}
 use Rattle.mq_core.specs.Results.{first_of}
-use Rattle.mq_core.specs.Sequences.{sequence_fates, sequence_late_from}
+use Rattle.mq_core.specs.Sequences.{sequence_fates, sequence_late_from, stream_in_order}
 use Rattle.mq_core.specs.declared.model.Fate.{Fate}
 use Rattle.mq_core.specs.declared.model.Fate.TheVariants.{Departs}
 use Rattle.mq_core.specs.declared.model.Kind.{Kind}
@@ -44,9 +44,15 @@ AreDeparturesAt plan rows v arrivals departs = (node : Node) → slice_get plan.
 abbrev pub AllDepartAt : Plan → Rows → ℕ → Stream → List ℕ → Type 0
 AllDepartAt plan rows v arrivals departs = (node : Node) → slice_get plan.net.nodes v ≡ Some node → sequence_fates rows node.kind (came_in arrivals) ≡ map (λ time. Departs time) departs
 
--- those of a station of the plan keep their order too
+-- the jobs of a station of this kind depart at these times, by position, and leave in the order in which they came
+abbrev pub LeaveInTurn : Rows → Kind → Stream → List ℕ → Type 0
+LeaveInTurn rows kind arrivals departs =
+    let leaving : Stream = record { job = arrivals.job; time = departs } in
+    AreDepartures rows kind arrivals departs × (stream_in_order kind leaving ≡ leaving)
+
+-- those of a station of the plan do
 abbrev pub IsServed : Plan → Rows → ℕ → Stream → List ℕ → Type 0
-IsServed plan rows v arrivals departs = (node : Node) → slice_get plan.net.nodes v ≡ Some node → AreServed rows node.kind arrivals departs
+IsServed plan rows v arrivals departs = (node : Node) → slice_get plan.net.nodes v ≡ Some node → LeaveInTurn rows node.kind arrivals departs
 
 -- what one piece tells of a node of this kind: what becomes of its arrivals, or when its jobs depart, which may be as they come
 abbrev pub IsWorked : Network → Rows → ℕ → Kind → Stream → Worked → Type 0

@@ -1,8 +1,8 @@
 // A delay, whose jobs may overtake one another: in which order they leave, and what tells how many each
 // found.
-ghost use Rattle.std.specs.Prelude.{◌≡◌, ◌≤◌, length, IfOk};
+ghost use Rattle.std.specs.Prelude.{◌≡◌, ◌≤◌, IsTrue, length, IfOk};
 ghost use Rattle.std.specs.List.{zip};
-ghost use Rattle.mq_core.specs.Laws.{in_order_of};
+ghost use Rattle.mq_core.specs.Laws.{Rises, in_order_of};
 ghost use Rattle.mq_core.specs.Sequences.{IsStream};
 ghost use Rattle.mq_core.specs.Streams.{by_first, pairs_of};
 ghost use Rattle.mq_exits.specs.Afters.{AreDeparturesAt, IsWorkedAt};
@@ -97,7 +97,8 @@ fn may_overtake(kind: &Kind) -> bool
     }
 }
 
-// What is known of a delay whose jobs depart at these times, by position.
+// What is known of a delay whose jobs depart at these times, by position. Where no time is below one before it no job overtakes another: they
+// leave in their order, and nothing is sorted.
 fn overtaken_at<R: Threads + Sync>(
     rt: &R,
     alloc: Global,
@@ -113,6 +114,9 @@ fn overtaken_at<R: Threads + Sync>(
 {
     sequences_go_by_fates();
     fates_are_in_time();
+    if never_fall(&departs) {
+        return Ok(Completion::Served(departs));
+    }
     let leaving = by_departure(rt, alloc, workers, &load.arrivals.job, &departs)?;
     match first_late_overtaken(load.plan.net.bound, load.number, &departs, &leaving.time) {
         Some(past) => {
@@ -137,6 +141,13 @@ fn overtaken_at<R: Threads + Sync>(
             }
         }
     }
+}
+
+// Whether no time is below one before it.
+fn never_fall(times: &List<u64>) -> bool
+    ensures { IsTrue result → Rises (λ a b. a ≤ b) times.now }
+{
+    times.as_slice().is_sorted()
 }
 
 // How the visits are cut: for one worker they are one block.

@@ -35,7 +35,6 @@ use Rattle.mq_engine.specs.declared.fault.RunFault.{RunFault}
 use Rattle.mq_engine.specs.declared.fault.RunFault.TheVariants.{Memory, Over, Past}
 use Rattle.mq_exits.proofs.Known.{known}
 use Rattle.mq_exits.proofs.Leavings.{kept-streams, late-by, seen-result}
-use Rattle.mq_exits.specs.Afters.{IsServed}
 use Rattle.mq_exits.specs.NodeLaws.{NodeLaws}
 use Rattle.mq_exits.specs.Results.{IsKnown, IsWorkedOut}
 use Rattle.mq_exits.specs.declared.working.Ending.TheVariants.{OnTime, TooLate}
@@ -44,7 +43,7 @@ use Rattle.mq_stations.specs.Late.{late_told}
 use Rattle.mq_stations.specs.Leaving.{AreDepartures, AreServed, KeepsOrder}
 use Rattle.mq_kept.specs.NodeRuns.{IsFaultAt}
 use Rattle.mq_kept.specs.TailSteps.{AreInTurn, IsNextTail, IsRefused}
-use Rattle.mq_kept.specs.Tails.{IsTailFor, IsTailPut, coming_behind, departures_in}
+use Rattle.mq_kept.specs.Tails.{AreServedAt, IsTailFor, IsTailPut, coming_behind, departures_in}
 use Rattle.mq_kept.specs.declared.former.NodeLists.{NodeLists}
 use Rattle.mq_kept.proofs.LastVisits.{times-back}
 
@@ -130,7 +129,7 @@ module _ (laws : NodeLaws) (inTime : FatesAreInTime) (plan : Plan) (rows : Rows)
 
 -- What is kept of a source, whose jobs depart as they come. So do others behind its first ones.
 pub source-behind : NodesAreSequences → (plan : Plan) (rows old : Rows) (v : ℕ) (node : Node) (lists : NodeLists) (from : ℕ) (jobs times : List ℕ) → slice_get plan.net.nodes v ≡ Some node → node.kind ≡ Source → IsReadFor plan.net old → IsWorkedOut plan old (record { number = v; ending = OnTime lists.visits lists.streams }) →
-    IsServed plan rows v (coming_behind from lists.visits jobs times) (take from (departures_in lists) ++ times)
+    AreServedAt plan rows v (coming_behind from lists.visits jobs times) (take from (departures_in lists) ++ times)
 source-behind sequences plan rows old v node lists from jobs times there source read was other found =
     let seen = ((run_of plan old).stations v).visits in
     let has : IsKnown plan old v node (OnTime lists.visits lists.streams) = subst (λ (n : Node). IsKnown plan old v n (OnTime lists.visits lists.streams)) (some_inj _ _ (sym was.1 ∙ there)) was.2 in

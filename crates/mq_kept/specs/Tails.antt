@@ -1,14 +1,15 @@
 -- The last visits to a node whose jobs leave in the order in which they came, by one output: how they are edited in place, and put back.
-use Rattle.std.specs.Prelude.{◌≡◌, ◌+◌, ◌++◌, ◌∷◌, ◌≤◌, ℕ, List, [], length, map, take}
+use Rattle.std.specs.Prelude.{◌≡◌, ◌+◌, ◌++◌, ◌∷◌, ◌≤◌, ℕ, List, [], length, map, take, Some, slice_get}
 use Rattle.mq_core.specs.Sequences.{time_of_fate}
 use Rattle.mq_core.specs.Theorems.{IsReadFor}
 use Rattle.mq_core.specs.declared.model.Fate.TheVariants.{Departs}
+use Rattle.mq_core.specs.declared.model.Node.{Node}
 use Rattle.mq_core.specs.declared.model.Plan.{Plan}
 use Rattle.mq_core.specs.declared.model.Rows.{Rows}
 use Rattle.mq_core.specs.declared.model.Stream.{Stream}
 use Rattle.mq_core.specs.declared.model.Visits.{Visits}
-use Rattle.mq_exits.specs.Afters.{IsServed}
 use Rattle.mq_exits.specs.Loads.{IsLoaded}
+use Rattle.mq_stations.specs.Leaving.{AreServed}
 use Rattle.mq_kept.specs.declared.former.NodeLists.{NodeLists}
 use Rattle.mq_kept.specs.declared.tails.FormerTail.{FormerTail}
 
@@ -20,6 +21,10 @@ departures_in lists = map time_of_fate lists.visits.fate
 abbrev pub coming_behind : ℕ → Visits → List ℕ → List ℕ → Stream
 coming_behind from visits jobs times = record { job = take from visits.job ++ jobs; time = take from visits.arrive ++ times }
 
+-- all jobs of a station of the plan depart at these times, by position, and it is of a kind whose jobs keep their order
+abbrev pub AreServedAt : Plan → Rows → ℕ → Stream → List ℕ → Type 0
+AreServedAt plan rows v arrivals departs = (node : Node) → slice_get plan.net.nodes v ≡ Some node → AreServed rows node.kind arrivals departs
+
 -- in a run over rows these jobs come to a node behind its first so many visits, and depart, at these times, in the order in which
 -- they came, by one output; there are no fewer than those that are kept of it
 pub record IsTailFor (plan : Plan) (rows : Rows) (v : ℕ) (lists : NodeLists) (from : ℕ) (jobs times departs : List ℕ) : Type 0 where
@@ -29,7 +34,7 @@ pub record IsTailFor (plan : Plan) (rows : Rows) (v : ℕ) (lists : NodeLists) (
   pub longer : length lists.visits.job ≤ from + length jobs
   pub read : IsReadFor plan.net rows
   pub loaded : IsLoaded plan rows v (coming_behind from lists.visits jobs times)
-  pub served : IsServed plan rows v (coming_behind from lists.visits jobs times) (take from (departures_in lists) ++ departs)
+  pub served : AreServedAt plan rows v (coming_behind from lists.visits jobs times) (take from (departures_in lists) ++ departs)
 
 -- they stand behind the first so many visits now, in the place of the others, and in what left
 pub record IsTailPut (from : ℕ) (jobs times departs : List ℕ) (old new : NodeLists) : Type 0 where

@@ -100,11 +100,26 @@ const FORKS: Case = Case {
     ..TANDEM
 };
 
-// A delay. Its last pieces are of each job, a block, how many it found, and of what came the jobs and the times.
+// A delay in which a job overtakes another. Its last pieces are of each job, a block, how many it found, and of what came the jobs and the
+// times.
 const DELAY: Case = Case {
-    model: b"model 1\nsource src\ndelay w a from src\n",
+    model: b"model 1\nsource src\ndelay w b from src\n",
     lists: &[5],
     ..TANDEM
+};
+
+// One in which none does, of which two leave at one time: no list has more than one piece.
+const DELAY_IN_TURN: Case = Case {
+    model: b"model 1\nsource src\ndelay w a from src\n",
+    lists: &[],
+    ..TANDEM
+};
+
+// The same with the lines of the jobs. Its last pieces are those of a server.
+const DELAY_IN_TURN_OF_A_KEPT_RUN: Case = Case {
+    jobs: true,
+    lists: &[4, 5, 2],
+    ..DELAY_IN_TURN
 };
 
 // Two sources: the rows of each. Behind them three blocks of what both let out, merged; the loss station itself is one piece.
@@ -438,6 +453,25 @@ fn two_threads_enter_the_gate_at_two_forks(rt: HostRuntime) -> Result<(), Fail> 
 #[test]
 fn two_threads_enter_the_gate_at_a_delay(rt: HostRuntime) -> Result<(), Fail> {
     assert!(rt; has_lists(&rt, rt.alloc(), DELAY, &with_carries())?);
+    Ok(())
+}
+
+#[test]
+fn nobody_enters_the_gate_at_a_delay_whose_jobs_leave_in_turn(rt: HostRuntime) -> Result<(), Fail> {
+    assert!(rt; has_lists(&rt, rt.alloc(), DELAY_IN_TURN, &with_carries())?);
+    Ok(())
+}
+
+#[test]
+fn two_threads_enter_the_gate_at_such_a_delay_of_a_kept_run(rt: HostRuntime) -> Result<(), Fail> {
+    assert!(rt;
+        has_lists(
+            &rt,
+            rt.alloc(),
+            DELAY_IN_TURN_OF_A_KEPT_RUN,
+            &with_carries()
+        )?
+    );
     Ok(())
 }
 

@@ -1,6 +1,7 @@
 use Rattle.std.proofs.Common.{sym, ◌∙◌, inl}
 use Rattle.std.proofs.lemmas.Result.{IfOk-weaker}
-use Rattle.mq_stations.proofs.lemmas.Leaves.{served-even, served-rises}
+use Rattle.mq_stations.proofs.lemmas.Leaves.{departs-even}
+use Rattle.mq_exits.proofs.InOrder.{in-turn-rises}
 use Rattle.mq_exits.proofs.Opening.{loaded-inside}
 use Rattle.mq_exits.proofs.Passing.{passing-finds_none}
 use Rattle.mq_exits.proofs.exits.found_in_turn.Goals as goal
@@ -11,12 +12,12 @@ get-requires c = loaded-inside _ _ _ _ c.requires.loaded
 pub found_by_position-requires-clause-even : goal.found_by_position-requires-clause-even
 found_by_position-requires-clause-even c =
     let loaded = c.requires.loaded in
-    served-even c.fates_are_in_time.ensures c.args.load.now.rows.now loaded.node.kind c.args.load.now.arrivals.now c.args.departs.now loaded.load (c.requires.served loaded.node loaded.there)
+    departs-even c.fates_are_in_time.ensures c.args.load.now.rows.now loaded.node.kind c.args.load.now.arrivals.now c.args.departs.now loaded.load (c.requires.served loaded.node loaded.there).0
 
 pub found_by_position-requires-clause-departs : goal.found_by_position-requires-clause-departs
 found_by_position-requires-clause-departs c =
     let loaded = c.requires.loaded in
-    served-rises c.sequences_go_by_fates.ensures c.fates_are_in_time.ensures c.args.load.now.rows.now loaded.node.kind c.args.load.now.arrivals.now c.args.departs.now loaded.load (c.requires.served loaded.node loaded.there)
+    in-turn-rises c.sequences_go_by_fates.ensures c.fates_are_in_time.ensures c.args.load.now.rows.now loaded.node.kind c.args.load.now.arrivals.now c.args.departs.now loaded.load (c.requires.served loaded.node loaded.there)
 
 pub returns-in-Source : goal.returns-in-Source
 returns-in-Source c =

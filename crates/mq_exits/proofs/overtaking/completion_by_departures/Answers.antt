@@ -18,4 +18,4 @@ overtaken_at-requires-clause-overtakes g c κs inside node there stream =
 pub returns-else-may_overtake : goal.returns-else-may_overtake
 returns-else-may_overtake g c node there =
     let same : node.kind ≡ c.get.result.now.kind = ap (λ (n : Node). n.kind) (some_inj _ _ (sym there ∙ c.get.ensures)) in
-    (c.requires.departs node there, by-position (behaviour_of node.kind).order (ap may_overtake same ∙ (sym c.may_overtake.ensures ∙ c.if-may_overtake.false)))
+    (c.requires.departs node there, by-position (behaviour_of node.kind).order (ap may_overtake same ∙ (sym c.may_overtake.ensures ∙ c.if-may_overtake.false)) (record { job = c.args.load.now.arrivals.now.job; time = c.args.departs }))

@@ -1,9 +1,20 @@
-use Rattle.std.proofs.Common.{ap, ◌∙◌, sym}
+use Rattle.std.proofs.Common.{◌≡◌, ap, ◌∙◌, subst, sym}
 use Rattle.std.specs.Option.{option_map}
+use Rattle.mq_base.proofs.lemmas.Lists.{some_inj}
+use Rattle.mq_core.specs.declared.model.Node.{Node}
+use Rattle.mq_stations.specs.Leaving.{IsLoad}
 use Rattle.mq_stations.specs.Late.{late_told}
 use Rattle.mq_exits.proofs.DelayOrder.{departs-few, departs-later, is-overtaken}
 use Rattle.mq_stations.proofs.lemmas.Leaves.{departs-even}
+use Rattle.mq_exits.proofs.InOrder.{in-turn-risen}
 use Rattle.mq_exits.proofs.overtaking.overtaken_at.Goals as goal
+
+pub returns-then-never_fall : goal.returns-then-never_fall
+returns-then-never_fall g c node there =
+    let load = c.args.load.now in
+    let same : c.requires.loaded.node ≡ node = some_inj _ _ (sym c.requires.loaded.there ∙ there) in
+    let its : IsLoad load.rows.now node.kind load.arrivals.now = subst (λ (n : Node). IsLoad load.rows.now n.kind load.arrivals.now) same c.requires.loaded.load in
+    in-turn-risen c.fates_are_in_time.ensures load.rows.now node.kind load.arrivals.now c.args.departs its (c.requires.departs node there) (c.requires.overtakes node there) (c.never_fall.ensures c.if-never_fall.true)
 
 pub by_departure-requires-clause-even : goal.by_departure-requires-clause-even
 by_departure-requires-clause-even g c κs inside =
