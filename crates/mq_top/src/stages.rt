@@ -41,7 +41,7 @@ const MODEL_LIMIT: u64 = 65_536;
 const TRACE_LIMIT: u64 = 134_217_728;
 
 // Rows of no more than so many blocks are one worker's: to start threads would take longer than they save.
-const FEW_BLOCKS: u64 = 16;
+const FEW_BLOCKS: u64 = 32;
 
 // Whoever asks for blocks of fewer jobs than so many has them shared, however few the rows are.
 const LEAST_BLOCK: u32 = 64;
