@@ -13,11 +13,12 @@ use crate::behind::{carry_before, last_of};
 use crate::blocks::{Done, redone_last};
 use crate::departures::with_first;
 use mq_alike::alike_is_first;
+use mq_asked::all_demands_of;
 use mq_base::{List, OutOfMemory, Steps};
 use mq_core::{Demand, Fates, Rows, Stream};
 use mq_forkjoin::ForkJoinStep;
 use mq_scan::{Blocks, Step, cut};
-use mq_stations::{all_demands_of, branch_demands};
+use mq_stations::branch_demands;
 use std::alloc::Global;
 use std::sync::ledger::Ledger;
 

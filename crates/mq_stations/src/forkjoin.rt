@@ -4,9 +4,10 @@ ghost use Rattle.std.specs.List.{AllByRecursion, flat_map};
 ghost use Rattle.mq_core.specs.Kinds.ForkJoin.{branch_demands as demands_by_branch};
 ghost use Rattle.mq_core.specs.declared.model.Kind.TheVariants.{ForkJoin};
 ghost use Rattle.mq_stations.specs.Scans.{IsForkJoinScan};
-ghost use Rattle.mq_stations.specs.Leaving.{AreAsked, AreServed, IsLoad};
+ghost use Rattle.mq_asked.specs.Demands.{AreAsked};
+ghost use Rattle.mq_stations.specs.Leaving.{AreServed, IsLoad};
 
-use crate::outflow::all_demands_of;
+use mq_asked::all_demands_of;
 use mq_base::{List, OutOfMemory};
 use mq_core::{Demand, Rows, Stream};
 use mq_forkjoin::fork_departures;

@@ -8,7 +8,7 @@ use Rattle.mq_core.specs.declared.model.Fate.TheVariants.{Departs}
 use Rattle.mq_core.specs.declared.model.Stage.{Stage}
 use Rattle.mq_core.specs.declared.model.Stream.{Stream}
 use Rattle.mq_stations.proofs.lemmas.StageFacts.{demands-asked, demands-told, stages-are}
-use Rattle.mq_stations.specs.Leaving.{AreAsked}
+use Rattle.mq_asked.specs.Demands.{AreAsked}
 use Rattle.mq_tandem.specs.Rows.{none_kept}
 use Rattle.mq_redo.specs.Stages.{asks_at_stages, places_of}
 use Rattle.mq_redo.proofs.Last.{asked-last, loads-last, told-last}

@@ -2,7 +2,7 @@ use Rattle.std.proofs.Common.{◌≤◌, ◌++◌, ◌∷◌, [], ℕ, List, All
 use Rattle.mq_base.proofs.lemmas.Lists.{map-all}
 use Rattle.mq_core.specs.Handling.{demand_of_job}
 use Rattle.mq_core.specs.declared.model.Demand.{Demand}
-use Rattle.mq_stations.specs.Leaving.{AreAsked}
+use Rattle.mq_asked.specs.Demands.{AreAsked}
 use Rattle.mq_stations.proofs.lemmas.Lists.{Each-get, map-more}
 use Rattle.mq_stations.proofs.forkjoin.demands_of_branches.Goals as goal
 

@@ -1,7 +1,7 @@
 use Rattle.std.proofs.Common.{ap, ◌∙◌, All, map, subst, sym}
 use Rattle.std.proofs.lemmas.Result.{IfOk-weaker}
 use Rattle.mq_core.specs.Handling.{demand_of_job}
-use Rattle.mq_stations.specs.Leaving.{AreAsked}
+use Rattle.mq_asked.specs.Demands.{AreAsked}
 use Rattle.mq_stations.proofs.tandem.demands_of_stages.Goals as goal
 
 pub all_demands_of-requires : goal.all_demands_of-requires

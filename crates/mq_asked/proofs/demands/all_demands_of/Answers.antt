@@ -1,10 +1,10 @@
 use Rattle.std.proofs.Common.{◌≤◌, ◌++◌, ◌∷◌, [], ap, ◌∙◌, length, map, arith}
 use Rattle.mq_base.proofs.lemmas.Lists.{map-all}
 use Rattle.mq_core.specs.Handling.{demand_of_job}
-use Rattle.mq_stations.specs.Leaving.{AreAsked}
-use Rattle.mq_stations.proofs.lemmas.Lists.{map-more}
-use Rattle.mq_stations.proofs.lemmas.StageFacts.{All-index}
-use Rattle.mq_stations.proofs.outflow.all_demands_of.Goals as goal
+use Rattle.mq_asked.specs.Demands.{AreAsked}
+use Rattle.mq_asked.proofs.lemmas.Lists.{map-more}
+use Rattle.mq_asked.proofs.lemmas.Lists.{All-index}
+use Rattle.mq_asked.proofs.demands.all_demands_of.Goals as goal
 
 pub demands_of-requires : goal.demands_of-requires
 demands_of-requires c = All-index (λ demand. AreAsked c.args.rows.now demand c.args.jobs.now) c.args.asked.now c.loop-at.at c.get.result.now c.requires c.get.ensures
