@@ -12,7 +12,7 @@ use crate::behind::{carry_before, last_of};
 use crate::blocks::{Done, redone_last};
 use crate::departures::with_first;
 use mq_alike::alike_is_first;
-use mq_asked::all_demands_of;
+use mq_asked::all_asked_of;
 use mq_base::{List, OutOfMemory, Steps};
 use mq_core::{Demand, Fates, Rows, Stage, Stream};
 use mq_scan::{Blocks, Step, cut};
@@ -78,7 +78,7 @@ pub fn staged_behind<L: Ledger>(
     let last = last_of(alloc, arrivals, first * blocks.block)?;
     let behind = last.stream();
     let asked = stage_demands(alloc, stages)?;
-    let demands = all_demands_of(alloc, rows, &asked, &behind.job)?;
+    let demands = all_asked_of(alloc, rows, &asked, &behind.job)?;
     let places = stage_places(alloc, stages)?;
     let step = TandemStep::new(behind, &demands, &places);
     let carry = carry_before(carries, first, step.first());

@@ -16,8 +16,8 @@ use Rattle.mq_redo.proofs.TandemTail.{acts, few-kept, reads, served, served-behi
 use Rattle.mq_redo.proofs.Tails.{blocks-behind}
 use Rattle.mq_redo.proofs.tandems.staged_behind.Goals as goal
 
-pub all_demands_of-requires : goal.all_demands_of-requires
-all_demands_of-requires g c =
+pub all_asked_of-requires : goal.all_asked_of-requires
+all_asked_of-requires g c =
     let from = c.args.first * c.args.blocks.now.block in
     let is = c.stream-behind.ensures ∙ c.in_ok-last.ensures in
     let stages = c.args.stages.now in
