@@ -6,8 +6,8 @@ use Rattle.mq_asked.specs.Demands.{AreAsked}
 use Rattle.mq_stations.proofs.lemmas.Lists.{Each-get, map-more}
 use Rattle.mq_stations.proofs.forkjoin.demands_of_branches.Goals as goal
 
-pub all_demands_of-requires : goal.all_demands_of-requires
-all_demands_of-requires c =
+pub all_asked_of-requires : goal.all_asked_of-requires
+all_asked_of-requires c =
     Each-get (λ asked. All (λ demand. AreAsked c.args.rows.now demand c.args.jobs.now) asked) c.args.branches.now c.loop-at.at c.get.result.now c.requires c.get.ensures
 
 pub loop-at-preserved : goal.loop-at-preserved
