@@ -6,4 +6,4 @@ use Rattle.mq_asked.specs.declared.asked.Place.TheVariants.{Column, Listed}
 -- the numbers there
 abbrev pub numbers_in : Place → List ℕ
 numbers_in (Column column) = column.now
-numbers_in (Listed numbers) = numbers
+numbers_in (Listed numbers) = numbers.value

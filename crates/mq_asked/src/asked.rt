@@ -16,13 +16,13 @@ pub struct Asked<'a> {
     place: Place<'a>,
 }
 
-// Where what jobs ask for stands.
+// Where what jobs ask for stands: each case is an address alone, so that a look is the same in both.
 #[derive(Drop)]
 enum Place<'a> {
     // In this column of the rows.
     Column(&'a List<u64>),
     // In a list that was made of them.
-    Listed(List<u64>),
+    Listed(Box<List<u64>>),
 }
 
 impl<'a> Model for Asked<'a> {
@@ -111,7 +111,7 @@ fn asked_by<'a>(
             place: Place::Column(column),
         });
     }
-    let list = demands_of(alloc, rows, demand, jobs)?;
+    let list = Box::new(alloc, demands_of(alloc, rows, demand, jobs)?)?;
     Ok(Asked {
         place: Place::Listed(list),
     })
