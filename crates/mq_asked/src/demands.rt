@@ -1,5 +1,5 @@
 // What jobs ask for, in lists of their own.
-ghost use Rattle.std.specs.Prelude.{◌≡◌, All, map, IfOk};
+ghost use Rattle.std.specs.Prelude.{◌≡◌, map, IfOk};
 ghost use Rattle.mq_core.specs.Handling.{demand_of_job};
 ghost use Rattle.mq_asked.specs.Demands.{AreAsked};
 
@@ -35,28 +35,6 @@ pub fn demands_in(
     let mut demands = Vec::with_capacity(alloc, jobs.len())?;
     for at in 0..jobs.len() {
         demands.push_reserved(demand_of(rows, demand, jobs[at]));
-    }
-    Ok(List::from_vec(demands))
-}
-
-/// What each job asks for at each server, in ticks: one list a server, with one demand a job. It refuses for want of memory
-/// alone.
-pub fn all_demands_of(
-    alloc: Global,
-    rows: &Rows,
-    asked: &List<Demand>,
-    jobs: &List<u32>,
-) -> Result<List<List<u64>>, OutOfMemory>
-    requires { All (λ demand. AreAsked rows.now demand jobs.now) asked.now }
-    ensures { IfOk result (λ demands. demands ≡ map (λ demand. map (demand_of_job rows.now demand) jobs.now) asked.now) }
-{
-    let mut demands = Vec::with_capacity(alloc, asked.len())?;
-    for at in 0..asked.len() {
-        let Ok(each) = demands_of(alloc, rows, asked.get(at), jobs) else {
-            drop(demands);
-            return Err(OutOfMemory);
-        };
-        demands.push_reserved(each);
     }
     Ok(List::from_vec(demands))
 }

@@ -5,4 +5,4 @@ mod asked;
 mod demands;
 
 pub use asked::{Asked, all_asked_of, asked_of};
-pub use demands::{all_demands_of, demands_in, demands_of};
+pub use demands::{demands_in, demands_of};

@@ -37,7 +37,7 @@ pub enum Scan<'a> {
     /// A tandem, block by block.
     OfTandem(TandemScan<'a>),
     /// A fork-join, block by block at each server.
-    OfForkJoin(ForkJoinScan),
+    OfForkJoin(ForkJoinScan<'a>),
     /// A split, block by block: its jobs by position, cut into blocks.
     OfSplit(Blocks),
 }
