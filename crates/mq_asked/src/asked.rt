@@ -1,6 +1,8 @@
 // What jobs ask for, where it stands so in a column, or in a list of its own.
 ghost use Rattle.std.specs.Prelude.{◌≡◌, ◌<◌, All, IfOk, IfSome, IsTrue, Some, length, map, slice_get, ℕ};
+ghost use Rattle.std.specs.List.{AllByRecursion};
 ghost use Rattle.mq_core.specs.Handling.{demand_of_job};
+ghost use Rattle.mq_core.specs.Kinds.ForkJoin.{branch_demands};
 ghost use Rattle.mq_asked.specs.Demands.{AreAsked, StandInTurn};
 
 use crate::demands::demands_of;
@@ -83,6 +85,47 @@ pub fn all_asked_of<'a>(
     ensures { IfOk result (λ all. all ≡ map (λ demand. map (demand_of_job rows.now demand) jobs.now) demands.now) }
 {
     let in_turn = stand_in_turn(jobs);
+    all_asked_by(alloc, rows, demands, jobs, in_turn)
+}
+
+/// What each job asks for at each server of each branch, in ticks: branch by branch what `all_asked_of` gives. It refuses for
+/// want of memory alone.
+pub fn branches_asked_of<'a>(
+    alloc: Global,
+    rows: &'a Rows,
+    branches: &List<List<Demand>>,
+    jobs: &List<u32>,
+) -> Result<List<List<Asked<'a>>>, OutOfMemory>
+    requires { AllByRecursion (λ demands. All (λ demand. AreAsked rows.now demand jobs.now) demands) branches.now }
+    ensures { IfOk result (λ all. all ≡ branch_demands rows.now branches.now jobs.now) }
+{
+    let in_turn = stand_in_turn(jobs);
+    let mut all = List::new(alloc);
+    for at in 0..branches.len() {
+        let Ok(each) = all_asked_by(alloc, rows, branches.get(at), jobs, in_turn) else {
+            drop(all);
+            return Err(OutOfMemory);
+        };
+        let Ok(()) = all.push(each) else {
+            drop(all);
+            return Err(OutOfMemory);
+        };
+    }
+    Ok(all)
+}
+
+// What each of these jobs asks for by each of some demands, where it is known whether they stand in turn.
+fn all_asked_by<'a>(
+    alloc: Global,
+    rows: &'a Rows,
+    demands: &List<Demand>,
+    jobs: &List<u32>,
+    in_turn: bool,
+) -> Result<List<Asked<'a>>, OutOfMemory>
+    requires asked { All (λ demand. AreAsked rows.now demand jobs.now) demands.now }
+    requires turn { IsTrue in_turn → StandInTurn jobs.now }
+    ensures { IfOk result (λ all. all ≡ map (λ demand. map (demand_of_job rows.now demand) jobs.now) demands.now) }
+{
     let mut all = Vec::with_capacity(alloc, demands.len())?;
     for at in 0..demands.len() {
         let Ok(each) = asked_by(alloc, rows, demands.get(at), jobs, in_turn) else {

@@ -1,13 +1,11 @@
 // A fork-join, whole and by blocks.
 ghost use Rattle.std.specs.Prelude.{◌≡◌, ◌≤◌, All, length, map, IfOk};
-ghost use Rattle.std.specs.List.{AllByRecursion, flat_map};
-ghost use Rattle.mq_core.specs.Kinds.ForkJoin.{branch_demands as demands_by_branch};
+ghost use Rattle.std.specs.List.{flat_map};
 ghost use Rattle.mq_core.specs.declared.model.Kind.TheVariants.{ForkJoin};
 ghost use Rattle.mq_stations.specs.Scans.{IsForkJoinScan};
-ghost use Rattle.mq_asked.specs.Demands.{AreAsked};
 ghost use Rattle.mq_stations.specs.Leaving.{AreServed, IsLoad};
 
-use mq_asked::{Asked, all_asked_of};
+use mq_asked::{Asked, all_asked_of, branches_asked_of};
 use mq_base::{List, OutOfMemory};
 use mq_core::{Demand, Rows, Stream};
 use mq_forkjoin::fork_departures;
@@ -57,33 +55,9 @@ pub fn forkjoin_scan<'a>(
     ensures { IfOk result (λ scan. IsForkJoinScan rows.now branches.now arrivals.now scan) }
 {
     let size = arrivals.job.len() as u32;
-    let demands = demands_of_branches(alloc, rows, branches, &arrivals.job)?;
+    let demands = branches_asked_of(alloc, rows, branches, &arrivals.job)?;
     let blocks = cut(size, block_size(size, block));
     Ok(ForkJoinScan { demands, blocks })
-}
-
-// What each job asks for at each server of each branch, in ticks.
-fn demands_of_branches<'a>(
-    alloc: Global,
-    rows: &'a Rows,
-    branches: &List<List<Demand>>,
-    jobs: &List<u32>,
-) -> Result<List<List<Asked<'a>>>, OutOfMemory>
-    requires { AllByRecursion (λ asked. All (λ demand. AreAsked rows.now demand jobs.now) asked) branches.now }
-    ensures { IfOk result (λ demands. demands ≡ demands_by_branch rows.now branches.now jobs.now) }
-{
-    let mut demands = List::new(alloc);
-    for at in 0..branches.len() {
-        let Ok(each) = all_asked_of(alloc, rows, branches.get(at), jobs) else {
-            drop(demands);
-            return Err(OutOfMemory);
-        };
-        let Ok(()) = demands.push(each) else {
-            drop(demands);
-            return Err(OutOfMemory);
-        };
-    }
-    Ok(demands)
 }
 
 /// What the servers ask for, branch after branch. It refuses for want of memory alone.

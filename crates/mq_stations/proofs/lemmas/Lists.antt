@@ -3,12 +3,7 @@ use Rattle.std.proofs.Common.{subst, ◌≡◌, ℕ, zero, suc, ◌<◌, List, [
 use Rattle.std.specs.Prelude.{slice_get}
 use Rattle.std.specs.List.{AllByRecursion as Each}
 use Rattle.mq_base.proofs.lemmas.Lists.{some_inj}
-pub use Rattle.mq_asked.proofs.lemmas.Lists.{map-more}
-
-pub Each-get : {X : Type 0} (P : X → Type 0) (xs : List X) (k : ℕ) (x : X) → Each P xs → slice_get xs k ≡ Some x → P x
-Each-get P [] k x h e = absurd cc
-Each-get P (y ∷ ys) zero x h e = subst P (some_inj y x e) h.0
-Each-get P (y ∷ ys) (suc k) x h e = Each-get P ys k x h.1 e
+pub use Rattle.mq_asked.proofs.lemmas.Lists.{Each-get, map-more}
 
 pub Each-get_or : {X : Type 0} (P : X → Type 0) (xs : List X) → Each P xs → (k : ℕ) (d : X) → k < length xs → P (get_or xs k d)
 Each-get_or P [] h k d l = absurd (omega arith)

@@ -3,10 +3,10 @@ use Rattle.mq_base.proofs.lemmas.Lists.{map-all}
 use Rattle.mq_core.specs.Handling.{demand_of_job}
 use Rattle.mq_asked.specs.Demands.{AreAsked}
 use Rattle.mq_asked.proofs.lemmas.Lists.{All-index, map-more}
-use Rattle.mq_asked.proofs.asked.all_asked_of.Goals as goal
+use Rattle.mq_asked.proofs.asked.all_asked_by.Goals as goal
 
 pub asked_by-requires-clause-asked : goal.asked_by-requires-clause-asked
-asked_by-requires-clause-asked c = All-index (λ demand. AreAsked c.args.rows.now demand c.args.jobs.now) c.args.demands.now c.loop-at.at c.get.result.now c.requires c.get.ensures
+asked_by-requires-clause-asked c = All-index (λ demand. AreAsked c.args.rows.now demand c.args.jobs.now) c.args.demands.now c.loop-at.at c.get.result.now c.requires.asked c.get.ensures
 
 pub loop-at-init : goal.loop-at-init
 loop-at-init c =

@@ -1,7 +1,7 @@
 use Rattle.std.proofs.Common.{◌≡◌, ◌≤◌, length, map, take}
 use Rattle.std.specs.Vec.{vec_len, vec_capacity}
 use Rattle.mq_core.specs.Handling.{demand_of_job}
-use Rattle.mq_asked.proofs.asked.all_asked_of.Given as goal
+use Rattle.mq_asked.proofs.asked.all_asked_by.Given as goal
 
 abbrev pub invariant-loop-at : goal.invariant-loop-at
 invariant-loop-at l = record {
