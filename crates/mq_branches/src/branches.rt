@@ -7,6 +7,7 @@ ghost use Rattle.mq_branches.specs.Branches.{IsPassage, IsResumed, IsRunning, Is
 ghost use Rattle.mq_branches.specs.Servers.{IsTask};
 
 use crate::servers::{Task, serve_all};
+use mq_asked::Asked;
 use mq_base::{List, OutOfMemory};
 use mq_core::Stream;
 use mq_crew::Gate;
@@ -21,7 +22,7 @@ pub struct Branch<'a> {
     /// When the jobs come to its next server, in ticks.
     pub arrive: List<u64>,
     /// What each job asks for at each of its servers, in ticks.
-    pub servers: &'a List<List<u64>>,
+    pub servers: &'a List<Asked<'a>>,
 }
 
 /// A fork-join while its jobs pass through the branches.
@@ -37,7 +38,7 @@ pub struct Passage<'a> {
 #[derive(Clone, Copy)]
 pub struct Tier<'a> {
     pub arrivals: &'a Stream,
-    pub scan: &'a ForkJoinScan,
+    pub scan: &'a ForkJoinScan<'a>,
     pub server: usize,
 }
 
@@ -45,7 +46,7 @@ pub struct Tier<'a> {
 fn begun<'a>(
     alloc: Global,
     arrivals: &Stream,
-    scan: &'a ForkJoinScan,
+    scan: &'a ForkJoinScan<'a>,
 ) -> Result<Passage<'a>, OutOfMemory>
     requires { AreBranchLoads arrivals.now.time scan.now.demands }
     ensures { IfOk result (λ passage. IsPassage arrivals.now.time scan.now.demands 0 passage) }
@@ -75,7 +76,7 @@ fn task_of<'b>(tier: &Tier, branch: &'b Branch) -> Task<'b>
 {
     Task {
         arrive: &branch.arrive,
-        demands: branch.servers.get(tier.server),
+        demands: branch.servers.get(tier.server).list(),
         blocks: tier.scan.blocks,
     }
 }
@@ -125,7 +126,7 @@ fn resumed<'a>(
     alloc: Global,
     tier: &Tier,
     passage: Passage<'a>,
-    servers: &'a List<List<u64>>,
+    servers: &'a List<Asked<'a>>,
     departs: List<u64>,
 ) -> Result<Passage<'a>, OutOfMemory>
     requires through { IsThrough tier.now.arrivals.now.time tier.now.server servers.now departs }

@@ -10,12 +10,13 @@ ghost use Rattle.mq_stations.specs.Leaving.{IsLoad};
 
 use crate::laws::core_laws;
 use mq_arrivals::{Arrived, Arriving, arrivals_of};
+use mq_asked::{Asked, asked_of};
 use mq_base::{List, OutOfMemory};
 use mq_core::{Kind, Plan, Rows, Stream};
 use mq_crew::{Gate, Pieces, made};
 use mq_exits::Held;
 use mq_scan::Blocks;
-use mq_stations::{ForkJoinScan, TandemScan, demands_of, forkjoin_scan, split_blocks, tandem_scan};
+use mq_stations::{ForkJoinScan, TandemScan, forkjoin_scan, split_blocks, tandem_scan};
 use std::alloc::Global;
 use std::thread::Threads;
 
@@ -23,36 +24,36 @@ use std::thread::Threads;
 #[derive(Drop)]
 pub struct Scanned<'a> {
     pub held: Held<'a>,
-    pub scan: Scan,
+    pub scan: Scan<'a>,
 }
 
 /// How a station is worked out.
 #[derive(Drop)]
-pub enum Scan {
+pub enum Scan<'a> {
     /// Whole, as one piece.
     Unscanned,
     /// A server, in a single pass over blocks: what each job asks for, in ticks.
-    OfServer(List<u64>),
+    OfServer(Asked<'a>),
     /// A tandem, block by block.
-    OfTandem(TandemScan),
+    OfTandem(TandemScan<'a>),
     /// A fork-join, block by block at each server.
-    OfForkJoin(ForkJoinScan),
+    OfForkJoin(ForkJoinScan<'a>),
     /// A split, block by block: its jobs by position, cut into blocks.
     OfSplit(Blocks),
 }
 
 /// What came to the nodes, before it is settled how their stations are worked out.
 #[derive(Clone, Copy)]
-pub struct Scanning<'a> {
+pub struct Scanning<'a, 's> {
     pub plan: &'a Plan,
     pub rows: &'a Rows,
-    pub arrived: &'a [Arrived<'a>],
+    pub arrived: &'s [Arrived<'a>],
     pub workers: u32,
     pub block: u32,
 }
 
-impl<'a> Pieces for Scanning<'a> {
-    type Piece = Scan;
+impl<'a, 's> Pieces for Scanning<'a, 's> {
+    type Piece = Scan<'a>;
 
     ghost fit = { IsScanning };
 
@@ -64,7 +65,7 @@ impl<'a> Pieces for Scanning<'a> {
         self.arrived.len() as u32
     }
 
-    fn piece(&self, alloc: Global, b: u32) -> Result<Scan, OutOfMemory> {
+    fn piece(&self, alloc: Global, b: u32) -> Result<Scan<'a>, OutOfMemory> {
         let one = &self.arrived[b as usize];
         let kind = &self.plan.net.nodes.get(one.number as usize).kind;
         scan_of(
@@ -79,7 +80,7 @@ impl<'a> Pieces for Scanning<'a> {
 }
 
 /// What comes to the nodes that are ready, and how their stations are worked out: behind the lists in
-/// which it is put in order, one of what the jobs ask for at the stations that are scanned.
+/// which it is put in order, one of what the jobs ask for at the stations that are scanned, where no column is that.
 pub fn loads_of<'a, R: Threads + Sync, G: Gate>(
     rt: &R,
     alloc: Global,
@@ -114,7 +115,7 @@ fn all_scanned<'a>(
     alloc: Global,
     arriving: &Arriving<'a, '_>,
     arrived: List<Arrived<'a>>,
-    scans: List<Scan>,
+    scans: List<Scan<'a>>,
 ) -> Result<List<Scanned<'a>>, OutOfMemory>
     requires arriving { IsArriving arriving.now }
     requires arrived { AllByRecursion (IsArrivedAt arriving.now) arrived }
@@ -149,14 +150,14 @@ fn all_scanned<'a>(
 // How a station of this kind is worked out. A station of one block is one whole piece, and for one
 // worker each is, since it knows the carry when it comes to a block. A further kind that is scanned adds
 // its case here.
-fn scan_of(
+fn scan_of<'a>(
     alloc: Global,
-    rows: &Rows,
+    rows: &'a Rows,
     kind: &Kind,
     arrivals: &Stream,
     workers: u32,
     block: u32,
-) -> Result<Scan, OutOfMemory>
+) -> Result<Scan<'a>, OutOfMemory>
     requires load { IsLoad rows.now kind.now arrivals.now }
     requires some { 1 ≤ block }
     ensures { IfOk result (λ scan. IsScanOf rows.now kind.now arrivals.now scan) }
@@ -165,7 +166,7 @@ fn scan_of(
         return Ok(Scan::Unscanned);
     }
     match kind {
-        Kind::Server(demand) => Ok(Scan::OfServer(demands_of(alloc, rows, demand, &arrivals.job)?)),
+        Kind::Server(demand) => Ok(Scan::OfServer(asked_of(alloc, rows, demand, &arrivals.job)?)),
         Kind::Tandem(stages) => Ok(Scan::OfTandem(tandem_scan(
             alloc, rows, stages, arrivals, block,
         )?)),

@@ -126,7 +126,7 @@ pub fn completion_of<R: Threads + Sync, G: Gate>(
     match scan {
         Scan::Unscanned => left_by(rt, alloc, workers, load, the_end(interim)),
         // Here and below what is known so far goes first: beside what departs, it would take five times as long to prove.
-        Scan::OfServer(demands) => {
+        Scan::OfServer(asked) => {
             drop(interim);
             let departs = server_departures(
                 rt,
@@ -134,7 +134,7 @@ pub fn completion_of<R: Threads + Sync, G: Gate>(
                 workers,
                 load.block,
                 load.arrivals,
-                demands,
+                asked.list(),
                 gate,
             )?;
             Ok(Completion::Served(departs))

@@ -11,6 +11,7 @@ mod scan;
 mod step;
 
 pub use laws::carries_hold_departures;
+use mq_asked::Asked;
 use mq_base::{List, OutOfMemory};
 use mq_core::Stream;
 use mq_server::departures_behind;
@@ -29,7 +30,7 @@ pub use step::ForkJoinStep;
 pub fn fork_departures(
     alloc: Global,
     stream: &Stream,
-    demands: &List<List<u64>>,
+    demands: &List<Asked>,
     branches: &List<u8>,
 ) -> Result<List<u64>, OutOfMemory>
     requires load { All (λ column. IsSoundLoad stream.now.time column) demands.now }
@@ -53,7 +54,7 @@ pub fn fork_departures(
 fn branch_departures(
     alloc: Global,
     arrive: &List<u64>,
-    demands: &[List<u64>],
+    demands: &[Asked],
 ) -> Result<List<u64>, OutOfMemory>
     requires load { All (λ column. IsSoundLoad arrive.now column) demands.now }
     requires early { All (λ time. time ≤ 2 ^ 60) arrive.now }
@@ -62,7 +63,7 @@ fn branch_departures(
 {
     let mut departs = copy_of(alloc, arrive)?;
     for column in demands {
-        departs = departures_behind(alloc, &departs, column)?;
+        departs = departures_behind(alloc, &departs, column.list())?;
     }
     Ok(departs)
 }

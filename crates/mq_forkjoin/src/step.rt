@@ -2,6 +2,7 @@
 ghost use Rattle.std.specs.Prelude.{◌≡◌, ◌<◌, ◌^◌, All, length, slice_index};
 ghost use Rattle.mq_forkjoin.specs.Runs.{IsForkJoinLoad, asked_at, job_run};
 
+use mq_asked::Asked;
 use mq_base::List;
 use mq_core::Stream;
 
@@ -12,7 +13,7 @@ pub struct ForkJoinStep<'a> {
     /// When the jobs come, by position, in ticks.
     pub arrive: &'a List<u64>,
     /// What they need at each server, branch after branch, by position, in ticks of service.
-    pub demands: &'a List<List<u64>>,
+    pub demands: &'a List<Asked<'a>>,
     /// Of each server, 8 at most, whether it is the first of its branch.
     pub begins: &'a List<bool>,
     ghost load: { IsForkJoinLoad arrive.now begins.now demands.now },
@@ -22,7 +23,7 @@ impl<'a> ForkJoinStep<'a> {
     /// The jobs of a stream. It takes no memory.
     pub fn new(
         stream: &'a Stream,
-        demands: &'a List<List<u64>>,
+        demands: &'a List<Asked<'a>>,
         begins: &'a List<bool>,
     ) -> ForkJoinStep<'a>
         requires { IsForkJoinLoad stream.now.time begins.now demands.now }
@@ -47,7 +48,7 @@ impl<'a> ForkJoinStep<'a> {
         let mut time = 0u64;
         for server in 0..self.begins.len() {
             let begun = if *self.begins.get(server) { came } else { time };
-            time = begun.max(last[server]) + *self.demands.get(server).get(at);
+            time = begun.max(last[server]) + self.demands.get(server).at(at);
             last[server] = time;
         }
     }

@@ -10,11 +10,11 @@ use crate::blocks::Done;
 use crate::departures::departures_behind;
 use crate::laws::done_are_kept;
 use mq_alike::alike_is_first;
+use mq_asked::demands_of;
 use mq_base::{OutOfMemory, Steps};
 use mq_core::{Demand, Fates, Rows, Stream};
 use mq_delay::DelayStep;
 use mq_scan::Blocks;
-use mq_stations::demands_of;
 use std::alloc::Global;
 use std::sync::ledger::Ledger;
 

@@ -13,11 +13,12 @@ use crate::behind::{carry_before, last_of};
 use crate::blocks::{Done, redone_last};
 use crate::departures::with_first;
 use mq_alike::alike_is_first;
+use mq_asked::all_asked_of;
 use mq_base::{List, OutOfMemory, Steps};
 use mq_core::{Demand, Fates, Rows, Stream};
 use mq_forkjoin::ForkJoinStep;
 use mq_scan::{Blocks, Step, cut};
-use mq_stations::{all_demands_of, branch_demands};
+use mq_stations::branch_demands;
 use std::alloc::Global;
 use std::sync::ledger::Ledger;
 
@@ -81,7 +82,7 @@ pub fn branched_behind<L: Ledger>(
     let last = last_of(alloc, arrivals, first * blocks.block)?;
     let behind = last.stream();
     let asked = branch_demands(alloc, branches)?;
-    let demands = all_demands_of(alloc, rows, &asked, &behind.job)?;
+    let demands = all_asked_of(alloc, rows, &asked, &behind.job)?;
     let begins = branch_begins(alloc, branches)?;
     let step = ForkJoinStep::new(behind, &demands, &begins);
     let carry = carry_before(carries, first, step.first());

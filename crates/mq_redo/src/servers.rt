@@ -11,12 +11,12 @@ use crate::behind::{carry_before, last_of};
 use crate::blocks::{Done, redone_last};
 use crate::departures::with_first;
 use mq_alike::alike_is_first;
+use mq_asked::demands_of;
 use mq_base::{OutOfMemory, Steps};
 use mq_core::{Demand, Fates, Rows, Stream};
 use mq_maxplus::Mp;
 use mq_scan::{Blocks, Step, cut};
 use mq_server::ServerStep;
-use mq_stations::demands_of;
 use std::alloc::Global;
 use std::sync::ledger::Ledger;
 

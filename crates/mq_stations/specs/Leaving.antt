@@ -9,8 +9,6 @@ use Rattle.mq_core.specs.Sequences.{IsStream, sequence_fates, sequence_outs, seq
 use Rattle.mq_core.specs.OnceOut.{leaving_times}
 use Rattle.mq_core.specs.Streams.{picked}
 use Rattle.mq_core.specs.Sound.{is_sound_kind, outputs_in}
-use Rattle.mq_core.specs.Told.{HasDemand}
-use Rattle.mq_core.specs.declared.model.Demand.{Demand}
 use Rattle.mq_core.specs.declared.model.Fate.{Fate}
 use Rattle.mq_core.specs.declared.model.Fate.TheVariants.{Departs}
 use Rattle.mq_core.specs.declared.model.Kind.{Kind}
@@ -28,10 +26,6 @@ pub record IsEarlyStream (stream : Stream) : Type 0 where
 -- the rows tell what each of these jobs asks for at a node of this kind, each demand in its limit
 abbrev pub HaveDemands : Rows → Kind → List ℕ → Type 0
 HaveDemands rows kind jobs = (k job : ℕ) → slice_get jobs k ≡ Some job → HasDemands rows kind job
-
--- the rows tell what each of these jobs asks for by this demand
-abbrev pub AreAsked : Rows → Demand → List ℕ → Type 0
-AreAsked rows demand jobs = (k job : ℕ) → slice_get jobs k ≡ Some job → HasDemand rows demand job
 
 -- the rows have the value of each of these jobs that a route looks at
 abbrev pub AreRouted : Rows → Route → List ℕ → Type 0

@@ -3,7 +3,7 @@ ghost use Rattle.std.specs.Prelude.{IfOk};
 ghost use Rattle.mq_core.specs.declared.model.Kind.TheVariants.{Delay};
 ghost use Rattle.mq_stations.specs.Leaving.{AreDepartures, IsLoad};
 
-use crate::outflow::demands_of;
+use mq_asked::asked_of;
 use mq_base::{List, OutOfMemory};
 use mq_core::{Demand, Rows, Stream};
 use mq_delay::delay_departures;
@@ -19,6 +19,6 @@ pub fn delay_whole(
     requires { IsLoad rows.now (Delay demand.now) arrivals.now }
     ensures { IfOk result (λ departs. AreDepartures rows.now (Delay demand.now) arrivals.now departs) }
 {
-    let demands = demands_of(alloc, rows, demand, &arrivals.job)?;
-    delay_departures(alloc, arrivals, &demands)
+    let asked = asked_of(alloc, rows, demand, &arrivals.job)?;
+    delay_departures(alloc, arrivals, asked.list())
 }

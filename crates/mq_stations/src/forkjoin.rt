@@ -1,12 +1,11 @@
 // A fork-join, whole and by blocks.
 ghost use Rattle.std.specs.Prelude.{◌≡◌, ◌≤◌, All, length, map, IfOk};
-ghost use Rattle.std.specs.List.{AllByRecursion, flat_map};
-ghost use Rattle.mq_core.specs.Kinds.ForkJoin.{branch_demands as demands_by_branch};
+ghost use Rattle.std.specs.List.{flat_map};
 ghost use Rattle.mq_core.specs.declared.model.Kind.TheVariants.{ForkJoin};
 ghost use Rattle.mq_stations.specs.Scans.{IsForkJoinScan};
-ghost use Rattle.mq_stations.specs.Leaving.{AreAsked, AreServed, IsLoad};
+ghost use Rattle.mq_stations.specs.Leaving.{AreServed, IsLoad};
 
-use crate::outflow::all_demands_of;
+use mq_asked::{Asked, all_asked_of, branches_asked_of};
 use mq_base::{List, OutOfMemory};
 use mq_core::{Demand, Rows, Stream};
 use mq_forkjoin::fork_departures;
@@ -15,9 +14,9 @@ use std::alloc::Global;
 
 /// A fork-join that is scanned, block by block at each server.
 #[derive(Drop)]
-pub struct ForkJoinScan {
+pub struct ForkJoinScan<'a> {
     /// What each job asks for at each server of each branch, in ticks.
-    pub demands: List<List<List<u64>>>,
+    pub demands: List<List<Asked<'a>>>,
     /// The jobs by position, cut into blocks.
     pub blocks: Blocks,
 }
@@ -33,7 +32,7 @@ pub fn forkjoin_whole(
     ensures { IfOk result (λ departs. AreServed rows.now (ForkJoin branches.now) arrivals.now departs) }
 {
     let asked = branch_demands(alloc, branches)?;
-    let demands = all_demands_of(alloc, rows, &asked, &arrivals.job)?;
+    let demands = all_asked_of(alloc, rows, &asked, &arrivals.job)?;
     let Ok(servers) = branch_servers(alloc, branches) else {
         drop(asked);
         drop(demands);
@@ -44,45 +43,21 @@ pub fn forkjoin_whole(
 
 /// How a fork-join is scanned: by blocks of at least so many jobs, which is 1 at least, at most 16,384 of
 /// them. It refuses for want of memory alone.
-pub fn forkjoin_scan(
+pub fn forkjoin_scan<'a>(
     alloc: Global,
-    rows: &Rows,
+    rows: &'a Rows,
     branches: &List<List<Demand>>,
     arrivals: &Stream,
     block: u32,
-) -> Result<ForkJoinScan, OutOfMemory>
+) -> Result<ForkJoinScan<'a>, OutOfMemory>
     requires load { IsLoad rows.now (ForkJoin branches.now) arrivals.now }
     requires some { 1 ≤ block }
     ensures { IfOk result (λ scan. IsForkJoinScan rows.now branches.now arrivals.now scan) }
 {
     let size = arrivals.job.len() as u32;
-    let demands = demands_of_branches(alloc, rows, branches, &arrivals.job)?;
+    let demands = branches_asked_of(alloc, rows, branches, &arrivals.job)?;
     let blocks = cut(size, block_size(size, block));
     Ok(ForkJoinScan { demands, blocks })
-}
-
-// What each job asks for at each server of each branch, in ticks.
-fn demands_of_branches(
-    alloc: Global,
-    rows: &Rows,
-    branches: &List<List<Demand>>,
-    jobs: &List<u32>,
-) -> Result<List<List<List<u64>>>, OutOfMemory>
-    requires { AllByRecursion (λ asked. All (λ demand. AreAsked rows.now demand jobs.now) asked) branches.now }
-    ensures { IfOk result (λ demands. demands ≡ demands_by_branch rows.now branches.now jobs.now) }
-{
-    let mut demands = List::new(alloc);
-    for at in 0..branches.len() {
-        let Ok(each) = all_demands_of(alloc, rows, branches.get(at), jobs) else {
-            drop(demands);
-            return Err(OutOfMemory);
-        };
-        let Ok(()) = demands.push(each) else {
-            drop(demands);
-            return Err(OutOfMemory);
-        };
-    }
-    Ok(demands)
 }
 
 /// What the servers ask for, branch after branch. It refuses for want of memory alone.

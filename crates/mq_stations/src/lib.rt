@@ -26,7 +26,7 @@ pub use late::{first_late, first_late_in_turn, first_late_overtaken};
 use loss::loss_outflow;
 use mq_base::{List, OutOfMemory};
 use mq_core::{Kind, Rows, Stream};
-pub use outflow::{Left, Outflow, all_demands_of, demands_of, fates_of, only};
+pub use outflow::{Left, Outflow, fates_of, only};
 use server::server_whole;
 use source::source_departures;
 use split::split_outflow;

@@ -5,10 +5,12 @@ ghost use Rattle.mq_core.specs.Sequences.{IsSoundLoad};
 ghost use Rattle.mq_core.specs.Streams.{picked};
 ghost use Rattle.mq_core.specs.declared.model.Kind.TheVariants.{Loss};
 ghost use Rattle.mq_stations.specs.Losses.{AreAdmittedAndLost, out_of_admission};
-ghost use Rattle.mq_stations.specs.Leaving.{AreAsked, IsLeaving, IsLoad};
+ghost use Rattle.mq_asked.specs.Demands.{AreAsked};
+ghost use Rattle.mq_stations.specs.Leaving.{IsLeaving, IsLoad};
 ghost use Rattle.mq_loss.specs.Rounds.{IsSettled};
 
-use crate::outflow::{Outflow, both, demands_of, fates_by_admission};
+use crate::outflow::{Outflow, both, fates_by_admission};
+use mq_asked::asked_of;
 use mq_base::{List, OutOfMemory, Steps};
 use mq_core::{Demand, Rows, Stream, fates_are_in_time};
 use mq_loss::{Settled, settle};
@@ -71,9 +73,9 @@ fn settled<L: Ledger>(
     requires some { 0 < blank.parts }
     ensures { IfOk result (λ settled. IsSettled places arrivals.now.time (map (demand_of_job rows.now demand.now) arrivals.now.job) settled) }
 {
-    let demands = demands_of(alloc, rows, demand, &arrivals.job)?;
+    let asked = asked_of(alloc, rows, demand, &arrivals.job)?;
     let mut steps = Steps::<L>::new(blank);
-    settle(alloc, arrivals, &demands, places, window, &mut steps)
+    settle(alloc, arrivals, asked.list(), places, window, &mut steps)
 }
 
 // The streams that leave: the jobs that are admitted, at their departures, and the others, which

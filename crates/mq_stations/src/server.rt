@@ -3,7 +3,7 @@ ghost use Rattle.std.specs.Prelude.{IfOk};
 ghost use Rattle.mq_core.specs.declared.model.Kind.TheVariants.{Server};
 ghost use Rattle.mq_stations.specs.Leaving.{AreServed, IsLoad};
 
-use crate::outflow::demands_of;
+use mq_asked::asked_of;
 use mq_base::{List, OutOfMemory};
 use mq_core::{Demand, Rows, Stream};
 use mq_server::departures;
@@ -19,6 +19,6 @@ pub fn server_whole(
     requires { IsLoad rows.now (Server demand.now) arrivals.now }
     ensures { IfOk result (λ departs. AreServed rows.now (Server demand.now) arrivals.now departs) }
 {
-    let demands = demands_of(alloc, rows, demand, &arrivals.job)?;
-    departures(alloc, arrivals, &demands)
+    let asked = asked_of(alloc, rows, demand, &arrivals.job)?;
+    departures(alloc, arrivals, asked.list())
 }

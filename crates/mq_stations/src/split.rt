@@ -14,7 +14,8 @@ ghost use Rattle.mq_split.specs.Outs.{AreParts, HasOutputs, outs_from, picked_st
 ghost use Rattle.mq_stations.specs.Leaving.{AreRouted, IsLeaving, IsLoad};
 ghost use Rattle.mq_stations.specs.Scans.{AreFewBlocks, AreSplitBlocks, AreSplitParts, HaveParts};
 
-use crate::outflow::{Outflow, demands_in, fates_of};
+use crate::outflow::{Outflow, fates_of};
+use mq_asked::demands_in;
 use mq_base::{List, OutOfMemory};
 use mq_core::{Demand, Route, Rows, Stream, outputs_of_route};
 use mq_scan::{Blocks, block_size, cut};

@@ -4,11 +4,12 @@ ghost use Rattle.mq_core.specs.Handling.{demand_of_job};
 ghost use Rattle.mq_core.specs.Recurrences.{tandem_departs};
 ghost use Rattle.mq_core.specs.declared.model.Kind.TheVariants.{Tandem};
 ghost use Rattle.mq_stations.specs.Scans.{AreTandemCarries, AreTandemTimes, IsTandemScan, IsTandemSum};
-ghost use Rattle.mq_stations.specs.Leaving.{AreAsked, AreServed, IsLoad};
+ghost use Rattle.mq_asked.specs.Demands.{AreAsked};
+ghost use Rattle.mq_stations.specs.Leaving.{AreServed, IsLoad};
 ghost use Rattle.mq_maxplus.specs.declared.mp.Mp.{Mp as TheMp};
 ghost use Rattle.mq_tandem.specs.Rows.{IsTandemLoad};
 
-use crate::outflow::all_demands_of;
+use mq_asked::{Asked, all_asked_of};
 use mq_base::{List, OutOfMemory};
 use mq_core::{Demand, Rows, Stage, Stream};
 use mq_maxplus::Matrix;
@@ -18,9 +19,9 @@ use std::alloc::Global;
 
 /// A tandem that is scanned, block by block.
 #[derive(Drop)]
-pub struct TandemScan {
+pub struct TandemScan<'a> {
     /// What each job asks for at each stage, in ticks.
-    pub demands: List<List<u64>>,
+    pub demands: List<Asked<'a>>,
     /// How many jobs each stage holds.
     pub places: List<u8>,
     /// The jobs by position, cut into blocks.
@@ -47,13 +48,13 @@ pub fn tandem_whole(
 
 /// How a tandem is scanned: by blocks of at least so many jobs, which is 1 at least, at most 1,024 of them.
 /// It refuses for want of memory alone.
-pub fn tandem_scan(
+pub fn tandem_scan<'a>(
     alloc: Global,
-    rows: &Rows,
+    rows: &'a Rows,
     stages: &List<Stage>,
     arrivals: &Stream,
     block: u32,
-) -> Result<TandemScan, OutOfMemory>
+) -> Result<TandemScan<'a>, OutOfMemory>
     requires load { IsLoad rows.now (Tandem stages.now) arrivals.now }
     requires some { 1 ≤ block }
     ensures { IfOk result (λ scan. IsTandemScan rows.now stages.now arrivals.now scan) }
@@ -150,17 +151,17 @@ pub fn tandem_joined(
 }
 
 // What each job asks for at each stage, in ticks.
-fn demands_of_stages(
+fn demands_of_stages<'a>(
     alloc: Global,
-    rows: &Rows,
+    rows: &'a Rows,
     stages: &List<Stage>,
     jobs: &List<u32>,
-) -> Result<List<List<u64>>, OutOfMemory>
+) -> Result<List<Asked<'a>>, OutOfMemory>
     requires { All (λ demand. AreAsked rows.now demand jobs.now) (map (λ stage. stage.demand) stages.now) }
     ensures { IfOk result (λ demands. demands ≡ map (λ demand. map (demand_of_job rows.now demand) jobs.now) (map (λ stage. stage.demand) stages.now)) }
 {
     let asked = stage_demands(alloc, stages)?;
-    all_demands_of(alloc, rows, &asked, jobs)
+    all_asked_of(alloc, rows, &asked, jobs)
 }
 
 // What the stages ask for.

@@ -3,11 +3,13 @@ ghost use Rattle.std.specs.Prelude.{◌≡◌, ◌∷◌, ◌<◌, ◌≤◌, []
 ghost use Rattle.mq_core.specs.Handling.{demand_of_job};
 ghost use Rattle.mq_core.specs.Sequences.{IsSoundLoad, IsStream};
 ghost use Rattle.mq_core.specs.declared.model.Kind.TheVariants.{Trunk as TheTrunk};
-ghost use Rattle.mq_stations.specs.Leaving.{AreAsked, IsLeaving, IsLoad};
+ghost use Rattle.mq_asked.specs.Demands.{AreAsked};
+ghost use Rattle.mq_stations.specs.Leaving.{IsLeaving, IsLoad};
 ghost use Rattle.mq_rounds.specs.Rounds.{fates_by};
 ghost use Rattle.mq_trunk.specs.Parts.{IsSettled};
 
-use crate::outflow::{Outflow, both, demands_of, fates_by_admission};
+use crate::outflow::{Outflow, both, fates_by_admission};
+use mq_asked::asked_of;
 use mq_base::{OutOfMemory, Steps};
 use mq_core::{Demand, Rows, Stream};
 use mq_trunk::{Trunk, settle_trunk};
@@ -61,9 +63,9 @@ fn settled<L: Ledger>(
     requires some { 0 < blank.parts }
     ensures { IfOk result (λ settled. IsSettled servers arrivals.now (map (demand_of_job rows.now demand.now) arrivals.now.job) settled) }
 {
-    let demands = demands_of(alloc, rows, demand, &arrivals.job)?;
+    let asked = asked_of(alloc, rows, demand, &arrivals.job)?;
     let mut steps = Steps::<L>::new(blank);
-    settle_trunk(alloc, arrivals, &demands, servers, window, &mut steps)
+    settle_trunk(alloc, arrivals, asked.list(), servers, window, &mut steps)
 }
 
 // The fates of the arrivals, and what leaves by each output.

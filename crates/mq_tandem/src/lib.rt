@@ -17,6 +17,7 @@ mod runs;
 mod step;
 
 pub use latest::Latest;
+use mq_asked::Asked;
 use mq_base::{List, OutOfMemory};
 use mq_core::Stream;
 use mq_scan::scan_times;
@@ -39,7 +40,7 @@ const BLOCK: u32 = 4096;
 pub fn tandem_departures(
     alloc: Global,
     stream: &Stream,
-    demands: &List<List<u64>>,
+    demands: &List<Asked>,
     places: &List<u8>,
 ) -> Result<List<u64>, OutOfMemory>
     requires load { All (λ column. IsSoundLoad stream.now.time column) demands.now }

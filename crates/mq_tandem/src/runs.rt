@@ -25,7 +25,7 @@ impl<'a> TandemStep<'a> {
             let behind = row + kept_of(self.places, stage);
             let served = time
                 .max(rows.get(row))
-                .plus(Mp::At(*self.demands.get(stage).get(at)));
+                .plus(Mp::At(self.demands.get(stage).at(at)));
             time = served.max(room_behind(rows, self.places, stage + 1, behind));
             put_latest(rows, row, behind, time);
             row = behind;

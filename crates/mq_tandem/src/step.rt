@@ -11,6 +11,7 @@ ghost use Rattle.mq_tandem.specs.Bounds.{folds_size, spans_join as joins_of};
 ghost use Rattle.mq_tandem.specs.Times.{spans_act as acts_of};
 
 use crate::Latest;
+use mq_asked::Asked;
 use mq_base::List;
 use mq_core::Stream;
 use mq_maxplus::Matrix;
@@ -31,7 +32,7 @@ pub struct TandemStep<'a> {
     /// When the jobs come, by position, in ticks.
     pub arrive: &'a List<u64>,
     /// What they need at each stage, by position, in ticks of service.
-    pub demands: &'a List<List<u64>>,
+    pub demands: &'a List<Asked<'a>>,
     /// How many jobs each stage holds.
     pub places: &'a List<u8>,
     // How many departures are kept, and the zero.
@@ -52,7 +53,7 @@ impl<'a> TandemStep<'a> {
     /// isn't looked at. It takes no memory.
     pub fn new(
         stream: &'a Stream,
-        demands: &'a List<List<u64>>,
+        demands: &'a List<Asked<'a>>,
         places: &'a List<u8>,
     ) -> TandemStep<'a>
         requires load { All (λ column. IsSoundLoad stream.now.time column) demands.now }
@@ -82,7 +83,7 @@ impl<'a> TandemStep<'a> {
         let mut row = 0;
         for stage in 0..self.places.len() {
             let behind = row + kept_of(self.places, stage);
-            let done = time.max(latest.get(row)) + *self.demands.get(stage).get(at);
+            let done = time.max(latest.get(row)) + self.demands.get(stage).at(at);
             time = done.max(room_at(latest, self.places, stage + 1, behind));
             latest.put(row, behind, time);
             row = behind;

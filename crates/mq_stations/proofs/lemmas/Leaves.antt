@@ -30,7 +30,8 @@ use Rattle.mq_core.specs.declared.model.Route.TheVariants.{Cut, Modulo, Turn}
 use Rattle.mq_core.specs.declared.model.Rows.{Rows}
 use Rattle.mq_core.specs.declared.model.Stream.{Stream}
 use Rattle.mq_split.specs.Outs.{AreParts, HasOutputs, outs_from}
-use Rattle.mq_stations.specs.Leaving.{AreDepartures, AreServed, AreAsked, AreLeft, IsLeaving, IsLeft, IsLoad, left_by}
+use Rattle.mq_asked.specs.Demands.{AreAsked}
+use Rattle.mq_stations.specs.Leaving.{AreDepartures, AreServed, AreLeft, IsLeaving, IsLeft, IsLoad, left_by}
 use Rattle.mq_stations.specs.declared.outflow.Left.{Left}
 use Rattle.mq_stations.specs.declared.outflow.Left.TheVariants.{Departures, Streams}
 use Rattle.mq_stations.specs.declared.outflow.Outflow.{Outflow}

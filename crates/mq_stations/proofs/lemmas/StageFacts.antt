@@ -5,8 +5,7 @@ use Rattle.std.specs.List.{AllByRecursion as Each, flat_map, list_all}
 use Rattle.std.proofs.lemmas.Bool.{and_parts}
 use Rattle.std.proofs.lemmas.Bool.Decides.{nat_tests}
 use Rattle.std.proofs.lemmas.List.{length-map}
-use Rattle.std.proofs.lemmas.List.Elements.{All-get_or}
-use Rattle.std.proofs.lemmas.Option.{get_or_from_slice_get, slice_get_within}
+pub use Rattle.mq_asked.proofs.lemmas.Lists.{All-index}
 use Rattle.mq_base.proofs.lemmas.Lists.{sum-cons}
 use Rattle.mq_base.proofs.lemmas.Each.{Each-map, Each-weaker, Each-front, Each-back}
 use Rattle.mq_core.specs.Sequences.{IsSoundLoad}
@@ -26,13 +25,10 @@ use Rattle.mq_core.specs.declared.model.Stream.{Stream}
 use Rattle.mq_forkjoin.specs.Branches.{AreBranches, branches_of}
 use Rattle.mq_tandem.specs.Stages.{AreStages}
 use Rattle.mq_stations.specs.Scans.{AreBranchLoads, IsBranchLoad}
-use Rattle.mq_stations.specs.Leaving.{AreServed, AreAsked, IsLoad}
+use Rattle.mq_asked.specs.Demands.{AreAsked}
+use Rattle.mq_stations.specs.Leaving.{AreServed, IsLoad}
 use Rattle.mq_stations.proofs.lemmas.Leaves.{AreToldBy, asked-each, load-sound}
 use Rattle.mq_stations.proofs.lemmas.Lists.{Each-get_or}
-
--- what holds of each item holds of the one at an index
-pub All-index : {X : Type 0} (P : X → Type 0) (xs : List X) (i : ℕ) (x : X) → All P xs → slice_get xs i ≡ Some x → P x
-All-index P xs i x h e = subst P (get_or_from_slice_get xs i x x e) (All-get_or P xs i x (slice_get_within xs i x e) h)
 
 -- what follows from a test that each item passes holds of each
 each-tested : {X : Type 0} (test : X → Bool) (P : X → Type 0) → ((x : X) → test x ≡ true → P x) → (xs : List X) → list_all test xs ≡ true → Each P xs

@@ -11,7 +11,7 @@ use Rattle.mq_core.specs.declared.model.Stream.{Stream}
 use Rattle.mq_forkjoin.specs.Runs.{IsForkJoinLoad}
 use Rattle.mq_forkjoin.specs.Servers.{begins_of}
 use Rattle.mq_stations.proofs.lemmas.StageFacts.{demands-asked, demands-told}
-use Rattle.mq_stations.specs.Leaving.{AreAsked}
+use Rattle.mq_asked.specs.Demands.{AreAsked}
 use Rattle.mq_redo.specs.Branches.{asks_at_servers}
 use Rattle.mq_redo.proofs.ForkJoinTail.{acts, few-kept, forkjoin-load, served, served-behind, station}
 use Rattle.mq_redo.proofs.Last.{asked-last, loads-last, told-last}

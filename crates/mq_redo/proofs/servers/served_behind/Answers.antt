@@ -7,7 +7,7 @@ use Rattle.mq_core.specs.declared.model.Fate.TheVariants.{Departs}
 use Rattle.mq_core.specs.declared.model.Kind.TheVariants.{Server}
 use Rattle.mq_core.specs.declared.model.Stream.{Stream}
 use Rattle.mq_stations.proofs.lemmas.Leaves.{asked-each, load-sound}
-use Rattle.mq_stations.specs.Leaving.{AreAsked}
+use Rattle.mq_asked.specs.Demands.{AreAsked}
 use Rattle.mq_redo.proofs.Last.{sound-last, told-last}
 use Rattle.mq_redo.proofs.ServerTail.{acts, few-kept, served, served-behind, station}
 use Rattle.mq_redo.proofs.Tails.{blocks-behind}

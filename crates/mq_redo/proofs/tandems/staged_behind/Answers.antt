@@ -8,7 +8,7 @@ use Rattle.mq_core.specs.declared.model.Fate.TheVariants.{Departs}
 use Rattle.mq_core.specs.declared.model.Stage.{Stage}
 use Rattle.mq_core.specs.declared.model.Stream.{Stream}
 use Rattle.mq_stations.proofs.lemmas.StageFacts.{demands-asked, demands-told, stages-are}
-use Rattle.mq_stations.specs.Leaving.{AreAsked}
+use Rattle.mq_asked.specs.Demands.{AreAsked}
 use Rattle.mq_tandem.specs.Rows.{none_kept}
 use Rattle.mq_redo.specs.Stages.{asks_at_stages, places_of}
 use Rattle.mq_redo.proofs.Last.{asked-last, loads-last, told-last}
@@ -16,8 +16,8 @@ use Rattle.mq_redo.proofs.TandemTail.{acts, few-kept, reads, served, served-behi
 use Rattle.mq_redo.proofs.Tails.{blocks-behind}
 use Rattle.mq_redo.proofs.tandems.staged_behind.Goals as goal
 
-pub all_demands_of-requires : goal.all_demands_of-requires
-all_demands_of-requires g c =
+pub all_asked_of-requires : goal.all_asked_of-requires
+all_asked_of-requires g c =
     let from = c.args.first * c.args.blocks.now.block in
     let is = c.stream-behind.ensures ∙ c.in_ok-last.ensures in
     let stages = c.args.stages.now in

@@ -3,8 +3,8 @@ use Rattle.mq_scan.proofs.lemmas.Blocks.{blocks-most}
 use Rattle.mq_stations.proofs.lemmas.StageFacts.{asked-by_branch}
 use Rattle.mq_stations.proofs.forkjoin.forkjoin_scan.Goals as goal
 
-pub demands_of_branches-requires : goal.demands_of_branches-requires
-demands_of_branches-requires c = asked-by_branch c.args.rows.now c.args.branches.now c.args.arrivals.now c.requires.load
+pub branches_asked_of-requires : goal.branches_asked_of-requires
+branches_asked_of-requires c = asked-by_branch c.args.rows.now c.args.branches.now c.args.arrivals.now c.requires.load
 
 pub returns : goal.returns
 returns c =

@@ -5,8 +5,8 @@ use Rattle.mq_core.specs.declared.model.Kind.TheVariants.{ForkJoin}
 use Rattle.mq_stations.proofs.lemmas.StageFacts.{branches-are, demands-asked, demands-told, forkjoin-served, loads-sound, narrow-branches}
 use Rattle.mq_stations.proofs.forkjoin.forkjoin_whole.Goals as goal
 
-pub all_demands_of-requires : goal.all_demands_of-requires
-all_demands_of-requires c = demands-asked c.args.rows.now _ _ c.args.arrivals.now.job c.in_ok-asked.ensures (demands-told c.args.rows.now _ c.args.arrivals.now.job c.requires.told)
+pub all_asked_of-requires : goal.all_asked_of-requires
+all_asked_of-requires c = demands-asked c.args.rows.now _ _ c.args.arrivals.now.job c.in_ok-asked.ensures (demands-told c.args.rows.now _ c.args.arrivals.now.job c.requires.told)
 
 pub branch_servers-requires : goal.branch_servers-requires
 branch_servers-requires c = narrow-branches c.requires.columns c.args.branches.now c.requires.sound

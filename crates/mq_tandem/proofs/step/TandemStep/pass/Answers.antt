@@ -23,18 +23,18 @@ loop-stage-init c =
     let is = came-is step.arrive.now step.demands.now step.places.now step.load c.args.at c.args.rows.now step.rows c.get-2.result.now c.get.result step.all_rows c.get.ensures c.get-2.ensures in
     passing-begins step.arrive.now step.demands.now step.places.now step.load c.args.at c.args.rows.now step.rows c.plus-time.result step.all_rows c.requires.size (c.plus-time.ensures ∙ is)
 
-pub get-requires-in-loop-stage-3 : goal.get-requires-in-loop-stage-3
-get-requires-in-loop-stage-3 c =
+pub at-requires : goal.at-requires
+at-requires c =
     let step = c.args.self.now in
     column-there step.arrive.now step.demands.now c.loop-stage.stage c.args.at c.get-in-loop-stage-2.result.now step.load.load c.get-in-loop-stage-2.ensures c.requires.inside
 
 pub plus-served-requires : goal.plus-served-requires
 plus-served-requires c =
     let step = c.args.self.now in
-    let demand = firsts-at step.demands.now c.args.at c.loop-stage.stage c.get-in-loop-stage-2.result.now c.get-in-loop-stage-3.result.now c.get-in-loop-stage-2.ensures c.get-in-loop-stage-3.ensures in
+    let demand = firsts-at step.demands.now c.args.at c.loop-stage.stage c.get-in-loop-stage-2.result.now c.at.result c.get-in-loop-stage-2.ensures c.at.ensures in
     let some = some-kept step.places.now c.loop-stage.stage c.kept_of.result step.load.stages.room c.kept_of.ensures in
-    let fits = served-fits (job_act step.places.now step.arrive.now step.demands.now c.args.at c.args.rows.now) (kept step.places.now) (firsts (map (drop c.args.at) step.demands.now)) step.rows c.loop-stage.time c.loop-stage.rows c.loop-stage.row c.loop-stage.stage c.kept_of.result c.get-in-loop-stage-3.result.now c.kept_of.ensures demand some c.requires.fits c.loop-stage.invariant in
-    subst (λ (x : Mp). Fits (mp_plus x (At c.get-in-loop-stage-3.result.now))) (sym (c.max.ensures ∙ ap (mp_max c.loop-stage.time) c.get-in-loop-stage.ensures)) fits
+    let fits = served-fits (job_act step.places.now step.arrive.now step.demands.now c.args.at c.args.rows.now) (kept step.places.now) (firsts (map (drop c.args.at) step.demands.now)) step.rows c.loop-stage.time c.loop-stage.rows c.loop-stage.row c.loop-stage.stage c.kept_of.result c.at.result c.kept_of.ensures demand some c.requires.fits c.loop-stage.invariant in
+    subst (λ (x : Mp). Fits (mp_plus x (At c.at.result))) (sym (c.max.ensures ∙ ap (mp_max c.loop-stage.time) c.get-in-loop-stage.ensures)) fits
 
 pub room_behind-requires-clause-room : goal.room_behind-requires-clause-room
 room_behind-requires-clause-room c = room-left c.args.self.now.places.now c.loop-stage.stage c.args.self.now.load.stages.room
@@ -46,8 +46,8 @@ loop-stage-preserved c =
     let row = c.loop-stage.row in
     let rows = c.loop-stage.rows in
     let count = c.kept_of.result in
-    let amount = c.get-in-loop-stage-3.result.now in
-    let demand = firsts-at step.demands.now c.args.at stage c.get-in-loop-stage-2.result.now amount c.get-in-loop-stage-2.ensures c.get-in-loop-stage-3.ensures in
+    let amount = c.at.result in
+    let demand = firsts-at step.demands.now c.args.at stage c.get-in-loop-stage-2.result.now amount c.get-in-loop-stage-2.ensures c.at.ensures in
     let served : c.plus-served.result ≡ mp_plus (mp_max c.loop-stage.time (entry rows row)) (At amount) = c.plus-served.ensures ∙ ap (λ (x : Mp). mp_plus x (At amount)) (c.max.ensures ∙ ap (mp_max c.loop-stage.time) c.get-in-loop-stage.ensures) in
     let room : c.room_behind.result ≡ room_row (drop (stage + 1) (kept step.places.now)) (drop (row + count) rows) = c.room_behind.ensures ∙ ap (λ left. room_row left (drop (row + count) rows)) (sym (kept-drop step.places.now stage)) in
     let time : c.max-time.result ≡ leaves c.loop-stage.time count amount (drop (stage + 1) (kept step.places.now)) rows row = c.max-time.ensures ∙ (λ i. mp_max (served i) (room i)) in

@@ -26,16 +26,16 @@ loop-stage-init c =
     let is = came-is step.arrive.now step.demands.now step.places.now step.load c.args.at c.args.latest.now step.rows c.get-2.result.now (At c.get.result) step.all_rows (sym c.get.ensures) c.get-2.ensures in
     passing-begins step.arrive.now step.demands.now step.places.now step.load c.args.at c.args.latest.now step.rows (At (c.get.result + c.get-2.result.now)) step.all_rows c.requires.size is
 
-pub get-requires-in-loop-stage-3 : goal.get-requires-in-loop-stage-3
-get-requires-in-loop-stage-3 c =
+pub at-requires : goal.at-requires
+at-requires c =
     let step = c.args.self.now in
     column-there step.arrive.now step.demands.now c.loop-stage.stage c.args.at c.get-in-loop-stage-2.result.now step.load.load c.get-in-loop-stage-2.ensures c.requires.inside
 
 pub overflow_add-done : goal.overflow_add-done
 overflow_add-done c =
     let step = c.args.self.now in
-    let amount = c.get-in-loop-stage-3.result.now in
-    let demand = firsts-at step.demands.now c.args.at c.loop-stage.stage c.get-in-loop-stage-2.result.now amount c.get-in-loop-stage-2.ensures c.get-in-loop-stage-3.ensures in
+    let amount = c.at.result in
+    let demand = firsts-at step.demands.now c.args.at c.loop-stage.stage c.get-in-loop-stage-2.result.now amount c.get-in-loop-stage-2.ensures c.at.ensures in
     let some = some-kept step.places.now c.loop-stage.stage c.kept_of.result step.load.stages.room c.kept_of.ensures in
     let fits = served-fits (job_act step.places.now step.arrive.now step.demands.now c.args.at c.args.latest.now) (kept step.places.now) (firsts (map (drop c.args.at) step.demands.now)) step.rows (At c.loop-stage.time) c.loop-stage.latest c.loop-stage.row c.loop-stage.stage c.kept_of.result amount c.kept_of.ensures demand some c.requires.fits c.loop-stage.invariant in
     let done : max c.loop-stage.time c.get-in-loop-stage.result + amount < 2 ^ 64 = subst (λ (x : Mp). Fits (mp_plus (mp_max (At c.loop-stage.time) x) (At amount))) c.get-in-loop-stage.ensures fits in
@@ -53,8 +53,8 @@ loop-stage-preserved c =
     let rows = c.loop-stage.latest in
     let time = c.loop-stage.time in
     let count = c.kept_of.result in
-    let amount = c.get-in-loop-stage-3.result.now in
-    let demand = firsts-at step.demands.now c.args.at stage c.get-in-loop-stage-2.result.now amount c.get-in-loop-stage-2.ensures c.get-in-loop-stage-3.ensures in
+    let amount = c.at.result in
+    let demand = firsts-at step.demands.now c.args.at stage c.get-in-loop-stage-2.result.now amount c.get-in-loop-stage-2.ensures c.at.ensures in
     let done = c.max.result + amount in
     let space = room_row (drop (stage + 1) (kept step.places.now)) (drop (row + count) rows) in
     let room : c.room_at.result ≡ mp_or_zero space = c.room_at.ensures ∙ ap (λ left. mp_or_zero (room_row left (drop (row + count) rows))) (sym (kept-drop step.places.now stage)) in

@@ -1,7 +1,7 @@
 use Rattle.std.proofs.Common.{◌≡◌, map, take, ◌≤◌, length}
 use Rattle.mq_core.specs.Handling.{demand_of_job}
 use Rattle.std.specs.Vec.{vec_len, vec_capacity}
-use Rattle.mq_stations.proofs.outflow.demands_in.Given as goal
+use Rattle.mq_asked.proofs.demands.demands_in.Given as goal
 
 abbrev pub invariant-loop-at : goal.invariant-loop-at
 invariant-loop-at l = record {

@@ -2,8 +2,8 @@ use Rattle.std.proofs.Common.{◌≤◌, get_or, length, arith, ap, ◌∙◌, �
 use Rattle.std.proofs.lemmas.Option.{slice_get-get_or}
 use Rattle.mq_base.proofs.lemmas.Lists.{map-all}
 use Rattle.mq_core.specs.Handling.{demand_of_job}
-use Rattle.mq_stations.proofs.lemmas.Lists.{map-more}
-use Rattle.mq_stations.proofs.outflow.demands_in.Goals as goal
+use Rattle.mq_asked.proofs.lemmas.Lists.{map-more}
+use Rattle.mq_asked.proofs.demands.demands_in.Goals as goal
 
 pub demand_of-requires : goal.demand_of-requires
 demand_of-requires c = c.requires c.loop-at.at _ (slice_get-get_or c.args.jobs.now c.loop-at.at 0 c.loop-at-test.true)

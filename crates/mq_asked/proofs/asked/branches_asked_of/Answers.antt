@@ -2,18 +2,18 @@ use Rattle.std.proofs.Common.{◌≤◌, ◌++◌, ◌∷◌, [], ℕ, List, All
 use Rattle.mq_base.proofs.lemmas.Lists.{map-all}
 use Rattle.mq_core.specs.Handling.{demand_of_job}
 use Rattle.mq_core.specs.declared.model.Demand.{Demand}
-use Rattle.mq_stations.specs.Leaving.{AreAsked}
-use Rattle.mq_stations.proofs.lemmas.Lists.{Each-get, map-more}
-use Rattle.mq_stations.proofs.forkjoin.demands_of_branches.Goals as goal
+use Rattle.mq_asked.specs.Demands.{AreAsked}
+use Rattle.mq_asked.proofs.lemmas.Lists.{Each-get, map-more}
+use Rattle.mq_asked.proofs.asked.branches_asked_of.Goals as goal
 
-pub all_demands_of-requires : goal.all_demands_of-requires
-all_demands_of-requires c =
-    Each-get (λ asked. All (λ demand. AreAsked c.args.rows.now demand c.args.jobs.now) asked) c.args.branches.now c.loop-at.at c.get.result.now c.requires c.get.ensures
+pub all_asked_by-requires-clause-asked : goal.all_asked_by-requires-clause-asked
+all_asked_by-requires-clause-asked c =
+    Each-get (λ demands. All (λ demand. AreAsked c.args.rows.now demand c.args.jobs.now) demands) c.args.branches.now c.loop-at.at c.get.result.now c.requires c.get.ensures
 
 pub loop-at-preserved : goal.loop-at-preserved
 loop-at-preserved c =
     map-more (λ (demands : List Demand). map (λ demand. map (demand_of_job c.args.rows.now demand) c.args.jobs.now) demands) c.args.branches.now c.loop-at.at c.get.result.now _ _ c.get.ensures
-    (c.in-Ok-push.ensures.ok ∙ ap (λ (lists : List (List ℕ)). c.loop-at.demands ++ lists ∷ []) c.in-Ok.ensures) c.loop-at.invariant
+    (c.in-Ok-push.ensures.ok ∙ ap (λ (lists : List (List ℕ)). c.loop-at.all ++ lists ∷ []) c.in-Ok.ensures) c.loop-at.invariant
 
 pub returns : goal.returns
 returns c =

@@ -1,0 +1,2 @@
+-- The lemmas that proofs of other crates cite too.
+pub mod Lists
