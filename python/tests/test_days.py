@@ -83,7 +83,7 @@ class Days(InFolder):
         self.assertEqual(list(told), ["2026-03-27", "2026-03-28", "2026-03-29", "2026-03-30"])
         figures = [[it[name] for name in ("status", "span", "in", "wait", "max", "util")] for it in told.values()]
         self.assertEqual(figures[:2], [["0", "90", "3", "60", "40", "1.0000"], ["0", "25", "3", "0", "0", "0.6000"]])
-        left = "planner: 1 records come before a day opens or after it closes, and are left out\n"
+        left = "planner: 1 record before a day opens or after it closes, left out\n"
         told = rows_of(self.tells("days", model, trace, "--open", "9:00", "--close", "10:00", error=left), "day", node="desk")
         self.assertEqual({day: it["span"] for day, it in told.items()}, {"2026-03-27": "90", "2026-03-28": "25", "2026-03-30": "30"})
         told = rows_of(self.tells("days", model, trace, "--open", "3:00", "--node", "desk"), "day")
