@@ -108,7 +108,7 @@ class Days(InFolder):
     def test_who_stays(self):
         """One stays over the end of its piece, one leaves at that very moment."""
         trace, model = self.trace([(0, 150), (90, 5), (250, 5), (390, 10), (490, 9)]), self.file("m.txt", DESK)
-        said = "planner: on 1 of 4 days somebody is still there when the next begins, who isn't there in its run\n"
+        said = "planner: in 1 of 4 pieces somebody is still there when the next begins, who isn't there in its run\n"
         told = rows_of(self.tells("days", model, trace, "--every", 100, error=said), "day", node="desk")
         self.assertEqual({day: it["span"] for day, it in told.items()}, {"0..99": "155", "200..299": "55", "300..399": "100", "400..499": "99"})
 

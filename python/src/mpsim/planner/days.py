@@ -123,5 +123,6 @@ def main(asked):
     if left:
         say(f"{counted(left, 'record')} before a day opens or after it closes, left out")
     if over:
-        say(f"on {over} of {len(pieces)} days somebody is still there when the next begins, who isn't there in its run")
+        when = f"in {over} of {len(pieces)} pieces" if asked.every else f"on {over} of {len(pieces)} days"
+        say(f"{when} somebody is still there when the next begins, who isn't there in its run")
     return 11 if any(it.status for it in sweep.values()) else 0
