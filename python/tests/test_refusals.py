@@ -213,7 +213,7 @@ class Limits(Test):
         day = "times have no day, and are all taken to be of one, though they go back by more than half a day 1 time (--date)"
         self.assertEqual(made.warned, [day])
         made = prepare(table("8:00,8:10,x", "8:00,7:59,x", header="when,end,code"), "when", end=["end"])
-        self.assertIn("end: 1 services take more than 12 hours", made.warned)
+        self.assertIn("end: 1 service of more than 12 hours", made.warned)
         words = [f"2026-03-02 8:0{it},a,k{it}" for it in range(9)]
         values = "long has 9 values, where a split by remainders has at most 8 outputs"
         self.assertEqual(prepare(table(*words), "when", code=["long"]).warned, [values])

@@ -115,7 +115,7 @@ def main(asked):
     times = trace.times()
     pieces, left = by_ticks(times, asked.every) if asked.every else by_calendar(times, calendar.of(asked, text), asked.open, asked.close)
     with Progress(len(pieces), "days") as tell:
-        sweep, over = days(text, trace, pieces, tell, asked.model)
+        sweep, over = days(text.encode(errors="surrogateescape"), trace, pieces, tell, asked.model)
     with written() as file:
         csv.writer(file, lineterminator="\n").writerows(table(sweep, nodes=asked.node, head="day"))
     for line in pool_lines(sweep.reports().values(), asked.node):

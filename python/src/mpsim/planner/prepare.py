@@ -325,7 +325,7 @@ def _tell_values(plan, rows, made):
         elif isinstance(it, End) and not plan.is_ticks:
             over = sum(value > 12 * HOUR // plan.per for value in values)
             if over:
-                made.warned.append(f"{it.name}: {over:,} services take more than 12 hours")
+                made.warned.append(f"{it.name}: {counted(over, 'service')} of more than 12 hours")
 
 
 def _sort(made, rows, ticks):
