@@ -107,11 +107,11 @@ class Release(Check):
         words, settings = ["sh", sys.executable], {"PYTHONPATH": str(ROOT / "python" / "src")}
         told = run("sh", "-c", script, *words, settings=settings).out
         self.holds(f"settings: {told}", b"glibc.malloc.arena_max=1" in told)
-        self.did(run("sh", "-c", f"ulimit -v 4000000; {script}", *words, settings=settings), 0, "\n")
+        self.did(run("sh", "-c", f"ulimit -v 4000000; {script}", *words, settings=settings), 0, "glibc.malloc.arena_max=1\n")
         self.runs(tree / "bin" / "mpsim", out=told)
         self.runs(tree / "bin" / "mpsim", out="glibc.malloc.check=1\n", settings=["GLIBC_TUNABLES=glibc.malloc.check=1"])
         limited = ["sh", "-c", 'ulimit -v 60000 && exec "$@"', "sh"]
-        self.runs(*limited, tree / "bin" / "mpsim", out="\n")
+        self.runs(*limited, tree / "bin" / "mpsim", out="glibc.malloc.arena_max=1\n")
         shutil.copy(executable("mpsim"), program)
         self.runs(*limited, tree / "bin" / "mpsim", CALL / "model.txt", CALL / "trace.csv", out=CALL / "report.txt")
 

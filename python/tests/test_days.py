@@ -83,7 +83,7 @@ class Days(InFolder):
         self.assertEqual(list(told), ["2026-03-27", "2026-03-28", "2026-03-29", "2026-03-30"])
         figures = [[it[name] for name in ("status", "span", "in", "wait", "max", "util")] for it in told.values()]
         self.assertEqual(figures[:2], [["0", "90", "3", "60", "40", "1.0000"], ["0", "25", "3", "0", "0", "0.6000"]])
-        left = "planner: 1 records come before a day opens or after it closes, and are left out\n"
+        left = "planner: 1 record before a day opens or after it closes, left out\n"
         told = rows_of(self.tells("days", model, trace, "--open", "9:00", "--close", "10:00", error=left), "day", node="desk")
         self.assertEqual({day: it["span"] for day, it in told.items()}, {"2026-03-27": "90", "2026-03-28": "25", "2026-03-30": "30"})
         told = rows_of(self.tells("days", model, trace, "--open", "3:00", "--node", "desk"), "day")
@@ -108,7 +108,7 @@ class Days(InFolder):
     def test_who_stays(self):
         """One stays over the end of its piece, one leaves at that very moment."""
         trace, model = self.trace([(0, 150), (90, 5), (250, 5), (390, 10), (490, 9)]), self.file("m.txt", DESK)
-        said = "planner: on 1 of 4 days somebody is still there when the next begins, who isn't there in its run\n"
+        said = "planner: in 1 of 4 pieces somebody is still there when the next begins, who isn't there in its run\n"
         told = rows_of(self.tells("days", model, trace, "--every", 100, error=said), "day", node="desk")
         self.assertEqual({day: it["span"] for day, it in told.items()}, {"0..99": "155", "200..299": "55", "300..399": "100", "400..499": "99"})
 
@@ -131,6 +131,13 @@ class Days(InFolder):
         self.assertEqual(planner("days", model, trace, "--every", "0")[0], 1)
         self.assertEqual(planner("days", model, trace, "--every", "10", "--open", "8:00")[0], 1)
         self.refuses('"8 o\'clock": no time of the day as h:mm or h:mm:ss', "days", model, trace, "--open", "8 o'clock")
+        # Without a line feed it is a model all the same, and no path.
+        cr = self.file("cr.txt", TOLD.replace("\n", "\r"))
+        shown = TOLD.replace("\n", "\\r").removesuffix("\\r")
+        for words in ("days", cr, trace, "--every", 10), ("pool", cr, trace, "--node", "desk", "--agents", 2):
+            status, out, error = planner(*words)
+            self.assertEqual((status, out), (3, ""))
+            self.assertTrue(error.startswith(f"planner: {cr}: model line 1: byte not allowed: {shown}"), error)
         told = f"time 20260302080017 is {20260302080017 // DAY} days behind time 0: a tick is shorter than 1 s, or these are no ticks"
         self.refuses(told, "days", model, self.trace([(20260302080017, 1)]))
         self.refuses(f"{self.folder}/absent: No such file or directory", "days", model, self.folder / "absent")
@@ -191,6 +198,26 @@ class Hours(InFolder):
                     self.assertEqual((mean, greatest), (round(sum(waits) / len(waits), 3), max(waits)))
                     self.assertEqual(p90, sorted(waits)[math.ceil(0.9 * len(waits)) - 1])
                     self.assertEqual((of_all, of_departed), (round(share / came, 6), round(share / departed, 6)))
+
+    def test_comments_of_any_bytes(self):
+        """As mpsim takes them; what isn't a comment is refused."""
+        model, trace = self.folder / "m.txt", self.file("t.csv", "source,time,d\ndoor,0,5\n")
+        model.write_bytes(TOLD.encode().replace(b"\n", b"\n \t# B\xfcro\n", 1))
+        report = self.file("jobs.txt", "".join(mpsim.run(model, trace, jobs=True).lines()))
+        hour = self.tells("hours", model, trace, "--node", "desk")
+        self.assertEqual(came(hour), {"08:00": "1"})
+        self.assertEqual(self.tells("hours", report, "--model", model, "--node", "desk"), hour)
+        self.assertEqual(list(rows_of(self.tells("days", model, trace), "day")), ["2026-03-27"])
+        for name in "page.html", "network.svg":
+            self.tells("page", report, "--model", model, "--out", self.folder / name)
+        model.write_bytes(TOLD.encode() + b"source B\xfcro\n")
+        self.refuses(f"{model}: line 5: the byte fc is no UTF-8", "hours", report, "--model", model, "--node", "desk")
+
+    def test_no_such_year(self):
+        model, trace = self.file("m.txt", DESK), self.file("t.csv", "source,time,d\ndoor,0,5\ndoor,9,5\n")
+        for tick, start, zone in ("1min", "9999-12-31T23:59", "UTC"), ("1s", "0001-01-01T00:00", "Europe/Berlin"):
+            words = "hours", model, trace, "--node", "desk", "--tick", tick, "--start", start, "--zone", zone
+            self.refuses("a time is before the year 1 or after the year 9999", *words)
 
     def test_nobody_and_only_lost_ones(self):
         """A part from which nobody departed has no wait, and nobody of it is served."""

@@ -110,6 +110,7 @@ class Refusals(InFolder):
                 "--demand",
                 "long=Talk",
             ),
+            ("the column's name 'from' stands for something else", table(ROW), "--demand", "long=from"),
             ("the column's name 'd' is taken", table(ROW), "--demand", "long=d", "--constant", "d=1s"),
             (
                 "there is no unit 'fortnight': it is one of us, ms, s, sec, min, h, d, ticks, h:mm, m:ss, h:mm:ss, excel",
@@ -122,7 +123,7 @@ class Refusals(InFolder):
             ("--constant wrap long: no length of time: it is a number and one of us, ms, s, sec, min, h, d", table(ROW), "--constant", "wrap=long"),
             ("--empty 800000d is more than 2^36 ticks", table(ROW), "--empty", "800000d"),
             ("--rename a=B: it is OLD=NEW, where NEW is a small letter, then small letters, digits and underscores", table(ROW), "--rename", "a=B"),
-            ("1 records come before --begin 9:00, where time 0 is to be", table(ROW), "--begin", "9:00"),
+            ("1 record before --begin 9:00, where time 0 is to be", table(ROW), "--begin", "9:00"),
             ("--begin noon: no ISO 8601 time", table(ROW), "--begin", "noon"),
             ("--begin 2026-03-02: it has a day, and the times have none", table(ROW), "--begin", "2026-03-02"),
             ("column 'long' is read as clock, and column 'when' as ticks", table("5,a,8:00"), "--format", "ticks", "--end", "long"),
@@ -209,10 +210,10 @@ class Limits(Test):
     def test_warnings(self):
         self.assertIn("times look like dates with a time, as 20260302080017", prepare(table("20260302080017,a,1"), "when", format="ticks").warned[0])
         made = prepare(table("23:00,a,1", "8:00,a,1"), "when")
-        day = "times have no day, and are all taken to be of one, though they go back by more than half a day 1 times (--date)"
+        day = "times have no day, and are all taken to be of one, though they go back by more than half a day 1 time (--date)"
         self.assertEqual(made.warned, [day])
         made = prepare(table("8:00,8:10,x", "8:00,7:59,x", header="when,end,code"), "when", end=["end"])
-        self.assertIn("end: 1 services take more than 12 hours", made.warned)
+        self.assertIn("end: 1 service of more than 12 hours", made.warned)
         words = [f"2026-03-02 8:0{it},a,k{it}" for it in range(9)]
         values = "long has 9 values, where a split by remainders has at most 8 outputs"
         self.assertEqual(prepare(table(*words), "when", code=["long"]).warned, [values])

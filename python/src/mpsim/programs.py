@@ -9,10 +9,12 @@ from .errors import ProgramError
 
 HERE = os.path.dirname(os.path.abspath(__file__))
 # As tools/memory.sh has them: the C library takes memory in large pieces, on huge pages where the system gives them, which spares a quarter of the
-# time of a million records. They change no byte of a report.
+# time of a million records. They change no byte of a report. Where the address space has a limit, of which they would take 64 MB at once, the last
+# alone is set: heaps of their own, which threads would have, may take more of it than the run needs.
 TUNABLES = ":".join(
     f"glibc.malloc.{it}" for it in ("hugetlb=1", "mmap_threshold=1073741824", "trim_threshold=1073741824", "top_pad=67108864", "arena_max=1")
 )
+ONE_HEAP = "glibc.malloc.arena_max=1"
 
 
 def find(name):
@@ -26,16 +28,15 @@ def find(name):
             return file
     found = None if asked else shutil.which(name)
     if found is None:
-        where = asked or "this package, in a clone around it, or on the path"
+        where = asked or f"this package, in a clone around it (where ./{name} builds it), or on the path"
         raise ProgramError(f"there is no program {name} in {where}; MPSIM_PROGRAMS names a folder that has it")
     return found
 
 
 def surroundings():
-    """The environment of a program: this one's, with settings of memory where it has none, and where the address space has no limit, since they take
-    64 MB at once."""
-    settings = {"GLIBC_TUNABLES": TUNABLES} if resource.getrlimit(resource.RLIMIT_AS)[0] == resource.RLIM_INFINITY else {}
-    return {**settings, **os.environ}
+    """The environment of a program: this one's, with settings of memory where it has none."""
+    is_free = resource.getrlimit(resource.RLIMIT_AS)[0] == resource.RLIM_INFINITY
+    return {"GLIBC_TUNABLES": TUNABLES if is_free else ONE_HEAP, **os.environ}
 
 
 def _become(name):

@@ -109,6 +109,9 @@ def ended(argv):
     except (Error, ReportError, OSError, ValueError) as fault:
         # A fault of a program has its status here too.
         line, status = line_of(fault), getattr(fault, "status", None)
+    except OverflowError:
+        # Of dates: they are of the years 1 to 9999.
+        line, status = "a time is before the year 1 or after the year 9999", None
     except MemoryError:
         line, status = "no memory", None
     _let_go()

@@ -8,7 +8,7 @@ from ..errors import BoundError, VisitsError
 from ..runs import run
 from ..sweeps import Scenario, Sweep
 from . import calendar
-from .files import say, text_of, written
+from .files import counted, say, text_of, written
 from .hours import days_until
 from .pooled import pool_lines, pools
 from .progress import Progress
@@ -115,13 +115,14 @@ def main(asked):
     times = trace.times()
     pieces, left = by_ticks(times, asked.every) if asked.every else by_calendar(times, calendar.of(asked, text), asked.open, asked.close)
     with Progress(len(pieces), "days") as tell:
-        sweep, over = days(text, trace, pieces, tell, asked.model)
+        sweep, over = days(text.encode(errors="surrogateescape"), trace, pieces, tell, asked.model)
     with written() as file:
         csv.writer(file, lineterminator="\n").writerows(table(sweep, nodes=asked.node, head="day"))
     for line in pool_lines(sweep.reports().values(), asked.node):
         say(line)
     if left:
-        say(f"{left} records come before a day opens or after it closes, and are left out")
+        say(f"{counted(left, 'record')} before a day opens or after it closes, left out")
     if over:
-        say(f"on {over} of {len(pieces)} days somebody is still there when the next begins, who isn't there in its run")
+        when = f"in {over} of {len(pieces)} pieces" if asked.every else f"on {over} of {len(pieces)} days"
+        say(f"{when} somebody is still there when the next begins, who isn't there in its run")
     return 11 if any(it.status for it in sweep.values()) else 0

@@ -2,6 +2,7 @@
 
 import contextlib
 import os
+import re
 import secrets
 import stat
 import sys
@@ -39,13 +40,13 @@ def bytes_of(path):
 
 
 def text_of(path):
-    """The text of a model. Raises OSError with its name, and ValueError where it is no UTF-8."""
-    data = bytes_of(path)
-    try:
-        return data.decode("utf-8-sig")
-    except UnicodeDecodeError as fault:
-        line = data.count(b"\n", 0, fault.start) + 1
-        raise ValueError(f"{path}: line {line}: the byte {data[fault.start]:02x} is no UTF-8") from None
+    """The text of a model. Bytes of comments that aren't UTF-8 go as they are (surrogateescape). Raises OSError with its name, and ValueError where
+    there are others."""
+    text = bytes_of(path).decode("utf-8-sig", "surrogateescape")
+    for number, line in enumerate(text.split("\n"), 1):
+        if not line.lstrip(" \t").startswith("#") and (found := re.search("[\udc80-\udcff]", line)):
+            raise ValueError(f"{path}: line {number}: the byte {ord(found[0]) - 0xDC00:02x} is no UTF-8")
+    return text
 
 
 _TEXT = {"encoding": "utf-8", "errors": "surrogateescape", "newline": ""}

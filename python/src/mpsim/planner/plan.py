@@ -4,7 +4,7 @@ from ..model import columns, sources
 from .formats import found_format, judged_format
 from .lengths import GREATEST_VALUE, Lengths, found_decimal
 from .moments import Moments
-from .names import is_name, name_for
+from .names import TAKEN, is_name, name_for
 from .records import Code, Constant, Dates, Demand, End, Numbers, Records, Sum, Times
 from .times import given, length
 from .zones import Zone
@@ -88,7 +88,9 @@ class Plan:
         taken = [it.name for it in self.columns]
         made = name or name_for(self.export.header[column], taken)
         if not is_name(made) or made in taken:
-            why = "is taken" if made in taken else "begins with a small letter, and has small letters, digits and underscores, 32 at most"
+            why = "is taken" if made in taken else "stands for something else"
+            if made not in (*taken, *TAKEN):
+                why = "begins with a small letter, and has small letters, digits and underscores, 32 at most"
             raise ValueError(f"the column's name {made!r} {why}")
         if not name and made != self.export.header[column]:
             self.told.append(f"column {self.export.header[column]!r} is called {made}")

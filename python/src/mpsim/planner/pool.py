@@ -96,7 +96,7 @@ class Queue:
         bound of the model, nobody waits in it, and there is no bound: that is judged when the pool runs."""
         with told_of(self.trace, model=self.path):
             try:
-                return run(self.text, self.trace.lines(), jobs=True)
+                return run(self.text.encode(errors="surrogateescape"), self.trace.lines(), jobs=True)
             except BoundError:
                 lines = [line for line in self.text.split("\n") if line.split()[:1] != ["bound"]]
                 lines = [line.replace("server", "delay", 1) if line.split()[:2] == ["server", self.node] else line for line in lines]

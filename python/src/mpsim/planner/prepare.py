@@ -273,7 +273,7 @@ def _ticks(plan, stamps, begin, made):
     first, is_utc = min(stamps), any(it.has_offsets for it in readers)
     zero = _zero(plan, begin, first)
     if zero > first:
-        raise ValueError(f"{sum(it < zero for it in stamps):,} records come before --begin {begin}, where time 0 is to be")
+        raise ValueError(f"{counted(sum(it < zero for it in stamps), 'record')} before --begin {begin}, where time 0 is to be")
     if plan.has_day:
         made.zero = plan.place.shown(zero) + ("+00:00" if is_utc and not plan.place.name else "")
     ticks = _judged(array("q", ((it - zero) // plan.per for it in stamps)))
@@ -281,10 +281,10 @@ def _ticks(plan, stamps, begin, made):
     made.told.append(f"time 0 is {shown}, a tick is {length_text(plan.per)}, the last record comes at {max(ticks)}")
     uneven = sum((it - zero) % plan.per > 0 for it in stamps)
     if uneven:
-        made.told.append(f"{uneven:,} times aren't at a whole tick, and are taken back to the last one")
+        made.told.append(f"{counted(uneven, 'time')} between two ticks, taken back to the earlier one")
     if not plan.has_day:
         back = sum(later < earlier - 12 * HOUR for earlier, later in zip(stamps, islice(stamps, 1, None)))
-        more = f", though they go back by more than half a day {back:,} times" if back else ""
+        more = f", though they go back by more than half a day {counted(back, 'time')}" if back else ""
         made.warned.append(f"times have no day, and are all taken to be of one{more} (--date)")
     elif not plan.place.name and max(stamps) - first > DAY:
         made.told.append(f"days are those of {'UTC' if is_utc else 'a clock that never changes'}: --zone says another")
@@ -317,7 +317,7 @@ def _zero(plan, begin, first):
 def _tell_values(plan, rows, made):
     for it, values in zip(plan.columns, rows.values):
         if isinstance(it, (Demand, Sum)) and it.rounded:
-            made.told.append(f"{it.name}: {it.rounded:,} different values are no whole ticks, and are taken to the nearest")
+            made.told.append(f"{it.name}: {counted(it.rounded, 'different value')} between two ticks, taken to the nearer one")
         elif isinstance(it, Code):
             made.told.append(f"{it.name}: " + ", ".join(f"{number} is {word!r}" for word, number in islice(it.codes.items(), LINES)))
             if len(it.codes) > 8:
@@ -325,7 +325,7 @@ def _tell_values(plan, rows, made):
         elif isinstance(it, End) and not plan.is_ticks:
             over = sum(value > 12 * HOUR // plan.per for value in values)
             if over:
-                made.warned.append(f"{it.name}: {over:,} services take more than 12 hours")
+                made.warned.append(f"{it.name}: {counted(over, 'service')} of more than 12 hours")
 
 
 def _sort(made, rows, ticks):

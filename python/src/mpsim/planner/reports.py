@@ -46,7 +46,7 @@ def visits_of(report, asked):
 
 
 def all_visits(report):
-    """The visits (a list of NodeVisits) to all nodes at which somebody may wait, with those to each pool in place of its queue and its trunk group;
+    """The visits (a list of NodeVisits) to all nodes at which somebody may stay, with those to each pool in place of its queue and its trunk group;
     a line says so."""
     known = pools(report)
     for line in pool_lines([report]):

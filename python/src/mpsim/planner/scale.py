@@ -10,8 +10,8 @@ from .traces import Trace, pool_warning
 
 EXAMPLE = "planner scale trace.csv --by 5/4 --shift 604800 --out more.csv"
 TIMES = (
-    "each time is {n}/{k} of what it was: the same jobs come faster, and demands are as they were. "
-    "A day is shorter, and so are its nights and its peaks"
+    "each time is {n}/{k} of what it was: the same jobs come {faster}, and demands are as they were. "
+    "A day is {shorter}, and so are its nights and its peaks"
 )
 TWINS = (
     "so that twins come at one moment and wait for one another: "
@@ -100,10 +100,11 @@ def means(k, n, way, shift=None, only=()):
     'each record has one copy, 86400 ticks later; copies past the end begin again at the front'
     """
     of = f" of {' or of '.join(only)}" if only else ""
-    if way == "times":
-        return TIMES.format(k=k, n=n)
     if k == n:
         return "each record stands there, as it was"
+    if way == "times":
+        faster, shorter = ("faster", "shorter") if k > n else ("more slowly", "longer")
+        return TIMES.format(k=k, n=n, faster=faster, shorter=shorter)
     if k % n:
         some = f"of each {n} records{of or ' of a source'} {k} stand there"
         if k < n:
