@@ -203,12 +203,12 @@ fn advanced<'a>(
 ///
 /// There are 1 to 64 workers. The gate is entered with each piece that is drawn. It refuses for want of
 /// memory alone.
-pub fn forkjoin_departures<R: Threads + Sync, G: Gate>(
+pub fn forkjoin_departures<'a, R: Threads + Sync, G: Gate>(
     rt: &R,
     alloc: Global,
     workers: u32,
-    arrivals: &Stream,
-    scan: &ForkJoinScan,
+    arrivals: &'a Stream,
+    scan: &'a ForkJoinScan<'a>,
     gate: &G,
 ) -> Result<List<u64>, OutOfMemory>
     requires load { AreBranchLoads arrivals.now.time scan.now.demands }

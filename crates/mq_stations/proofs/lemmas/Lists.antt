@@ -1,8 +1,6 @@
 -- What holds of each item of a list, by index.
-use Rattle.std.proofs.Common.{subst, ◌≡◌, ℕ, zero, suc, ◌<◌, List, [], ◌∷◌, length, get_or, Some, arith}
-use Rattle.std.specs.Prelude.{slice_get}
+use Rattle.std.proofs.Common.{ℕ, zero, suc, ◌<◌, List, [], ◌∷◌, length, get_or, arith}
 use Rattle.std.specs.List.{AllByRecursion as Each}
-use Rattle.mq_base.proofs.lemmas.Lists.{some_inj}
 pub use Rattle.mq_asked.proofs.lemmas.Lists.{Each-get, map-more}
 
 pub Each-get_or : {X : Type 0} (P : X → Type 0) (xs : List X) → Each P xs → (k : ℕ) (d : X) → k < length xs → P (get_or xs k d)
