@@ -1,9 +1,9 @@
-ghost use Rattle.std.specs.Prelude.{◌≡◌, ◌+◌, ◌*◌, ◌≤◌, length, IfOk, OnOk};
+ghost use Rattle.std.specs.Prelude.{◌≡◌, ◌+◌, ◌*◌, ◌≤◌, ℕ, List as Items, length, IfOk, OnOk};
 ghost use Rattle.std.specs.List.{zip};
 ghost use Rattle.mq_core.specs.Sequences.{IsSoundLoad, IsStream};
 ghost use Rattle.mq_core.specs.Streams.{by_first, pairs_of};
 ghost use Rattle.mq_merge.specs.Merged.{AppendsItem};
-ghost use Rattle.mq_trunk.specs.Parts.{AreParted, IsSettled, lost_of, of_admitted};
+ghost use Rattle.mq_trunk.specs.Parts.{AreAdmitted, ArePartedBy, IsSettled, lost_of, of_admitted};
 ghost use Rattle.mq_rounds.specs.Windows.{IsWindowRun};
 ghost use Rattle.mq_trunk.specs.Rounds.{trunk_rule};
 
@@ -79,23 +79,26 @@ fn lost_jobs(alloc: Global, stream: &Stream, admitted: &List<bool>) -> Result<St
     Ok(lost)
 }
 
-// What leaves by each output.
+/// What leaves a trunk group by each output.
 #[derive(Drop)]
-struct Parts {
-    leaving: Stream,
-    lost: Stream,
+pub struct Parts {
+    /// The jobs that are admitted, as they leave by output 0: by departure, those of one departure by
+    /// position.
+    pub leaving: Stream,
+    /// The jobs that are lost, as they leave by output 1: in order of arrival.
+    pub lost: Stream,
 }
 
-fn parts_of(
+/// What leaves a trunk group by each output, of which arrivals it admits and when those depart, in ticks, both by
+/// position. It refuses for want of memory alone.
+pub fn trunk_parts(
     alloc: Global,
     stream: &Stream,
     admitted: &List<bool>,
     departs: &List<u64>,
 ) -> Result<Parts, OutOfMemory>
-    requires jobs { length stream.now.job ≡ length admitted.now }
-    requires times { length stream.now.time ≡ length admitted.now }
-    requires departs { length departs.now ≤ length (of_admitted admitted.now stream.now.job) }
-    ensures { IfOk result (λ parts. AreParted stream.now admitted.now departs.now parts.leaving parts.lost) }
+    requires { (servers : ℕ) × (demands : Items ℕ) × AreAdmitted servers stream.now demands admitted.now departs.now }
+    ensures { IfOk result (λ parts. (servers : ℕ) (demands : Items ℕ) → AreAdmitted servers stream.now demands admitted.now departs.now → ArePartedBy servers stream.now demands parts) }
 {
     let lost = lost_jobs(alloc, stream, admitted)?;
     let leaving = leaving_jobs(alloc, &stream.job, admitted, departs)?;
@@ -104,16 +107,12 @@ fn parts_of(
 
 // What is settled, with what leaves.
 fn with_parts(alloc: Global, stream: &Stream, settled: Settled) -> Result<Trunk, OutOfMemory>
-    requires jobs { length stream.now.job ≡ length settled.admitted }
-    requires times { length stream.now.time ≡ length settled.admitted }
-    requires departs { length settled.departs ≤ length (of_admitted settled.admitted stream.now.job) }
-    ensures admitted { IfOk result (λ trunk. trunk.admitted ≡ settled.admitted) }
-    ensures departs { IfOk result (λ trunk. trunk.departs ≡ settled.departs) }
-    ensures parts { IfOk result (λ trunk. AreParted stream.now settled.admitted settled.departs trunk.leaving trunk.lost) }
+    requires { (servers : ℕ) × (demands : Items ℕ) × AreAdmitted servers stream.now demands settled.admitted settled.departs }
+    ensures settled { IfOk result (λ trunk. (servers : ℕ) (demands : Items ℕ) → AreAdmitted servers stream.now demands settled.admitted settled.departs → IsSettled servers stream.now demands trunk) }
     ensures rounds { IfOk result (λ trunk. trunk.rounds ≡ settled.rounds) }
     ensures judged { IfOk result (λ trunk. trunk.judged ≡ settled.judged) }
 {
-    let parts = parts_of(alloc, stream, &settled.admitted, &settled.departs)?;
+    let parts = trunk_parts(alloc, stream, &settled.admitted, &settled.departs)?;
     Ok(Trunk {
         admitted: settled.admitted,
         departs: settled.departs,
@@ -124,17 +123,43 @@ fn with_parts(alloc: Global, stream: &Stream, settled: Settled) -> Result<Trunk,
     })
 }
 
-/// Which arrivals of the stream a trunk group with these servers admits, when they depart, and what
-/// leaves by each output: settled by rounds over windows, one round a window, the first of `first`
-/// arrivals. Those of a window are guessed admitted; its round settles them up to the first that it
-/// changes, or all. The next window begins behind the settled arrivals, and is twice as long where all
-/// were settled; else it has as many arrivals as were settled.
+/// Which arrivals of the stream a trunk group with these servers admits, and when they depart: settled by
+/// rounds over windows, one round a window, the first of `first` arrivals. Those of a window are guessed
+/// admitted; its round settles them up to the first that it changes, or all. The next window begins behind
+/// the settled arrivals, and is twice as long where all were settled; else it has as many arrivals as were
+/// settled.
 ///
 /// Times and departures are in ticks, demands are ticks of service; there is one demand per item of
 /// the stream, and a first window of at least 1. Each arrival is judged once, which counts one step: a
 /// round judges no arrival behind the first that it changes. `judged` is the sum of the lengths of the
 /// windows, at most twice the arrivals and `first`. There are at most as many rounds as arrivals. It
 /// refuses for want of memory alone; the steps that it made stay.
+pub fn admit_trunk<L: Ledger>(
+    alloc: Global,
+    stream: &Stream,
+    demands: &List<u64>,
+    servers: u8,
+    first: u32,
+    steps: &mut Steps<L>,
+) -> Result<Settled, OutOfMemory>
+    requires load { IsSoundLoad stream.now.time demands.now }
+    requires stream { IsStream stream.now }
+    requires first { 1 ≤ first }
+    ensures admitted { IfOk result (λ settled. AreAdmitted servers stream.now demands.now settled.admitted settled.departs) }
+    ensures run { IfOk result (λ settled. IsWindowRun (trunk_rule servers) stream.now.time demands.now first settled.rounds settled.judged) }
+    ensures rounds { IfOk result (λ settled. settled.rounds ≤ length stream.now.time) }
+    ensures judged { IfOk result (λ settled. settled.judged ≤ 2 * length stream.now.time + first) }
+    ensures once { IfOk result (λ settled. steps.new ≡ steps.old + length stream.now.time) }
+    ensures cost { IfOk result (λ settled. steps.new ≤ steps.old + settled.judged) }
+    ensures most { steps.new ≤ steps.old + (2 * length stream.now.time + first) }
+{
+    let latest = all_free(alloc, servers)?;
+    let mut group = Group { servers, latest };
+    let settled = settle_windows(alloc, stream, demands, first, &mut group, steps)?;
+    Ok(settled)
+}
+
+/// What `admit_trunk` settles, counted as there, and what leaves by each output.
 pub fn settle_trunk<L: Ledger>(
     alloc: Global,
     stream: &Stream,
@@ -154,9 +179,7 @@ pub fn settle_trunk<L: Ledger>(
     ensures cost { IfOk result (λ trunk. steps.new ≤ steps.old + trunk.judged) }
     ensures most { steps.new ≤ steps.old + (2 * length stream.now.time + first) }
 {
-    let latest = all_free(alloc, servers)?;
-    let mut group = Group { servers, latest };
-    let settled = settle_windows(alloc, stream, demands, first, &mut group, steps)?;
+    let settled = admit_trunk(alloc, stream, demands, servers, first, steps)?;
     let trunk = with_parts(alloc, stream, settled)?;
     Ok(trunk)
 }
