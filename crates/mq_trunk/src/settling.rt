@@ -1,9 +1,8 @@
-ghost use Rattle.std.specs.Prelude.{◌≡◌, ◌+◌, ◌*◌, ◌≤◌, ℕ, List as Items, length, IfOk, OnOk};
+ghost use Rattle.std.specs.Prelude.{◌≡◌, ◌+◌, ◌*◌, ◌≤◌, ℕ, List as Items, length, IfOk};
 ghost use Rattle.std.specs.List.{zip};
 ghost use Rattle.mq_core.specs.Sequences.{IsSoundLoad, IsStream};
 ghost use Rattle.mq_core.specs.Streams.{by_first, pairs_of};
-ghost use Rattle.mq_merge.specs.Merged.{AppendsItem};
-ghost use Rattle.mq_trunk.specs.Parts.{AreAdmitted, ArePartedBy, IsSettled, lost_of, of_admitted};
+ghost use Rattle.mq_trunk.specs.Parts.{AreAdmitted, ArePartedBy, IsSettled, lost_of, of_admitted, of_lost};
 ghost use Rattle.mq_rounds.specs.Windows.{IsWindowRun};
 ghost use Rattle.mq_trunk.specs.Rounds.{trunk_rule};
 
@@ -17,22 +16,26 @@ use mq_rounds::{Settled, settle_windows};
 use std::alloc::Global;
 use std::sync::ledger::Ledger;
 
-// The jobs that are admitted, by position.
+// The jobs that are admitted, so many, by position.
+// Not inlined, so that its loop has the registers to itself.
+#[inline(never)]
 fn admitted_jobs(
     alloc: Global,
     jobs: &List<u32>,
     admitted: &List<bool>,
+    many: usize,
 ) -> Result<List<u32>, OutOfMemory>
-    requires { length jobs.now ≡ length admitted.now }
+    requires jobs { length jobs.now ≡ length admitted.now }
+    requires many { length (of_admitted admitted.now jobs.now) ≡ many }
     ensures { IfOk result (λ served. served ≡ of_admitted admitted.now jobs.now) }
 {
-    let mut served = List::new(alloc);
+    let mut served = Vec::with_capacity(alloc, many)?;
     for at in 0..admitted.len() {
         if *admitted.get(at) {
-            served.push(*jobs.get(at))?;
+            served.push_reserved(*jobs.get(at));
         }
     }
-    Ok(served)
+    Ok(List::from_vec(served))
 }
 
 // The jobs that are admitted, as they leave.
@@ -43,40 +46,44 @@ fn leaving_jobs(
     departs: &List<u64>,
 ) -> Result<Stream, OutOfMemory>
     requires jobs { length jobs.now ≡ length admitted.now }
-    requires departs { length departs.now ≤ length (of_admitted admitted.now jobs.now) }
+    requires departs { length (of_admitted admitted.now jobs.now) ≡ length departs.now }
     ensures ordered { IfOk result (λ leaving. IsStream leaving) }
     ensures items { IfOk result (λ leaving. pairs_of leaving ≡ by_first (zip departs.now (of_admitted admitted.now jobs.now))) }
 {
-    let served = admitted_jobs(alloc, jobs, admitted)?;
+    let served = admitted_jobs(alloc, jobs, admitted, departs.len())?;
     let leaving = by_time(alloc, &served, departs)?;
     Ok(leaving)
 }
 
-// Appends a job and its time.
-fn append_item(lost: &mut Stream, job: u32, time: u64) -> Result<(), OutOfMemory>
-    ensures { OnOk result (AppendsItem lost.old lost.new job time) }
-{
-    lost.job.push(job)?;
-    lost.time.push(time)?;
-    Ok(())
-}
-
-// The jobs that are lost, as they came.
-fn lost_jobs(alloc: Global, stream: &Stream, admitted: &List<bool>) -> Result<Stream, OutOfMemory>
+// The jobs that are lost, so many, as they came.
+// Not inlined, so that its loop has the registers to itself.
+#[inline(never)]
+fn lost_jobs(
+    alloc: Global,
+    stream: &Stream,
+    admitted: &List<bool>,
+    many: usize,
+) -> Result<Stream, OutOfMemory>
     requires jobs { length stream.now.job ≡ length admitted.now }
     requires times { length stream.now.time ≡ length admitted.now }
+    requires many { length (of_lost admitted.now stream.now.job) ≡ many }
     ensures { IfOk result (λ lost. lost ≡ lost_of stream.now admitted.now) }
 {
-    let mut lost = Stream {
-        job: List::new(alloc),
-        time: List::new(alloc),
+    let mut job = Vec::with_capacity(alloc, many)?;
+    let Ok(mut time) = Vec::with_capacity(alloc, many) else {
+        drop(job);
+        return Err(OutOfMemory);
     };
     for at in 0..admitted.len() {
         if !*admitted.get(at) {
-            append_item(&mut lost, *stream.job.get(at), *stream.time.get(at))?;
+            job.push_reserved(*stream.job.get(at));
+            time.push_reserved(*stream.time.get(at));
         }
     }
-    Ok(lost)
+    Ok(Stream {
+        job: List::from_vec(job),
+        time: List::from_vec(time),
+    })
 }
 
 /// What leaves a trunk group by each output.
@@ -100,7 +107,7 @@ pub fn trunk_parts(
     requires { (servers : ℕ) × (demands : Items ℕ) × AreAdmitted servers stream.now demands admitted.now departs.now }
     ensures { IfOk result (λ parts. (servers : ℕ) (demands : Items ℕ) → AreAdmitted servers stream.now demands admitted.now departs.now → ArePartedBy servers stream.now demands parts) }
 {
-    let lost = lost_jobs(alloc, stream, admitted)?;
+    let lost = lost_jobs(alloc, stream, admitted, admitted.len() - departs.len())?;
     let leaving = leaving_jobs(alloc, &stream.job, admitted, departs)?;
     Ok(Parts { leaving, lost })
 }
