@@ -1,6 +1,5 @@
 use Rattle.std.proofs.Common.{Global, Vec, ℕ, ◌+◌, ◌≤◌, List, ◌++◌, drop, length, Some, ap, ◌∙◌, arith}
 use Rattle.std.specs.Vec.{vec_len, vec_capacity}
-use Rattle.mq_core.specs.declared.model.Stream.{Stream}
 use Rattle.mq_trunk.specs.Parts.{of_lost}
 use Rattle.mq_trunk.proofs.Parting.{lost-end, lost-next, lost-past, lost-room}
 use Rattle.mq_trunk.proofs.settling.lost_jobs.Goals as goal
