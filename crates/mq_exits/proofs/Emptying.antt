@@ -16,7 +16,7 @@ use Rattle.mq_exits.specs.Results.{IsResultOf, IsWorkedOut}
 use Rattle.mq_exits.specs.declared.exits.Closed.{Closed}
 use Rattle.mq_exits.specs.declared.exits.Emptied.{Emptied}
 use Rattle.mq_exits.specs.declared.exits.Completion.{Completion}
-use Rattle.mq_exits.specs.declared.exits.Completion.TheVariants.{Known, Passed, Sent, Served, Sorted}
+use Rattle.mq_exits.specs.declared.exits.Completion.TheVariants.{Known, Passed, Sent, Served, Settled, Sorted}
 use Rattle.mq_exits.specs.declared.working.NodeResult.{NodeResult}
 use Rattle.mq_exits.proofs.Lasts.{copies-few}
 
@@ -49,6 +49,7 @@ completion-few : (plan : Plan) (rows : Rows) (v : ℕ) (arrivals : Stream) (comp
 completion-few plan rows v arrivals (Known after) h = omega arith
 completion-few plan rows v arrivals (Served departs) h = omega arith
 completion-few plan rows v arrivals (Sorted overtaken) h = let few = h.counted.blocks.1 in omega arith
+completion-few plan rows v arrivals (Settled settled) h = omega arith
 completion-few plan rows v arrivals (Passed streams) h = omega arith
 completion-few plan rows v arrivals Sent h = omega arith
 

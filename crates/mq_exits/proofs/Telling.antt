@@ -5,9 +5,10 @@ use Rattle.mq_core.specs.declared.model.Rows.{Rows}
 use Rattle.mq_core.specs.declared.model.Stream.{Stream}
 use Rattle.mq_crew.specs.Crew.{AreAll}
 use Rattle.mq_core.specs.declared.refusals.PastFault.{PastFault}
-use Rattle.mq_exits.specs.Exits.{IsShut}
+use Rattle.mq_exits.specs.Exits.{IsSettledPiece, IsShut}
+use Rattle.mq_exits.specs.declared.settling.Faring.{Faring}
 use Rattle.mq_exits.specs.declared.exits.Closed.{Closed}
-use Rattle.mq_exits.specs.declared.exits.Closed.TheVariants.{Departures, Found, Jobs, Over, Times}
+use Rattle.mq_exits.specs.declared.exits.Closed.TheVariants.{Departures, Fared, Found, Jobs, Over, Streams, Times}
 
 pub some-last : (is : ℕ → Closed → Type 0) (n : ℕ) (group : List Closed) → AreAll is (suc n) group → 1 ≤ length group
 some-last is n group all = let count = all.len in omega arith
@@ -44,3 +45,15 @@ module _ (plan : Plan) (rows : Rows) (v : ℕ) (arrivals : Stream) (departs : Li
   shut-departures (Jobs jobs) h = let no = h.0 in absurd (omega arith)
   shut-departures (Departures times) h = (times, refl)
   shut-departures _ h = absurd h
+
+-- the same of a station that admits or loses each arrival
+module _ (plan : Plan) (rows : Rows) (v : ℕ) (arrivals : Stream) where
+  pub settled-faring : (closed : Closed) → IsSettledPiece plan rows v arrivals 0 closed → (faring : Faring) × (closed ≡ Fared faring)
+  settled-faring (Fared faring) h = (faring, refl)
+  settled-faring (Streams streams) h = let no = h.0 in absurd (omega arith)
+  settled-faring _ h = absurd h
+
+  pub settled-streams : (closed : Closed) → IsSettledPiece plan rows v arrivals 1 closed → (streams : List Stream) × (closed ≡ Streams streams)
+  settled-streams (Fared faring) h = let no = h.0 in absurd (omega arith)
+  settled-streams (Streams streams) h = (streams, refl)
+  settled-streams _ h = absurd h

@@ -13,11 +13,14 @@ use Rattle.mq_core.specs.declared.model.Plan.{Plan}
 use Rattle.mq_core.specs.declared.model.Rows.{Rows}
 use Rattle.mq_core.specs.declared.model.Stream.{Stream}
 use Rattle.mq_stations.specs.Late.{late_told}
-use Rattle.mq_stations.specs.Leaving.{AreDepartures, AreServed, AreStreams}
+use Rattle.mq_stations.specs.Leaving.{AreDepartures, AreServed, AreSettled, AreStreams}
+use Rattle.mq_rounds.specs.declared.settled.Settled.{Settled}
+use Rattle.mq_exits.specs.declared.settling.Faring.{Faring}
+use Rattle.mq_exits.specs.declared.settling.Faring.TheVariants.{Late, OnTime}
 use Rattle.mq_exits.specs.declared.working.After.{After}
 use Rattle.mq_exits.specs.declared.working.After.TheVariants.{Missed, Seen}
 use Rattle.mq_exits.specs.declared.working.Worked.{Worked}
-use Rattle.mq_exits.specs.declared.working.Worked.TheVariants.{Departed, Finished, Sent}
+use Rattle.mq_exits.specs.declared.working.Worked.TheVariants.{Departed, Finished, Sent, Settled as TheSettled}
 
 -- the fates of the arrivals at a node of this kind, none of them late, and what leaves by each output
 pub record AreOnTime (net : Network) (rows : Rows) (v : ℕ) (kind : Kind) (arrivals : Stream) (fates : List Fate) (streams : List Stream) : Type 0 where
@@ -35,6 +38,18 @@ IsAfter net rows v kind arrivals (Missed fault) =
 -- the same at a node of the plan
 abbrev pub IsAfterAt : Plan → Rows → ℕ → Stream → After → Type 0
 IsAfterAt plan rows v arrivals after = (node : Node) → slice_get plan.net.nodes v ≡ Some node → IsAfter plan.net rows v node.kind arrivals after
+
+-- how the arrivals at a node of this kind fared: their fates, none of them late, and what each found; or the first that is late
+abbrev pub IsFaring : Network → Rows → ℕ → Kind → Stream → Faring → Type 0
+IsFaring net rows v kind arrivals (OnTime fates found) =
+    (fates ≡ sequence_fates rows kind (came_in arrivals)) × (first_of (sequence_late_from net.bound v 0 (sequence_fates rows kind (came_in arrivals))) ≡ None)
+    × (found ≡ founds_of arrivals.time fates)
+IsFaring net rows v kind arrivals (Late fault) =
+    first_of (sequence_late_from net.bound v 0 (sequence_fates rows kind (came_in arrivals))) ≡ Some (late_told fault)
+
+-- which arrivals at a station of the plan are admitted, and when those depart
+abbrev pub AreSettledAt : Plan → Rows → ℕ → Stream → Settled → Type 0
+AreSettledAt plan rows v arrivals settled = (node : Node) → slice_get plan.net.nodes v ≡ Some node → AreSettled rows node.kind arrivals settled
 
 -- the jobs of a station of the plan depart at these times, by position
 abbrev pub AreDeparturesAt : Plan → Rows → ℕ → Stream → List ℕ → Type 0
@@ -54,10 +69,12 @@ LeaveInTurn rows kind arrivals departs =
 abbrev pub IsServed : Plan → Rows → ℕ → Stream → List ℕ → Type 0
 IsServed plan rows v arrivals departs = (node : Node) → slice_get plan.net.nodes v ≡ Some node → LeaveInTurn rows node.kind arrivals departs
 
--- what one piece tells of a node of this kind: what becomes of its arrivals, or when its jobs depart, which may be as they come
+-- what one piece tells of a node of this kind: what becomes of its arrivals; when its jobs depart, which may be as they come; or which
+-- are admitted and when those depart
 abbrev pub IsWorked : Network → Rows → ℕ → Kind → Stream → Worked → Type 0
 IsWorked net rows v kind arrivals (Finished after) = IsAfter net rows v kind arrivals after
 IsWorked net rows v kind arrivals (Departed departs) = AreDepartures rows kind arrivals departs
+IsWorked net rows v kind arrivals (TheSettled settled) = AreSettled rows kind arrivals settled
 IsWorked net rows v kind arrivals Sent = AreServed rows kind arrivals arrivals.time
 
 -- the same at a node of the plan

@@ -19,18 +19,19 @@ use Rattle.mq_core.specs.declared.model.Stream.{Stream}
 use Rattle.mq_scan.specs.declared.blocks.Blocks.{Blocks}
 use Rattle.mq_stats.specs.Ahead.{IsAhead}
 use Rattle.mq_stations.specs.Late.{late_told}
+use Rattle.mq_stations.specs.Leaving.{AreStreams}
 use Rattle.mq_stations.specs.Scans.{AreFewBlocks}
 use Rattle.mq_merge.specs.Borrowed.{stream_in}
 use Rattle.mq_merge.specs.declared.arrivals.Arrivals.{Arrivals}
 use Rattle.mq_merge.specs.declared.arrivals.Arrivals.TheVariants.{Merged, Read}
-use Rattle.mq_exits.specs.Afters.{AreOnTime, IsAfterAt, IsServed}
+use Rattle.mq_exits.specs.Afters.{AreOnTime, AreSettledAt, IsAfterAt, IsFaring, IsServed}
 use Rattle.mq_exits.specs.Loads.{IsReadyLoad}
 use Rattle.mq_exits.specs.Splits.{AreSplitStreams}
 use Rattle.mq_exits.specs.declared.exits.Closed.{Closed}
-use Rattle.mq_exits.specs.declared.exits.Closed.TheVariants.{Came, Departures, Found, Jobs, Over, Times}
+use Rattle.mq_exits.specs.declared.exits.Closed.TheVariants.{Came, Departures, Fared, Found, Jobs, Over, Streams, Times}
 use Rattle.mq_exits.specs.declared.exits.Emptied.{Emptied}
 use Rattle.mq_exits.specs.declared.exits.Completion.{Completion}
-use Rattle.mq_exits.specs.declared.exits.Completion.TheVariants.{Known, Passed, Sent, Served, Sorted}
+use Rattle.mq_exits.specs.declared.exits.Completion.TheVariants.{Known, Passed, Sent, Served, Settled, Sorted}
 use Rattle.mq_exits.specs.declared.overtaking.Overtaken.{Overtaken}
 
 -- whether jobs that leave in this order may overtake one another
@@ -62,6 +63,7 @@ abbrev pub IsCompletion : Plan → Rows → ℕ → Stream → Completion → Ty
 IsCompletion plan rows v arrivals (Known after) = IsAfterAt plan rows v arrivals after
 IsCompletion plan rows v arrivals (Served departs) = IsServed plan rows v arrivals departs
 IsCompletion plan rows v arrivals (Sorted overtaken) = IsOvertaken plan rows v arrivals overtaken
+IsCompletion plan rows v arrivals (Settled settled) = AreSettledAt plan rows v arrivals settled
 IsCompletion plan rows v arrivals (Passed streams) = AreSplitStreams plan rows v arrivals streams
 IsCompletion plan rows v arrivals Sent = IsServed plan rows v arrivals arrivals.time
 
@@ -70,6 +72,7 @@ abbrev pub closings_of : Completion → ℕ
 closings_of (Known after) = 0
 closings_of (Served departs) = 3
 closings_of (Sorted overtaken) = overtaken.blocks.blocks
+closings_of (Settled settled) = 2
 closings_of (Passed streams) = 2
 closings_of Sent = 4
 
@@ -99,6 +102,14 @@ abbrev pub IsDelayPiece : Stream → Overtaken → ℕ → Closed → Type 0
 IsDelayPiece arrivals overtaken b (Found found) = IsFoundBlock (founds_by arrivals overtaken.departs) overtaken.blocks b found
 IsDelayPiece _ _ _ _ = ⊥
 
+-- a last piece of a station that admits or loses each arrival: how the arrivals fared, or what leaves by each output
+abbrev pub IsSettledPiece : Plan → Rows → ℕ → Stream → ℕ → Closed → Type 0
+IsSettledPiece plan rows v arrivals b (Fared faring) =
+    (b ≡ 0) × ((node : Node) → slice_get plan.net.nodes v ≡ Some node → IsFaring plan.net rows v node.kind arrivals faring)
+IsSettledPiece plan rows v arrivals b (Streams streams) =
+    (b ≡ 1) × ((node : Node) → slice_get plan.net.nodes v ≡ Some node → AreStreams rows node.kind arrivals streams)
+IsSettledPiece _ _ _ _ _ _ = ⊥
+
 -- a last piece that tells how many visits found
 abbrev pub IsFound : Closed → Type 0
 IsFound (Found found) = Unit {0}
@@ -107,6 +118,7 @@ IsFound _ = ⊥
 abbrev pub IsClosed : Plan → Rows → ℕ → Stream → Completion → ℕ → Closed → Type 0
 IsClosed plan rows v arrivals (Served departs) b closed = IsShut plan rows v arrivals departs b closed
 IsClosed plan rows v arrivals (Sorted overtaken) b closed = IsDelayPiece arrivals overtaken b closed
+IsClosed plan rows v arrivals (Settled settled) b closed = IsSettledPiece plan rows v arrivals b closed
 IsClosed plan rows v arrivals (Passed streams) b closed = IsShut plan rows v arrivals arrivals.time b closed
 IsClosed plan rows v arrivals Sent b closed = IsShut plan rows v arrivals arrivals.time b closed
 IsClosed _ _ _ _ _ _ _ = ⊥

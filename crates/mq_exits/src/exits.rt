@@ -14,12 +14,14 @@ use crate::founds::{after_delay, delay_piece};
 use crate::laws::node_laws;
 use crate::load::{Held, Load};
 use crate::overtaking::Overtaken;
+use crate::settling::{Faring, after_settled, settled_piece};
 use crate::splitting::{passed, passed_of};
 use crate::taking::{departures_in, founds_in, jobs_in, last_of, left_in};
 use crate::working::{After, NodeResult, ending_of, found_by_position, nobody, on_time};
 use mq_base::{List, OutOfMemory};
 use mq_core::{Kind, PastFault, Stream, fates_are_in_time, sequences_go_by_fates};
 use mq_crew::Pieces;
+use mq_rounds::Settled;
 use mq_stations::first_late_in_turn;
 use std::alloc::Global;
 
@@ -32,6 +34,8 @@ pub enum Completion {
     Served(List<u64>),
     /// When they depart, and in which order.
     Sorted(Overtaken),
+    /// Which of them are admitted, and when those depart: the others are lost.
+    Settled(Settled),
     /// What leaves by each output, where they depart as they come.
     Passed(List<Stream>),
     /// That they depart as they come, by one output.
@@ -61,6 +65,10 @@ pub enum Closed {
     Departures(List<u64>),
     /// When they came, by position, as the visits keep it.
     Came(List<u64>),
+    /// How the arrivals fared, where some may be lost.
+    Fared(Faring),
+    /// What leaves by each output, where some may be lost.
+    Streams(List<Stream>),
 }
 
 impl<'a> Pieces for Emptied<'a> {
@@ -94,6 +102,7 @@ fn closings(completion: &Completion) -> u32
         Completion::Known(_) => 0,
         Completion::Served(_) => 3,
         Completion::Sorted(overtaken) => overtaken.blocks.blocks,
+        Completion::Settled(_) => 2,
         Completion::Passed(_) => 2,
         Completion::Sent => 4,
     }
@@ -114,6 +123,7 @@ fn closed_of(
     match completion {
         Completion::Served(departs) => closing_of(alloc, load, departs, b),
         Completion::Sorted(overtaken) => delay_piece(alloc, load.arrivals, overtaken, b),
+        Completion::Settled(settled) => settled_piece(alloc, load, settled, b),
         Completion::Passed(_) => passed_of(alloc, load, b),
         Completion::Sent => sent_piece(alloc, load, b),
         _ => unreachable!(),
@@ -253,6 +263,10 @@ fn after_of(
         }
         Completion::Served(departs) => opened(alloc, load, group, departs),
         Completion::Sorted(overtaken) => after_delay(alloc, load, group, overtaken),
+        Completion::Settled(settled) => {
+            drop(settled);
+            Ok(after_settled(load, group))
+        }
         Completion::Passed(streams) => Ok(passed(load, group, streams)),
         Completion::Sent => sent(alloc, load, group),
     }

@@ -52,6 +52,7 @@ pub fn left_by<R: Threads + Sync>(
 {
     match worked {
         Worked::Finished(after) => Ok(Completion::Known(after)),
+        Worked::Settled(settled) => Ok(Completion::Settled(settled)),
         Worked::Sent => Ok(Completion::Sent),
         Worked::Departed(departs) => completion_by_departures(rt, alloc, workers, load, departs),
     }

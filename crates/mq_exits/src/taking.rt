@@ -1,11 +1,14 @@
 // Last pieces, taken off the back of those of a station, and what they tell.
 ghost use Rattle.std.specs.Prelude.{◌≡◌, ◌≤◌, ◌⊎◌, ℕ, List as Items, [], ◌∷◌, ◌++◌, length, MatchResult};
-ghost use Rattle.mq_exits.specs.declared.exits.Closed.TheVariants.{Came, Departures, Found, Jobs, Over, Times};
+ghost use Rattle.mq_exits.specs.declared.exits.Closed.TheVariants.{Came, Departures, Fared, Found, Jobs, Over, Streams, Times};
+ghost use Rattle.mq_exits.specs.declared.settling.Faring.{Faring as TheFaring};
+ghost use Rattle.mq_core.specs.declared.model.Stream.{Stream as TheStream};
 ghost use Rattle.mq_core.specs.declared.refusals.PastFault.{PastFault as ThePast};
 
 use crate::exits::Closed;
+use crate::settling::Faring;
 use mq_base::List;
-use mq_core::PastFault;
+use mq_core::{PastFault, Stream};
 
 // The last of these pieces.
 pub fn last_of(group: &mut Vec<Closed>) -> Closed
@@ -70,6 +73,28 @@ pub fn times_in(closed: Closed) -> List<u64>
 {
     match closed {
         Closed::Came(times) => times,
+        _ => unreachable!(),
+    }
+}
+
+// How the arrivals fared, of the piece that tells it.
+pub fn faring_in(closed: Closed) -> Faring
+    requires { (faring : TheFaring) × (closed ≡ Fared faring) }
+    ensures { closed ≡ Fared result }
+{
+    match closed {
+        Closed::Fared(faring) => faring,
+        _ => unreachable!(),
+    }
+}
+
+// What leaves, of the piece that tells it.
+pub fn streams_in(closed: Closed) -> List<Stream>
+    requires { (streams : Items TheStream) × (closed ≡ Streams streams) }
+    ensures { closed ≡ Streams result }
+{
+    match closed {
+        Closed::Streams(streams) => streams,
         _ => unreachable!(),
     }
 }

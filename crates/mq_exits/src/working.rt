@@ -16,12 +16,14 @@ ghost use Rattle.mq_exits.specs.declared.working.After.TheVariants.{Seen};
 ghost use Rattle.mq_stations.specs.Leaving.{IsLeaving, IsLoad};
 
 use crate::load::Load;
+use crate::settling::{after_faring, faring_of};
 use mq_base::{List, OutOfMemory};
 use mq_core::{
     Fates, Kind, Network, OverFault, PastFault, Rows, Stream, Visits, fates_are_in_time,
     sequences_go_by_fates,
 };
-use mq_stations::{Left, Outflow, first_late, leaving, only};
+use mq_rounds::Settled;
+use mq_stations::{Left, Outflow, leaving, only};
 use mq_stats::{found, found_piece_in_order};
 use std::alloc::Global;
 
@@ -61,6 +63,8 @@ pub enum Worked {
     Finished(After),
     /// When its jobs depart, by position: none is lost.
     Departed(List<u64>),
+    /// Which of its arrivals are admitted, and when those depart.
+    Settled(Settled),
     /// That its jobs depart as they come, by one output.
     Sent,
 }
@@ -103,6 +107,7 @@ fn work_out(
 {
     match leaving(alloc, rows, kind, arrivals, block)? {
         Left::Departures(departs) => Ok(Worked::Departed(departs)),
+        Left::Settled(settled) => Ok(Worked::Settled(settled)),
         Left::Streams(outflow) => seen(alloc, net, rows, number, kind, arrivals, outflow),
     }
 }
@@ -122,24 +127,12 @@ fn seen(
     requires leaving { IsLeaving rows.now kind.now arrivals.now leaving.fates leaving.streams }
     ensures { IfOk result (λ worked. IsWorked net.now rows.now number kind.now arrivals.now worked) }
 {
-    fates_are_in_time();
-    sequences_go_by_fates();
-    match first_late(net.bound, number, &leaving.fates) {
-        Some(past) => {
-            drop(leaving);
-            Ok(Worked::Finished(After::Missed(past)))
-        }
-        None => {
-            let Outflow { fates, streams } = leaving;
-            let fates = Fates::each(fates);
-            match found_at(alloc, rows, kind, arrivals, &fates) {
-                Ok(found) => Ok(Worked::Finished(After::Seen(fates, found, streams))),
-                Err(fault) => {
-                    drop(fates);
-                    drop(streams);
-                    Err(fault)
-                }
-            }
+    let Outflow { fates, streams } = leaving;
+    match faring_of(alloc, net, rows, number, kind, arrivals, fates) {
+        Ok(faring) => Ok(Worked::Finished(after_faring(faring, streams))),
+        Err(fault) => {
+            drop(streams);
+            Err(fault)
         }
     }
 }
@@ -167,7 +160,7 @@ pub fn ending_of(arrivals: Stream, after: After) -> Ending
 }
 
 // How many jobs each visit to a node of this kind found. A split holds none.
-fn found_at(
+pub fn found_at(
     alloc: Global,
     rows: &Rows,
     kind: &Kind,

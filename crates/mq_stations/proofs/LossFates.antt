@@ -1,5 +1,5 @@
 -- What becomes of the arrivals at a loss station.
-use Rattle.std.proofs.Common.{◌≡◌, ℕ, zero, suc, ◌+◌, ◌<◌, ◌≤◌, Bool, true, false, not, List, [], ◌∷◌, ◌++◌, length, get_or, drop, map, Some, sym, refl, ap, ◌∙◌, arith, append_assoc, drop-cons, length-append}
+use Rattle.std.proofs.Common.{◌≡◌, ℕ, zero, suc, ◌+◌, ◌<◌, ◌≤◌, Bool, true, false, not, List, [], ◌∷◌, ◌++◌, length, get_or, drop, map, Some, sym, refl, ap, ◌∙◌, arith, append_assoc, drop-cons, inl, length-append}
 use Rattle.std.specs.Prelude.{IsTrue, if◌then◌else◌, max, nat_le, slice_get}
 use Rattle.std.specs.List.{AllByRecursion as Each}
 use Rattle.std.proofs.lemmas.Bool.{and_parts}
@@ -26,7 +26,7 @@ use Rattle.mq_rounds.specs.Rounds.{admits, departures_in, fates_by}
 use Rattle.mq_rounds.proofs.lemmas.Fates.{IsOver, admitted-leave, fates-back, lost-leave}
 use Rattle.mq_rounds.specs.declared.settled.Settled.{Settled}
 use Rattle.mq_stations.specs.Losses.{AreAdmittedAndLost, out_of_admission}
-use Rattle.mq_stations.specs.Leaving.{IsLeaving, left_by}
+use Rattle.mq_stations.specs.Leaving.{AreSettled, IsLeaving, left_by}
 
 -- one arrival further: one that is admitted takes the next departure
 pub fates-yes : (done done' all : List Fate) (admitted : List Bool) (departs : List ℕ) (at next time : ℕ) → slice_get admitted at ≡ Some true → slice_get departs next ≡ Some time → done' ≡ done ++ Departs time ∷ [] →
@@ -219,3 +219,16 @@ some-places columns places demand h =
     let a = and_parts (is_within 1 1048576 places) (is_sound_demand columns demand) h in
     let b = (and_parts (nat_le 1 places) (nat_le places 1048576) a.0).0 in
     grind (arith, nat_tests)
+
+-- what a loss station settles tells all fates
+pub settled-at : (rows : Rows) (places : ℕ) (demand : Demand) (arrivals : Stream) (settled : Settled) → IsSettled places arrivals.time (map (demand_of_job rows demand) arrivals.job) settled → AreSettled rows (Loss places demand) arrivals settled
+settled-at rows places demand arrivals settled s =
+    record {
+      loses = inl (places, demand, refl);
+      admitted = s.admitted;
+      departs = s.departs;
+      fates = settled-fates rows places demand arrivals (map (demand_of_job rows demand) arrivals.job) settled _ refl s refl;
+    }
+
+pub loss-settled : (rows : Rows) (places : ℕ) (demand : Demand) (arrivals : Stream) (settled : Settled) → AreSettled rows (Loss places demand) arrivals settled → IsSettled places arrivals.time (map (demand_of_job rows demand) arrivals.job) settled
+loss-settled rows places demand arrivals settled s = record { admitted = s.admitted; departs = s.departs }

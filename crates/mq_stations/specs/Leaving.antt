@@ -1,5 +1,5 @@
 -- What comes to a station and what leaves it, in sequences alone.
-use Rattle.std.specs.Prelude.{◌≡◌, ◌<◌, ◌≤◌, ◌^◌, ℕ, IsTrue, List, length, map, Some, slice_get, true}
+use Rattle.std.specs.Prelude.{◌≡◌, ◌<◌, ◌≤◌, ◌^◌, ◌⊎◌, ℕ, IsTrue, List, length, map, Some, slice_get, true}
 use Rattle.std.specs.List.{AllByRecursion}
 use Rattle.mq_core.specs.Asked.{HasDemands}
 use Rattle.mq_core.specs.Came.{came_in}
@@ -12,11 +12,14 @@ use Rattle.mq_core.specs.Sound.{is_sound_kind, outputs_in}
 use Rattle.mq_core.specs.declared.model.Fate.{Fate}
 use Rattle.mq_core.specs.declared.model.Fate.TheVariants.{Departs}
 use Rattle.mq_core.specs.declared.model.Kind.{Kind}
+use Rattle.mq_core.specs.declared.model.Kind.TheVariants.{Loss, Trunk}
 use Rattle.mq_core.specs.declared.model.Route.{Route}
 use Rattle.mq_core.specs.declared.model.Rows.{Rows}
 use Rattle.mq_core.specs.declared.model.Stream.{Stream}
+use Rattle.mq_rounds.specs.Rounds.{admits, departures_in, fates_by}
+use Rattle.mq_rounds.specs.declared.settled.Settled.{Settled}
 use Rattle.mq_stations.specs.declared.outflow.Left.{Left}
-use Rattle.mq_stations.specs.declared.outflow.Left.TheVariants.{Departures, Streams}
+use Rattle.mq_stations.specs.declared.outflow.Left.TheVariants.{Departures, Settled as TheSettled, Streams}
 
 -- a stream whose times are at most 2^60
 pub record IsEarlyStream (stream : Stream) : Type 0 where
@@ -80,7 +83,20 @@ pub record AreDepartures (rows : Rows) (kind : Kind) (arrivals : Stream) (depart
 abbrev pub AreServed : Rows → Kind → Stream → List ℕ → Type 0
 AreServed rows kind arrivals departs = AreDepartures rows kind arrivals departs × KeepsOrder kind
 
--- what leaves a station of this kind: when its jobs depart; or the fate of each and what leaves by each output
+-- a station that admits or loses each arrival
+abbrev pub MayLose : Kind → Type 0
+MayLose kind = ((places : ℕ) × (demand : Demand) × (kind ≡ Loss places demand)) ⊎ ((servers : ℕ) × (demand : Demand) × (kind ≡ Trunk servers demand))
+
+-- which arrivals at such a station are admitted, and when those depart; together they tell the fate of each
+pub record AreSettled (rows : Rows) (kind : Kind) (arrivals : Stream) (settled : Settled) : Type 0 where
+  pub loses : MayLose kind
+  pub admitted : settled.admitted ≡ map admits (sequence_fates rows kind (came_in arrivals))
+  pub departs : settled.departs ≡ departures_in (sequence_fates rows kind (came_in arrivals))
+  pub fates : fates_by settled.admitted settled.departs ≡ sequence_fates rows kind (came_in arrivals)
+
+-- what leaves a station of this kind: when its jobs depart; which are admitted and when those do; or the fate of each and what
+-- leaves by each output
 abbrev pub IsLeft : Rows → Kind → Stream → Left → Type 0
 IsLeft rows kind arrivals (Departures departs) = AreDepartures rows kind arrivals departs
+IsLeft rows kind arrivals (TheSettled settled) = AreSettled rows kind arrivals settled
 IsLeft rows kind arrivals (Streams outflow) = IsLeaving rows kind arrivals outflow.fates outflow.streams

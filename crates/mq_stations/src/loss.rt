@@ -1,56 +1,40 @@
 // A loss station: which arrivals find a place, and where each goes.
-ghost use Rattle.std.specs.Prelude.{◌≡◌, ◌<◌, ◌≤◌, length, map, IfOk};
+ghost use Rattle.std.specs.Prelude.{◌≡◌, ◌<◌, ◌≤◌, ℕ, length, map, IfOk};
 ghost use Rattle.mq_core.specs.Handling.{demand_of_job};
-ghost use Rattle.mq_core.specs.Sequences.{IsSoundLoad};
+ghost use Rattle.mq_core.specs.Sequences.{IsSoundLoad, IsStream};
 ghost use Rattle.mq_core.specs.Streams.{picked};
+ghost use Rattle.mq_core.specs.declared.model.Demand.{Demand as TheDemand};
 ghost use Rattle.mq_core.specs.declared.model.Kind.TheVariants.{Loss};
+ghost use Rattle.mq_core.specs.declared.model.Rows.{Rows as TheRows};
 ghost use Rattle.mq_stations.specs.Losses.{AreAdmittedAndLost, out_of_admission};
 ghost use Rattle.mq_asked.specs.Demands.{AreAsked};
-ghost use Rattle.mq_stations.specs.Leaving.{IsLeaving, IsLoad};
+ghost use Rattle.mq_stations.specs.Leaving.{AreSettled, AreStreams, IsLoad};
 ghost use Rattle.mq_loss.specs.Rounds.{IsSettled};
 
-use crate::outflow::{Outflow, both, fates_by_admission};
+use crate::outflow::both;
 use mq_asked::asked_of;
 use mq_base::{List, OutOfMemory, Steps};
 use mq_core::{Demand, Rows, Stream, fates_are_in_time};
-use mq_loss::{Settled, settle};
+use mq_loss::settle;
+use mq_rounds::Settled;
 use std::alloc::Global;
 use std::marker::Brand;
 use std::sync::ledger::{Blank, Ledger};
 
-// What leaves a loss station: the jobs that find a place leave by output 0 once they are served, the
-// others by output 1 as they come. So many arrivals are judged first.
-pub fn loss_outflow(
+// Which arrivals at a loss station find a place, and when those depart. So many are judged first.
+pub fn settled_loss(
     alloc: Global,
     rows: &Rows,
     places: u32,
     demand: &Demand,
     arrivals: &Stream,
     window: u32,
-) -> Result<Outflow, OutOfMemory>
+) -> Result<Settled, OutOfMemory>
     requires load { IsLoad rows.now (Loss places demand.now) arrivals.now }
     requires some { 1 ≤ window }
-    ensures { IfOk result (λ leaving. IsLeaving rows.now (Loss places demand.now) arrivals.now leaving.fates leaving.streams) }
+    ensures { IfOk result (λ settled. AreSettled rows.now (Loss places demand.now) arrivals.now settled) }
 {
-    fates_are_in_time();
-    let settled = settled::<Brand>(alloc, rows, places, demand, arrivals, window, Blank::new(1))?;
-    let Settled {
-        admitted,
-        departs,
-        ..
-    } = settled;
-    let Ok(fates) = fates_by_admission(alloc, &admitted, &departs) else {
-        drop(admitted);
-        drop(departs);
-        return Err(OutOfMemory);
-    };
-    let left = streams_of(alloc, arrivals, &admitted, departs);
-    drop(admitted);
-    let Ok(streams) = left else {
-        drop(fates);
-        return Err(OutOfMemory);
-    };
-    Ok(Outflow { fates, streams })
+    settled::<Brand>(alloc, rows, places, demand, arrivals, window, Blank::new(1))
 }
 
 // Which arrivals find a place, and when those depart, settled with a counter of their own.
@@ -76,6 +60,21 @@ fn settled<L: Ledger>(
     let asked = asked_of(alloc, rows, demand, &arrivals.job)?;
     let mut steps = Steps::<L>::new(blank);
     settle(alloc, arrivals, asked.list(), places, window, &mut steps)
+}
+
+// What leaves a loss station: the jobs that find a place leave by output 0 once they are served, the
+// others by output 1 as they come.
+pub fn loss_streams(
+    alloc: Global,
+    arrivals: &Stream,
+    settled: &Settled,
+) -> Result<List<Stream>, OutOfMemory>
+    requires { (rows : TheRows) × (places : ℕ) × (demand : TheDemand) × IsStream arrivals.now × AreSettled rows (Loss places demand) arrivals.now settled.now }
+    ensures { IfOk result (λ streams. (rows : TheRows) (places : ℕ) (demand : TheDemand) → IsStream arrivals.now → AreSettled rows (Loss places demand) arrivals.now settled.now → AreStreams rows (Loss places demand) arrivals.now streams) }
+{
+    fates_are_in_time();
+    let departs = Vec::from_slice(alloc, settled.departs.as_slice())?;
+    streams_of(alloc, arrivals, &settled.admitted, List::from_vec(departs))
 }
 
 // The streams that leave: the jobs that are admitted, at their departures, and the others, which

@@ -5,6 +5,7 @@ ghost use Rattle.mq_rounds.specs.Rounds.{fates_by};
 
 use mq_base::{List, OutOfMemory};
 use mq_core::{Fate, Stream};
+use mq_rounds::Settled;
 use std::alloc::Global;
 
 /// What leaves a station.
@@ -13,6 +14,9 @@ pub enum Left {
     /// When its jobs depart, in ticks, by position: none is lost, and all leave by the only output. At a
     /// delay they may overtake one another.
     Departures(List<u64>),
+    /// Which of its jobs are admitted, and when those depart, in ticks, both by position: the others are lost. These
+    /// leave by output 0, where they may overtake one another at a trunk group, and the others by output 1.
+    Settled(Settled),
     /// The fates of its jobs and what leaves by each output.
     Streams(Outflow),
 }
@@ -38,7 +42,8 @@ pub fn fates_of(alloc: Global, departs: &List<u64>) -> Result<List<Fate>, OutOfM
     Ok(List::from_vec(fates))
 }
 
-// The fate of each arrival, by whether it is admitted and the departures of those that are.
+/// The fate of each arrival, by whether it is admitted and the departures of those that are, in ticks. It refuses for
+/// want of memory alone.
 // Not inlined, so that its loop has the registers to itself.
 #[inline(never)]
 pub fn fates_by_admission(

@@ -1,5 +1,5 @@
 -- Which jobs leave by which output, as loops over the arrivals find them.
-use Rattle.std.proofs.Common.{◌≡◌, ℕ, suc, ◌+◌, ◌<◌, ◌≤◌, Bool, true, false, List, [], ◌∷◌, ◌++◌, length, get_or, drop, Some, sym, refl, ap, ◌∙◌, arith, append_assoc, drop-cons}
+use Rattle.std.proofs.Common.{◌≡◌, ℕ, suc, ◌+◌, ◌<◌, ◌≤◌, Bool, true, false, List, [], ◌∷◌, ◌++◌, length, get_or, drop, Some, sym, refl, ap, ◌∙◌, arith, append_assoc, drop-cons, length-append}
 use Rattle.std.specs.Prelude.{slice_get}
 use Rattle.std.proofs.lemmas.List.{append-nil, drop_all}
 use Rattle.mq_base.proofs.lemmas.Lists.{drop_at}
@@ -53,3 +53,25 @@ departures-each left (arrive ∷ times) (demand ∷ demands) [] jobs d j = refl
 departures-each left (arrive ∷ times) (demand ∷ demands) (admit ∷ admitted) [] d j = absurd (omega arith)
 departures-each left (arrive ∷ times) (demand ∷ demands) (true ∷ admitted) (job ∷ jobs) d j = ap suc (departures-each ((arrive + demand) ∷ left) times demands admitted jobs (omega arith) (omega arith))
 departures-each left (arrive ∷ times) (demand ∷ demands) (false ∷ admitted) (job ∷ jobs) d j = departures-each left times demands admitted jobs (omega arith) (omega arith)
+
+-- there is one more to come
+pub admitted-room : (done all : List ℕ) (admitted : List Bool) (items : List ℕ) (at item : ℕ) → slice_get admitted at ≡ Some true → slice_get items at ≡ Some item →
+    done ++ of_admitted (drop at admitted) (drop at items) ≡ all → length done < length all
+admitted-room done all admitted items at item a i h =
+    let more : done ++ item ∷ of_admitted (drop (at + 1) admitted) (drop (at + 1) items) ≡ all = sym (λ k. done ++ of_admitted (drop_at admitted at true a k) (drop_at items at item i k)) ∙ h in
+    let whole = sym (length-append done (item ∷ of_admitted (drop (at + 1) admitted) (drop (at + 1) items))) ∙ ap length more in
+    omega arith
+
+pub lost-room : (done all : List ℕ) (admitted : List Bool) (items : List ℕ) (at item : ℕ) → slice_get admitted at ≡ Some false → slice_get items at ≡ Some item →
+    done ++ of_lost (drop at admitted) (drop at items) ≡ all → length done < length all
+lost-room done all admitted items at item a i h =
+    let more : done ++ item ∷ of_lost (drop (at + 1) admitted) (drop (at + 1) items) ≡ all = sym (λ k. done ++ of_lost (drop_at admitted at false a k) (drop_at items at item i k)) ∙ h in
+    let whole = sym (length-append done (item ∷ of_lost (drop (at + 1) admitted) (drop (at + 1) items))) ∙ ap length more in
+    omega arith
+
+-- each goes by one of the two
+pub both : (admitted : List Bool) (items : List ℕ) → length items ≡ length admitted → length (of_admitted admitted items) + length (of_lost admitted items) ≡ length admitted
+both [] items e = refl
+both (admit ∷ admitted) [] e = absurd (omega arith)
+both (true ∷ admitted) (item ∷ items) e = let h = both admitted items (omega arith) in omega arith
+both (false ∷ admitted) (item ∷ items) e = let h = both admitted items (omega arith) in omega arith

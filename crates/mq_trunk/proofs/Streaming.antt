@@ -1,6 +1,7 @@
 -- What leaves a trunk group by each output, from its fates.
 use Rattle.std.proofs.Common.{◌≡◌, ℕ, suc, ◌≤◌, Bool, true, false, List, [], ◌∷◌, length, map, sym, refl, ap, ◌∙◌, arith}
 use Rattle.std.specs.List.{AllByRecursion as Each, zip}
+use Rattle.std.proofs.lemmas.List.{length-map}
 use Rattle.mq_core.proofs.lemmas.Orders.{is-sorted}
 use Rattle.mq_core.proofs.lemmas.Rising.{Rises-in_order_of, filter-in_order_of, same_by_key}
 use Rattle.mq_core.specs.Laws.{Rises}
@@ -11,10 +12,10 @@ use Rattle.mq_core.specs.Streams.{by_first, pairs_of, picked, sorted}
 use Rattle.mq_core.specs.declared.model.Fate.{Fate}
 use Rattle.mq_core.specs.declared.model.Fate.TheVariants.{Departs, Held, Lost}
 use Rattle.mq_core.specs.declared.model.Stream.{Stream}
-use Rattle.mq_trunk.specs.Parts.{lost_of, of_admitted, of_lost, trunk_stream}
+use Rattle.mq_trunk.specs.Parts.{AreAdmitted, lost_of, of_admitted, of_lost, trunk_stream}
 use Rattle.mq_trunk.proofs.Fates.{trunk-each, trunk-over}
 use Rattle.mq_rounds.specs.Rounds.{admits, departures_in}
-use Rattle.mq_rounds.proofs.lemmas.Fates.{admitted-leave, lost-leave}
+use Rattle.mq_rounds.proofs.lemmas.Fates.{IsOver, admitted-leave, lost-leave}
 
 -- those that are admitted leave by output 0, and the others by output 1
 admitted-first : (fates : List Fate) (items : List ℕ) → of_admitted (map admits fates) items ≡ picked 0 (map out_of_fate fates) items
@@ -90,3 +91,23 @@ leaves-second servers arrivals lost demands admitted s a e =
     let jobs : of_lost admitted arrivals.job ≡ picked 1 (map out_of_fate fates) arrivals.job = ap (λ (bs : List Bool). of_lost bs arrivals.job) a ∙ lost-second fates arrivals.job in
     let times : of_lost admitted arrivals.time ≡ picked 1 (map out_of_fate fates) (leaving_times arrivals.time fates) = ap (λ (bs : List Bool). of_lost bs arrivals.time) a ∙ (lost-second fates arrivals.time ∙ sym (lost-leave arrivals.time fates)) in
     e ∙ (stays-sorted (lost_of arrivals admitted) (lost-stream arrivals admitted s) ∙ (λ k. sorted (record { job = jobs k; time = times k })))
+
+-- there is an answer for each arrival
+pub admitted-even : (servers : ℕ) (arrivals : Stream) (demands : List ℕ) (admitted : List Bool) (departs : List ℕ) → AreAdmitted servers arrivals demands admitted departs → length admitted ≡ length arrivals.time
+admitted-even servers arrivals demands admitted departs h =
+    let fates : List Fate = trunk_fates servers [] arrivals.time demands in
+    ap length h.admission ∙ (length-map fates admits ∙ trunk-each servers arrivals.time demands h.each)
+
+-- and a departure for each that is admitted
+many-admitted : (fates : List Fate) (jobs : List ℕ) → length fates ≡ length jobs → Each IsOver fates → length (departures_in fates) ≡ length (of_admitted (map admits fates) jobs)
+many-admitted [] jobs e o = refl
+many-admitted (fate ∷ fates) [] e o = absurd (omega arith)
+many-admitted (Departs time ∷ fates) (job ∷ jobs) e o = ap suc (many-admitted fates jobs (omega arith) o.1)
+many-admitted (Lost ∷ fates) (job ∷ jobs) e o = many-admitted fates jobs (omega arith) o.1
+many-admitted (Held ∷ fates) (job ∷ jobs) e o = absurd o.0
+
+pub admitted-many : (servers : ℕ) (arrivals : Stream) (demands : List ℕ) (admitted : List Bool) (departs : List ℕ) → AreAdmitted servers arrivals demands admitted departs → length departs ≡ length (of_admitted admitted arrivals.job)
+admitted-many servers arrivals demands admitted departs h =
+    let fates : List Fate = trunk_fates servers [] arrivals.time demands in
+    let even : length fates ≡ length arrivals.job = trunk-each servers arrivals.time demands h.each ∙ sym h.ordered.even in
+    ap length h.departures ∙ (many-admitted fates arrivals.job even (trunk-over servers arrivals.time demands) ∙ ap (λ (bs : List Bool). length (of_admitted bs arrivals.job)) (sym h.admission))

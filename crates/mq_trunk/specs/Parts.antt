@@ -1,16 +1,15 @@
 -- What a trunk group settles: the fates of the arrivals, and what leaves by each output.
-use Rattle.std.specs.Prelude.{◌≡◌, ℕ, Bool, true, false, List, [], ◌∷◌, map}
-use Rattle.std.specs.List.{zip}
+use Rattle.std.specs.Prelude.{◌≡◌, ℕ, Bool, true, false, List, [], ◌∷◌, length, map}
 use Rattle.mq_core.specs.Came.{came_in}
 use Rattle.mq_core.specs.EmissionOrder.EmissionOrder.{Overtaking}
 use Rattle.mq_core.specs.OnceOut.{once_out, out_of_fate}
 use Rattle.mq_core.specs.Recurrences.{trunk_fates}
 use Rattle.mq_core.specs.Sequences.{IsStream}
-use Rattle.mq_core.specs.Streams.{by_first, pairs_of}
 use Rattle.mq_core.specs.declared.model.Stream.{Stream}
 use Rattle.mq_rounds.specs.Rounds.{departures_in, fates_by}
 use Rattle.mq_trunk.specs.Rounds.{admission}
 use Rattle.mq_trunk.specs.declared.answer.Trunk.{Trunk}
+use Rattle.mq_trunk.specs.declared.settling.Parts.{Parts as TheParts}
 
 -- of these items, one an arrival, those of the arrivals that are admitted
 abbrev pub of_admitted : List Bool → List ℕ → List ℕ
@@ -30,18 +29,26 @@ of_lost (false ∷ admitted) (item ∷ items) = item ∷ of_lost admitted items
 abbrev pub lost_of : Stream → List Bool → Stream
 lost_of arrivals admitted = record { job = of_lost admitted arrivals.job; time = of_lost admitted arrivals.time }
 
--- the first stream has the jobs that are admitted, by departure, those of one departure by position; the other those that are
--- lost, as they came
-pub record AreParted (arrivals : Stream) (admitted : List Bool) (departs : List ℕ) (first second : Stream) : Type 0 where
-  pub ordered : IsStream first
-  pub leaving : pairs_of first ≡ by_first (zip departs (of_admitted admitted arrivals.job))
-  pub lost : second ≡ lost_of arrivals admitted
-
 -- what leaves a trunk group by an output
 abbrev pub trunk_stream : ℕ → Stream → List ℕ → ℕ → Stream
 trunk_stream servers arrivals demands out =
     let fates = trunk_fates servers [] arrivals.time demands in
     once_out Overtaking (came_in arrivals) fates (map out_of_fate fates) out
+
+-- which arrivals a trunk group with this many servers admits, and when those depart; together they tell the fate of each
+pub record AreAdmitted (servers : ℕ) (arrivals : Stream) (demands : List ℕ) (admitted : List Bool) (departs : List ℕ) : Type 0 where
+  pub ordered : IsStream arrivals
+  pub each : length demands ≡ length arrivals.time
+  pub admission : admitted ≡ admission servers arrivals.time demands
+  pub departures : departs ≡ departures_in (trunk_fates servers [] arrivals.time demands)
+  pub fates : fates_by admitted departs ≡ trunk_fates servers [] arrivals.time demands
+
+-- what leaves it by each output, by time
+pub record ArePartedBy (servers : ℕ) (arrivals : Stream) (demands : List ℕ) (parts : TheParts) : Type 0 where
+  pub leaving : parts.leaving ≡ trunk_stream servers arrivals demands 0
+  pub lost : parts.lost ≡ trunk_stream servers arrivals demands 1
+  pub leaves : IsStream parts.leaving
+  pub overflows : IsStream parts.lost
 
 -- The answer has the admission of the trunk group and the departures of those admitted, which tell the fate of each arrival;
 -- and what leaves by each output, by time.

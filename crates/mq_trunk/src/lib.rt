@@ -18,5 +18,5 @@ mod windows;
 pub use answer::Trunk;
 pub use judging::judge_trunk;
 pub use laws::{guesses_grow, one_guess_stays, rounds_judge_each};
-pub use settling::settle_trunk;
+pub use settling::{Parts, admit_trunk, settle_trunk, trunk_parts};
 pub use whole::trunk_round;

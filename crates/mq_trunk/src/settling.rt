@@ -1,9 +1,8 @@
-ghost use Rattle.std.specs.Prelude.{◌≡◌, ◌+◌, ◌*◌, ◌≤◌, length, IfOk, OnOk};
+ghost use Rattle.std.specs.Prelude.{◌≡◌, ◌+◌, ◌*◌, ◌≤◌, ℕ, List as Items, length, IfOk};
 ghost use Rattle.std.specs.List.{zip};
 ghost use Rattle.mq_core.specs.Sequences.{IsSoundLoad, IsStream};
 ghost use Rattle.mq_core.specs.Streams.{by_first, pairs_of};
-ghost use Rattle.mq_merge.specs.Merged.{AppendsItem};
-ghost use Rattle.mq_trunk.specs.Parts.{AreParted, IsSettled, lost_of, of_admitted};
+ghost use Rattle.mq_trunk.specs.Parts.{AreAdmitted, ArePartedBy, IsSettled, lost_of, of_admitted, of_lost};
 ghost use Rattle.mq_rounds.specs.Windows.{IsWindowRun};
 ghost use Rattle.mq_trunk.specs.Rounds.{trunk_rule};
 
@@ -17,22 +16,26 @@ use mq_rounds::{Settled, settle_windows};
 use std::alloc::Global;
 use std::sync::ledger::Ledger;
 
-// The jobs that are admitted, by position.
+// The jobs that are admitted, so many, by position.
+// Not inlined, so that its loop has the registers to itself.
+#[inline(never)]
 fn admitted_jobs(
     alloc: Global,
     jobs: &List<u32>,
     admitted: &List<bool>,
+    many: usize,
 ) -> Result<List<u32>, OutOfMemory>
-    requires { length jobs.now ≡ length admitted.now }
+    requires jobs { length jobs.now ≡ length admitted.now }
+    requires many { length (of_admitted admitted.now jobs.now) ≡ many }
     ensures { IfOk result (λ served. served ≡ of_admitted admitted.now jobs.now) }
 {
-    let mut served = List::new(alloc);
+    let mut served = Vec::with_capacity(alloc, many)?;
     for at in 0..admitted.len() {
         if *admitted.get(at) {
-            served.push(*jobs.get(at))?;
+            served.push_reserved(*jobs.get(at));
         }
     }
-    Ok(served)
+    Ok(List::from_vec(served))
 }
 
 // The jobs that are admitted, as they leave.
@@ -43,77 +46,80 @@ fn leaving_jobs(
     departs: &List<u64>,
 ) -> Result<Stream, OutOfMemory>
     requires jobs { length jobs.now ≡ length admitted.now }
-    requires departs { length departs.now ≤ length (of_admitted admitted.now jobs.now) }
+    requires departs { length (of_admitted admitted.now jobs.now) ≡ length departs.now }
     ensures ordered { IfOk result (λ leaving. IsStream leaving) }
     ensures items { IfOk result (λ leaving. pairs_of leaving ≡ by_first (zip departs.now (of_admitted admitted.now jobs.now))) }
 {
-    let served = admitted_jobs(alloc, jobs, admitted)?;
+    let served = admitted_jobs(alloc, jobs, admitted, departs.len())?;
     let leaving = by_time(alloc, &served, departs)?;
     Ok(leaving)
 }
 
-// Appends a job and its time.
-fn append_item(lost: &mut Stream, job: u32, time: u64) -> Result<(), OutOfMemory>
-    ensures { OnOk result (AppendsItem lost.old lost.new job time) }
-{
-    lost.job.push(job)?;
-    lost.time.push(time)?;
-    Ok(())
-}
-
-// The jobs that are lost, as they came.
-fn lost_jobs(alloc: Global, stream: &Stream, admitted: &List<bool>) -> Result<Stream, OutOfMemory>
+// The jobs that are lost, so many, as they came.
+// Not inlined, so that its loop has the registers to itself.
+#[inline(never)]
+fn lost_jobs(
+    alloc: Global,
+    stream: &Stream,
+    admitted: &List<bool>,
+    many: usize,
+) -> Result<Stream, OutOfMemory>
     requires jobs { length stream.now.job ≡ length admitted.now }
     requires times { length stream.now.time ≡ length admitted.now }
+    requires many { length (of_lost admitted.now stream.now.job) ≡ many }
     ensures { IfOk result (λ lost. lost ≡ lost_of stream.now admitted.now) }
 {
-    let mut lost = Stream {
-        job: List::new(alloc),
-        time: List::new(alloc),
+    let mut job = Vec::with_capacity(alloc, many)?;
+    let Ok(mut time) = Vec::with_capacity(alloc, many) else {
+        drop(job);
+        return Err(OutOfMemory);
     };
     for at in 0..admitted.len() {
         if !*admitted.get(at) {
-            append_item(&mut lost, *stream.job.get(at), *stream.time.get(at))?;
+            job.push_reserved(*stream.job.get(at));
+            time.push_reserved(*stream.time.get(at));
         }
     }
-    Ok(lost)
+    Ok(Stream {
+        job: List::from_vec(job),
+        time: List::from_vec(time),
+    })
 }
 
-// What leaves by each output.
+/// What leaves a trunk group by each output.
 #[derive(Drop)]
-struct Parts {
-    leaving: Stream,
-    lost: Stream,
+pub struct Parts {
+    /// The jobs that are admitted, as they leave by output 0: by departure, those of one departure by
+    /// position.
+    pub leaving: Stream,
+    /// The jobs that are lost, as they leave by output 1: in order of arrival.
+    pub lost: Stream,
 }
 
-fn parts_of(
+/// What leaves a trunk group by each output, of which arrivals it admits and when those depart, in ticks, both by
+/// position. It refuses for want of memory alone.
+pub fn trunk_parts(
     alloc: Global,
     stream: &Stream,
     admitted: &List<bool>,
     departs: &List<u64>,
 ) -> Result<Parts, OutOfMemory>
-    requires jobs { length stream.now.job ≡ length admitted.now }
-    requires times { length stream.now.time ≡ length admitted.now }
-    requires departs { length departs.now ≤ length (of_admitted admitted.now stream.now.job) }
-    ensures { IfOk result (λ parts. AreParted stream.now admitted.now departs.now parts.leaving parts.lost) }
+    requires { (servers : ℕ) × (demands : Items ℕ) × AreAdmitted servers stream.now demands admitted.now departs.now }
+    ensures { IfOk result (λ parts. (servers : ℕ) (demands : Items ℕ) → AreAdmitted servers stream.now demands admitted.now departs.now → ArePartedBy servers stream.now demands parts) }
 {
-    let lost = lost_jobs(alloc, stream, admitted)?;
+    let lost = lost_jobs(alloc, stream, admitted, admitted.len() - departs.len())?;
     let leaving = leaving_jobs(alloc, &stream.job, admitted, departs)?;
     Ok(Parts { leaving, lost })
 }
 
 // What is settled, with what leaves.
 fn with_parts(alloc: Global, stream: &Stream, settled: Settled) -> Result<Trunk, OutOfMemory>
-    requires jobs { length stream.now.job ≡ length settled.admitted }
-    requires times { length stream.now.time ≡ length settled.admitted }
-    requires departs { length settled.departs ≤ length (of_admitted settled.admitted stream.now.job) }
-    ensures admitted { IfOk result (λ trunk. trunk.admitted ≡ settled.admitted) }
-    ensures departs { IfOk result (λ trunk. trunk.departs ≡ settled.departs) }
-    ensures parts { IfOk result (λ trunk. AreParted stream.now settled.admitted settled.departs trunk.leaving trunk.lost) }
+    requires { (servers : ℕ) × (demands : Items ℕ) × AreAdmitted servers stream.now demands settled.admitted settled.departs }
+    ensures settled { IfOk result (λ trunk. (servers : ℕ) (demands : Items ℕ) → AreAdmitted servers stream.now demands settled.admitted settled.departs → IsSettled servers stream.now demands trunk) }
     ensures rounds { IfOk result (λ trunk. trunk.rounds ≡ settled.rounds) }
     ensures judged { IfOk result (λ trunk. trunk.judged ≡ settled.judged) }
 {
-    let parts = parts_of(alloc, stream, &settled.admitted, &settled.departs)?;
+    let parts = trunk_parts(alloc, stream, &settled.admitted, &settled.departs)?;
     Ok(Trunk {
         admitted: settled.admitted,
         departs: settled.departs,
@@ -124,17 +130,43 @@ fn with_parts(alloc: Global, stream: &Stream, settled: Settled) -> Result<Trunk,
     })
 }
 
-/// Which arrivals of the stream a trunk group with these servers admits, when they depart, and what
-/// leaves by each output: settled by rounds over windows, one round a window, the first of `first`
-/// arrivals. Those of a window are guessed admitted; its round settles them up to the first that it
-/// changes, or all. The next window begins behind the settled arrivals, and is twice as long where all
-/// were settled; else it has as many arrivals as were settled.
+/// Which arrivals of the stream a trunk group with these servers admits, and when they depart: settled by
+/// rounds over windows, one round a window, the first of `first` arrivals. Those of a window are guessed
+/// admitted; its round settles them up to the first that it changes, or all. The next window begins behind
+/// the settled arrivals, and is twice as long where all were settled; else it has as many arrivals as were
+/// settled.
 ///
 /// Times and departures are in ticks, demands are ticks of service; there is one demand per item of
 /// the stream, and a first window of at least 1. Each arrival is judged once, which counts one step: a
 /// round judges no arrival behind the first that it changes. `judged` is the sum of the lengths of the
 /// windows, at most twice the arrivals and `first`. There are at most as many rounds as arrivals. It
 /// refuses for want of memory alone; the steps that it made stay.
+pub fn admit_trunk<L: Ledger>(
+    alloc: Global,
+    stream: &Stream,
+    demands: &List<u64>,
+    servers: u8,
+    first: u32,
+    steps: &mut Steps<L>,
+) -> Result<Settled, OutOfMemory>
+    requires load { IsSoundLoad stream.now.time demands.now }
+    requires stream { IsStream stream.now }
+    requires first { 1 ≤ first }
+    ensures admitted { IfOk result (λ settled. AreAdmitted servers stream.now demands.now settled.admitted settled.departs) }
+    ensures run { IfOk result (λ settled. IsWindowRun (trunk_rule servers) stream.now.time demands.now first settled.rounds settled.judged) }
+    ensures rounds { IfOk result (λ settled. settled.rounds ≤ length stream.now.time) }
+    ensures judged { IfOk result (λ settled. settled.judged ≤ 2 * length stream.now.time + first) }
+    ensures once { IfOk result (λ settled. steps.new ≡ steps.old + length stream.now.time) }
+    ensures cost { IfOk result (λ settled. steps.new ≤ steps.old + settled.judged) }
+    ensures most { steps.new ≤ steps.old + (2 * length stream.now.time + first) }
+{
+    let latest = all_free(alloc, servers)?;
+    let mut group = Group { servers, latest };
+    let settled = settle_windows(alloc, stream, demands, first, &mut group, steps)?;
+    Ok(settled)
+}
+
+/// What `admit_trunk` settles, counted as there, and what leaves by each output.
 pub fn settle_trunk<L: Ledger>(
     alloc: Global,
     stream: &Stream,
@@ -154,9 +186,7 @@ pub fn settle_trunk<L: Ledger>(
     ensures cost { IfOk result (λ trunk. steps.new ≤ steps.old + trunk.judged) }
     ensures most { steps.new ≤ steps.old + (2 * length stream.now.time + first) }
 {
-    let latest = all_free(alloc, servers)?;
-    let mut group = Group { servers, latest };
-    let settled = settle_windows(alloc, stream, demands, first, &mut group, steps)?;
+    let settled = admit_trunk(alloc, stream, demands, servers, first, steps)?;
     let trunk = with_parts(alloc, stream, settled)?;
     Ok(trunk)
 }

@@ -1,4 +1,4 @@
-use Rattle.mq_stations.proofs.lemmas.Leaves.{departs-by, never-once, source-served, streams-by}
+use Rattle.mq_stations.proofs.lemmas.Leaves.{departs-by, never-once, settles-by, source-served, streams-by}
 use Rattle.mq_stations.proofs.leaving.Goals as goal
 
 pub unreachable-requires : goal.unreachable-requires
@@ -26,10 +26,10 @@ returns-in-Delay c =
     departs-by c.args.rows.now c.args.kind.now c.args.arrivals.now _ _ c.departures-in-Delay.result c.delay_whole.ensures (λ departs h. rw c.in-Delay.is h) c.departures-in-Delay.ensures
 
 pub returns-in-Loss : goal.returns-in-Loss
-returns-in-Loss c = streams-by c.args.rows.now c.args.kind.now c.args.arrivals.now _ c.streams.result (rw c.in-Loss.is c.loss_outflow.ensures) c.streams.ensures
+returns-in-Loss c = settles-by c.args.rows.now c.args.kind.now c.args.arrivals.now _ c.settlement.result (rw c.in-Loss.is c.settled_loss.ensures) c.settlement.ensures
 
 pub returns-in-Split : goal.returns-in-Split
-returns-in-Split c = streams-by c.args.rows.now c.args.kind.now c.args.arrivals.now _ c.streams-in-Split.result (rw c.in-Split.is c.split_outflow.ensures) c.streams-in-Split.ensures
+returns-in-Split c = streams-by c.args.rows.now c.args.kind.now c.args.arrivals.now _ c.streams.result (rw c.in-Split.is c.split_outflow.ensures) c.streams.ensures
 
 pub returns-in-Trunk : goal.returns-in-Trunk
-returns-in-Trunk c = streams-by c.args.rows.now c.args.kind.now c.args.arrivals.now _ c.streams-in-Trunk.result (rw c.in-Trunk.is c.trunk_outflow.ensures) c.streams-in-Trunk.ensures
+returns-in-Trunk c = settles-by c.args.rows.now c.args.kind.now c.args.arrivals.now _ c.settlement-in-Trunk.result (rw c.in-Trunk.is c.settled_trunk.ensures) c.settlement-in-Trunk.ensures

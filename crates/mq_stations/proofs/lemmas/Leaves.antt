@@ -31,9 +31,10 @@ use Rattle.mq_core.specs.declared.model.Rows.{Rows}
 use Rattle.mq_core.specs.declared.model.Stream.{Stream}
 use Rattle.mq_split.specs.Outs.{AreParts, HasOutputs, outs_from}
 use Rattle.mq_asked.specs.Demands.{AreAsked}
-use Rattle.mq_stations.specs.Leaving.{AreDepartures, AreServed, AreLeft, IsLeaving, IsLeft, IsLoad, left_by}
+use Rattle.mq_stations.specs.Leaving.{AreDepartures, AreServed, AreLeft, AreSettled, IsLeaving, IsLeft, IsLoad, left_by}
+use Rattle.mq_rounds.specs.declared.settled.Settled.{Settled as SettledAt}
 use Rattle.mq_stations.specs.declared.outflow.Left.{Left}
-use Rattle.mq_stations.specs.declared.outflow.Left.TheVariants.{Departures, Streams}
+use Rattle.mq_stations.specs.declared.outflow.Left.TheVariants.{Departures, Settled, Streams}
 use Rattle.mq_stations.specs.declared.outflow.Outflow.{Outflow}
 use Rattle.mq_stations.proofs.lemmas.Lists.{Each-get_or}
 
@@ -210,3 +211,9 @@ pub streams-by : (rows : Rows) (kind : Kind) (arrivals : Stream) (given : Result
     IfOk result (λ left. (out : Outflow) × (given ≡ Ok out) × (left ≡ Streams out)) → IfOk result (λ left. IsLeft rows kind arrivals left)
 streams-by rows kind arrivals given (Err e) ok is = tt
 streams-by rows kind arrivals given (Ok left) ok (out, g, l) = rw l (rw g at ok)
+
+-- the same, where each job is admitted or lost
+pub settles-by : (rows : Rows) (kind : Kind) (arrivals : Stream) (given : Result SettledAt OutOfMemory) (result : Result Left OutOfMemory) → IfOk given (λ one. AreSettled rows kind arrivals one) →
+    IfOk result (λ left. (one : SettledAt) × (given ≡ Ok one) × (left ≡ Settled one)) → IfOk result (λ left. IsLeft rows kind arrivals left)
+settles-by rows kind arrivals given (Err e) ok is = tt
+settles-by rows kind arrivals given (Ok left) ok (one, g, l) = rw l (rw g at ok)

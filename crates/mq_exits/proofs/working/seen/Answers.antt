@@ -1,18 +1,4 @@
-use Rattle.std.proofs.Common.{ap, sym, ◌∙◌}
-use Rattle.std.specs.Option.{option_map}
-use Rattle.mq_stations.specs.Late.{late_told}
-use Rattle.mq_exits.proofs.Leavings.{late-by}
 use Rattle.mq_exits.proofs.working.seen.Goals as goal
 
-pub found_at-requires-clause-leave : goal.found_at-requires-clause-leave
-found_at-requires-clause-leave c = c.each-fates.ensures ∙ c.requires.leaving.leave
-
 pub returns-in-Ok : goal.returns-in-Ok
-returns-in-Ok c = (
-  record {
-    fates_are = c.each-fates.ensures ∙ c.requires.leaving.leave;
-    streams_are = c.requires.leaving.outflow;
-    none = late-by c.args.net.now.bound c.args.number _ _ _ (sym c.requires.leaving.leave) (c.first_late.ensures ∙ ap (option_map late_told) c.in-None.is);
-  },
-  c.in-Ok.ensures,
-)
+returns-in-Ok c = c.after_faring.ensures c.args.net.now c.args.rows.now c.args.number c.args.kind.now c.args.arrivals.now c.in-Ok.ensures c.requires.leaving.outflow

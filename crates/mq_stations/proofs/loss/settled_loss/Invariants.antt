@@ -1,4 +1,4 @@
-use Rattle.mq_stations.proofs.trunk.trunk_outflow.Given as goal
+use Rattle.mq_stations.proofs.loss.settled_loss.Given as goal
 
 -- the counter's ledger is the one that was opened for it
 abbrev pub ghosts-settled : goal.ghosts-settled
