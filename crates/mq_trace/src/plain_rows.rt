@@ -43,20 +43,22 @@ fn plain_rows(
     let mut rows = GrowingRows::new(alloc, net.columns.as_slice(), room)?;
     let mut values = [0u64; 16];
     let mut rest = text;
+    let mut last = None;
     while !rest.is_empty() {
         // An empty line is no record.
         if let Some(more) = behind_record(rest) {
             rest = more;
             continue;
         }
-        let Some(row) = plain_row(rest, rows.source.len(), net, header, &mut values) else {
+        let Some(row) = plain_row(rest, rows.source.len(), last, net, header, &mut values) else {
             drop(rows);
             return Ok(None);
         };
-        if let Err(fault) = rows.push(row.node, row.time, header.indices.as_slice(), &values) {
+        if let Err(fault) = rows.push(row.source.node, row.time, header.indices.as_slice(), &values) {
             drop(rows);
             return Err(fault);
         }
+        last = Some(row.source);
         rest = row.rest;
     }
     Ok(Some(rows.into_rows()))

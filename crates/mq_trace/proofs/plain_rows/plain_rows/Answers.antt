@@ -10,6 +10,7 @@ loop-rest-init c = record {
   room = refl;
   done = [];
   split = refl;
+  last = tt;
   rows = rw (c.in_ok-rows.ensures.source, c.in_ok-rows.ensures.time, c.in_ok-rows.ensures.demands, c.as_slice.ensures) (so_far_none _ _);
 }
 
@@ -21,6 +22,7 @@ loop-rest-preserved-in-Some c =
       room = i.room;
       done = i.done;
       split = rw e.rest (i.split ∙ ap (λ more. i.done ++ more) (none_begins c.loop-rest.rest.now e.ends));
+      last = i.last;
       rows = i.rows;
     }
 
@@ -39,13 +41,14 @@ push-requires-clause-indices c = λ k less.
 pub loop-rest-preserved : goal.loop-rest-preserved
 loop-rest-preserved c =
     let i = c.loop-rest.invariant in
-    let first = c.in-Some-plain_row.ensures in
+    let first = c.in-Some-plain_row.ensures.first in
     let pushed = c.in_default-push.ensures in
     let count : c.len.result + 1 ≡ 1 + length i.done = omega (arith, c.len.ensures, so_far_count _ _ _ _ _ _ i.rows) in
     record {
       room = c.plain_row.auto.values ∙ i.room;
       done = i.done ++ first.fields ∷ [];
       split = done_more c.args.text.now c.loop-rest.rest.now c.in-Some-plain_row.row.rest.now i.done first.fields i.split first.first;
+      last = c.in-Some-plain_row.ensures.source;
       rows = rw (pushed.source, pushed.time) (so_far_more _ _ _ _ _ _ _ _ _ _ _ c.requires.header i.rows (rw count at first.clean) first.source first.time first.held (rw c.as_slice-in-loop-rest.ensures.value at pushed.demands));
     }
 
