@@ -1,6 +1,6 @@
 -- Rows that are read field after field.
-use Rattle.std.proofs.Common.{◌≡◌, ◌∙◌, sym, ap, refl, ℕ, ◌+◌, ◌-◌, ◌<◌, ◌≤◌, ◌^◌, append_assoc, List, [], ◌∷◌, ◌++◌, length, length-take, drop, take, get_or, Bool, true, false, Some, None, arith, inl, inr}
-use Rattle.std.specs.Prelude.{◌&&◌, is_none}
+use Rattle.std.proofs.Common.{◌≡◌, ◌∙◌, sym, ap, refl, ℕ, ◌+◌, ◌-◌, ◌<◌, ◌≤◌, ◌^◌, append_assoc, List, [], ◌∷◌, ◌++◌, length, length-set, length-take, drop, set, take, get_or, Bool, true, false, Some, None, arith, inl, inr}
+use Rattle.std.specs.Prelude.{◌&&◌, All, is_none}
 use Rattle.std.specs.Char.{is_ascii_digit}
 use Rattle.std.specs.List.{list_all}
 use Rattle.std.specs.Str.Parse.{digits_value}
@@ -8,17 +8,19 @@ use Rattle.std.proofs.Math.ListN.{get_or-append}
 use Rattle.std.proofs.Math.Seq.{get_or-append_seam}
 use Rattle.std.proofs.lemmas.Bool.{and_parts, cases_Bool, cases_lt}
 use Rattle.std.proofs.lemmas.Grind.{common_steps}
-use Rattle.std.proofs.lemmas.List.{length-append, length-drop, length-take-le, take_all, take_at, take_more}
+use Rattle.std.proofs.lemmas.List.Elements.{All-push}
+use Rattle.std.proofs.lemmas.List.{length-append, length-drop, length-take-le, take_all, take_at, take_more, take_more_set}
 use Rattle.csv.specs.Records.{fields_of}
 use Rattle.mq_base.specs.Text.{number_of}
 use Rattle.mq_core.specs.declared.model.Network.{Network}
 use Rattle.mq_trace.specs.Header.{columns_of, is_among}
-use Rattle.mq_trace.specs.Plain.{IsColumnField, IsField, IsFirstRow, IsNoted, ends_record, is_plain}
+use Rattle.mq_trace.specs.Plain.{IsColumnField, IsField, IsFirstRow, IsNoted, IsSource, ends_record, is_plain}
 use Rattle.mq_trace.specs.Reading.{IsHeaderOf}
 use Rattle.mq_trace.specs.Records.{Record}
 use Rattle.mq_trace.specs.Trace.{bad_value, row_fault, source_named}
 use Rattle.mq_trace.specs.declared.header.Header.{Header}
 use Rattle.mq_trace.specs.declared.plain.PlainRow.{PlainRow}
+use Rattle.mq_trace.specs.declared.plain_source.PlainSource.{PlainSource}
 use Rattle.mq_trace.proofs.PlainFacts.{Ends, ends_first, goes_first, goes_over}
 use Rattle.mq_trace.proofs.TraceFacts.{later_field, length_noted, noted}
 
@@ -93,6 +95,23 @@ held_more reads old new later field i len same value held k less read =
       | inr behind ↦ let here : k ≡ length later = omega arith in let at : k ≡ i = omega arith in
           ap (λ j. get_or new j 0) at ∙ value (ap (λ j. get_or reads j false) (sym at) ∙ read) ∙ ap (digits_value 10) (sym (ap (λ j. get_or (later ++ field ∷ []) j []) here ∙ get_or-append_seam later field [] []))
     ]
+
+-- so many of these places hold sources
+pub record HoldSources (net : Network) (known : List PlainSource) (count : ℕ) : Type 0 where
+  pub each : All (λ source. IsSource net source) (take count known)
+  pub places : length known ≡ 8
+  pub within : count ≤ 8
+
+pub no_sources : (net : Network) (known : List PlainSource) → length known ≡ 8 → HoldSources net known 0
+no_sources net known places = record { each = λ k d less. absurd (omega arith); places = places; within = omega arith }
+
+pub one_source : (net : Network) (known : List PlainSource) (count : ℕ) (source : PlainSource) → HoldSources net known count → IsSource net source → count < 8
+    → HoldSources net (set known count source) (count + 1)
+one_source net known count source h is less = record {
+  each = rw (take_more_set known count source (omega (arith, h.places))) (All-push (λ s. IsSource net s) (take count known) source h.each is);
+  places = length-set known count source ∙ h.places;
+  within = omega arith;
+}
 
 -- what stands before the end of a text
 front_cut : (text begins front rest : List ℕ) → text ≡ front ++ rest → begins ≡ take (length text - length rest) text → begins ≡ front

@@ -1,6 +1,6 @@
 // Records that are read as they stand in the text: in their fields no quote stands, but around them.
 
-ghost use Rattle.std.specs.Prelude.{◌≡◌, ◌+◌, ◌^◌, ◌<◌, ◌≤◌, ◌∷◌, ◌++◌, ℕ, List, length, true, Some, IfSome, drop, take};
+ghost use Rattle.std.specs.Prelude.{◌≡◌, ◌+◌, ◌^◌, ◌<◌, ◌≤◌, ◌∷◌, ◌++◌, ℕ, All, List, length, true, Some, IfSome, drop, take};
 ghost use Rattle.std.specs.Char.{is_ascii_digit};
 ghost use Rattle.std.specs.List.{list_all, prefix_len};
 ghost use Rattle.std.specs.Str.Parse.{digits_value};
@@ -21,6 +21,8 @@ use mq_core::Network;
 pub struct PlainRow<'a> {
     /// Its source.
     pub source: PlainSource<'a>,
+    /// Whether that is none of those that are known.
+    pub is_new: bool,
     /// When the job comes, in ticks.
     pub time: u64,
     /// The text behind the record.
@@ -152,12 +154,12 @@ fn column_field<'a>(text: &'a [u8], reads: bool, value: &mut u64) -> Option<&'a 
     Some(rest)
 }
 
-/// Reads the first record of a text, behind so many others, where it is plain and has no fault. The source of the
-/// record before is given, if there is one. The numbers of its columns go into `values`.
+/// Reads the first record of a text, behind so many others, where it is plain and has no fault. Some sources
+/// are known from other records. The numbers of its columns go into `values`.
 pub fn plain_row<'a>(
     text: &'a [u8],
     before: usize,
-    last: Option<PlainSource<'a>>,
+    known: &[PlainSource<'a>],
     net: &Network,
     header: &Header,
     values: &mut [u64],
@@ -165,17 +167,17 @@ pub fn plain_row<'a>(
     requires header { IsHeaderOf net.now header.now }
     requires nodes { length net.now.nodes < 2 ^ 32 }
     requires room { length values.old ≡ 16 }
-    requires last { IfSome last (λ source. IsSource net.now source) }
+    requires known { All (λ source. IsSource net.now source) known.now }
     ensures first { IfSome result (λ row. IsFirstRow net.now header.now text.now (before + 1) row values.new) }
     ensures source { IfSome result (λ row. IsSource net.now row.source) }
 {
     if before >= MOST_ROWS as usize {
         return None;
     }
-    let Some((source, field)) = plain_source(text, last, net) else {
+    let Some(first) = plain_source(text, known, net) else {
         return None;
     };
-    let Some((time, mut end)) = split_number(field, 1 << 60) else {
+    let Some((time, mut end)) = split_number(first.rest, 1 << 60) else {
         return None;
     };
     for (index, reads) in header.reads.as_slice().iter().enumerate() {
@@ -188,7 +190,8 @@ pub fn plain_row<'a>(
         return None;
     };
     Some(PlainRow {
-        source,
+        source: first.source,
+        is_new: first.is_new,
         time,
         rest,
     })

@@ -1,7 +1,6 @@
-// The source of a record that is read as it stands in the text. Most records have the source of the one before, and begin with
-// the same bytes.
+// The source of a record that is read as it stands in the text. Records of one source begin with the same bytes.
 
-ghost use Rattle.std.specs.Prelude.{◌≡◌, ◌^◌, ◌<◌, ◌++◌, length, IfSome};
+ghost use Rattle.std.specs.Prelude.{◌≡◌, ◌^◌, ◌<◌, ◌++◌, length, All, IfSome};
 ghost use Rattle.mq_trace.specs.Plain.{IsSource, IsSourceOf};
 
 use crate::plain::{behind_byte, split_field};
@@ -17,10 +16,21 @@ pub struct PlainSource<'a> {
     pub node: u32,
 }
 
-/// The source of a record, which is looked up in the network, and what stands behind the comma.
-fn new_source<'a>(text: &'a [u8], net: &Network) -> Option<(PlainSource<'a>, &'a [u8])>
+/// What a record begins with.
+#[derive(Clone, Copy)]
+pub struct SourceField<'a> {
+    /// Its source.
+    pub source: PlainSource<'a>,
+    /// Whether it is none of those that are known.
+    pub is_new: bool,
+    /// The text behind the comma.
+    pub rest: &'a [u8],
+}
+
+/// The source of a record, which is looked up in the network.
+fn new_source<'a>(text: &'a [u8], net: &Network) -> Option<SourceField<'a>>
     requires { length net.now.nodes < 2 ^ 32 }
-    ensures { IfSome result (λ p. IsSourceOf net.now text.now p.0 p.1.now) }
+    ensures { IfSome result (λ field. IsSourceOf net.now text.now field.source field.rest.now) }
 {
     let Some((name, behind)) = split_field(text) else {
         return None;
@@ -35,22 +45,30 @@ fn new_source<'a>(text: &'a [u8], net: &Network) -> Option<(PlainSource<'a>, &'a
         text: &text[..text.len() - rest.len()],
         node: node as u32,
     };
-    Some((source, rest))
+    Some(SourceField {
+        source,
+        is_new: true,
+        rest,
+    })
 }
 
-/// The source of a record, and what stands behind the comma. That of the record before is tried first.
+/// The source of a record. Those that are known are tried first, by the bytes that their records began with.
 pub fn plain_source<'a>(
     text: &'a [u8],
-    last: Option<PlainSource<'a>>,
+    known: &[PlainSource<'a>],
     net: &Network,
-) -> Option<(PlainSource<'a>, &'a [u8])>
-    requires last { IfSome last (λ source. IsSource net.now source) }
+) -> Option<SourceField<'a>>
+    requires known { All (λ source. IsSource net.now source) known.now }
     requires nodes { length net.now.nodes < 2 ^ 32 }
-    ensures { IfSome result (λ p. IsSourceOf net.now text.now p.0 p.1.now) }
+    ensures { IfSome result (λ field. IsSourceOf net.now text.now field.source field.rest.now) }
 {
-    if let Some(source) = last {
+    for source in known {
         if let Some(rest) = text.strip_prefix(source.text) {
-            return Some((source, rest));
+            return Some(SourceField {
+                source: *source,
+                is_new: false,
+                rest,
+            });
         }
     }
     new_source(text, net)

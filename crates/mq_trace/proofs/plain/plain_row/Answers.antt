@@ -8,11 +8,11 @@ pub loop-index-init : goal.loop-index-init
 loop-index-init c =
     let (digits, split, number) = c.in-Some-split_number.ensures in
     let source = c.in-Some.ensures in
-    let field = c.in-Some.field.now in
+    let field = c.in-Some.first.rest.now in
     record {
       room = c.requires.room;
       so_far = row_begins _ _ _ _ _ _ source.source_is.name (44 ∷ field) field digits c.in-Some-split_number.end.now
-          (comma_field c.args.text.now c.in-Some.source.text.now source.source_is.name field source.source_is.stands source.begins) refl
+          (comma_field c.args.text.now c.in-Some.first.source.text.now source.source_is.name field source.source_is.stands source.begins) refl
           (number_field field digits c.in-Some-split_number.end.now (2 ^ 60) c.in-Some-split_number.time split number) source.source_is.named number;
     }
 
