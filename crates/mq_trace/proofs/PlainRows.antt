@@ -1,6 +1,6 @@
 -- Rows that are read field after field.
-use Rattle.std.proofs.Common.{◌≡◌, ◌∙◌, sym, ap, refl, ℕ, ◌+◌, ◌<◌, ◌≤◌, ◌^◌, List, [], ◌∷◌, ◌++◌, length, length-take, drop, take, get_or, Bool, true, false, Some, None, arith, inl, inr}
-use Rattle.std.specs.Prelude.{◌&&◌, is_none}
+use Rattle.std.proofs.Common.{◌≡◌, ◌∙◌, sym, ap, refl, ℕ, ◌+◌, ◌-◌, ◌<◌, ◌≤◌, ◌^◌, append_assoc, List, [], ◌∷◌, ◌++◌, length, length-set, length-take, drop, set, take, get_or, Bool, true, false, Some, None, arith, inl, inr}
+use Rattle.std.specs.Prelude.{◌&&◌, All, is_none}
 use Rattle.std.specs.Char.{is_ascii_digit}
 use Rattle.std.specs.List.{list_all}
 use Rattle.std.specs.Str.Parse.{digits_value}
@@ -8,17 +8,19 @@ use Rattle.std.proofs.Math.ListN.{get_or-append}
 use Rattle.std.proofs.Math.Seq.{get_or-append_seam}
 use Rattle.std.proofs.lemmas.Bool.{and_parts, cases_Bool, cases_lt}
 use Rattle.std.proofs.lemmas.Grind.{common_steps}
-use Rattle.std.proofs.lemmas.List.{length-append, length-drop, length-take-le, take_all, take_more}
+use Rattle.std.proofs.lemmas.List.Elements.{All-push}
+use Rattle.std.proofs.lemmas.List.{length-append, length-drop, length-take-le, take_all, take_at, take_more, take_more_set}
 use Rattle.csv.specs.Records.{fields_of}
 use Rattle.mq_base.specs.Text.{number_of}
 use Rattle.mq_core.specs.declared.model.Network.{Network}
 use Rattle.mq_trace.specs.Header.{columns_of, is_among}
-use Rattle.mq_trace.specs.Plain.{IsColumnField, IsField, IsFirstRow, IsNoted, ends_record, is_plain}
+use Rattle.mq_trace.specs.Plain.{IsColumnField, IsField, IsFirstRow, IsNoted, IsSource, ends_record, is_plain}
 use Rattle.mq_trace.specs.Reading.{IsHeaderOf}
 use Rattle.mq_trace.specs.Records.{Record}
 use Rattle.mq_trace.specs.Trace.{bad_value, row_fault, source_named}
 use Rattle.mq_trace.specs.declared.header.Header.{Header}
 use Rattle.mq_trace.specs.declared.plain.PlainRow.{PlainRow}
+use Rattle.mq_trace.specs.declared.plain_source.PlainSource.{PlainSource}
 use Rattle.mq_trace.proofs.PlainFacts.{Ends, ends_first, goes_first, goes_over}
 use Rattle.mq_trace.proofs.TraceFacts.{later_field, length_noted, noted}
 
@@ -94,6 +96,47 @@ held_more reads old new later field i len same value held k less read =
           ap (λ j. get_or new j 0) at ∙ value (ap (λ j. get_or reads j false) (sym at) ∙ read) ∙ ap (digits_value 10) (sym (ap (λ j. get_or (later ++ field ∷ []) j []) here ∙ get_or-append_seam later field [] []))
     ]
 
+-- so many of these places hold sources
+pub record HoldSources (net : Network) (known : List PlainSource) (count : ℕ) : Type 0 where
+  pub each : All (λ source. IsSource net source) (take count known)
+  pub places : length known ≡ 8
+  pub within : count ≤ 8
+
+pub no_sources : (net : Network) (known : List PlainSource) → length known ≡ 8 → HoldSources net known 0
+no_sources net known places = record { each = λ k d less. absurd (omega arith); places = places; within = omega arith }
+
+pub one_source : (net : Network) (known : List PlainSource) (count : ℕ) (source : PlainSource) → HoldSources net known count → IsSource net source → count < 8
+    → HoldSources net (set known count source) (count + 1)
+one_source net known count source h is less = record {
+  each = rw (take_more_set known count source (omega (arith, h.places))) (All-push (λ s. IsSource net s) (take count known) source h.each is);
+  places = length-set known count source ∙ h.places;
+  within = omega arith;
+}
+
+-- what stands before the end of a text
+front_cut : (text begins front rest : List ℕ) → text ≡ front ++ rest → begins ≡ take (length text - length rest) text → begins ≡ front
+front_cut text begins front rest e cut =
+    let size : length text ≡ length front + length rest = ap length e ∙ length-append front rest in
+    let n : length front ≡ length text - length rest = omega arith in
+    cut ∙ ap (take (length text - length rest)) e ∙ take_at front rest (length text - length rest) n
+
+-- a field and the comma behind it, which a text begins with
+pub comma_field : (text begins name rest : List ℕ) → IsField begins name (44 ∷ []) → text ≡ begins ++ rest → IsField text name (44 ∷ rest)
+comma_field text begins name rest (inl (plain, e)) b = inl (plain, b ∙ ap (λ t. t ++ rest) e ∙ append_assoc name (44 ∷ []) rest)
+comma_field text begins name rest (inr (plain, e)) b = inr (plain, b ∙ ap (λ t. t ++ rest) e ∙ ap (λ t. 34 ∷ t) (append_assoc name (34 ∷ 44 ∷ []) rest))
+
+-- a field that a text begins with, which is cut behind the comma
+pub field_cut : (text begins name behind rest : List ℕ) → IsField text name behind → behind ≡ 44 ∷ rest → begins ≡ take (length text - length rest) text
+    → IsField begins name (44 ∷ []) × (text ≡ begins ++ rest)
+field_cut text begins name behind rest (inl (plain, e)) comma cut =
+    let whole : text ≡ (name ++ 44 ∷ []) ++ rest = e ∙ ap (λ t. name ++ t) comma ∙ sym (append_assoc name (44 ∷ []) rest) in
+    let same = front_cut text begins (name ++ 44 ∷ []) rest whole cut in
+    (inl (plain, same), whole ∙ ap (λ t. t ++ rest) (sym same))
+field_cut text begins name behind rest (inr (plain, e)) comma cut =
+    let whole : text ≡ (34 ∷ (name ++ 34 ∷ 44 ∷ [])) ++ rest = e ∙ ap (λ t. 34 ∷ (name ++ 34 ∷ t)) comma ∙ ap (λ t. 34 ∷ t) (sym (append_assoc name (34 ∷ 44 ∷ []) rest)) in
+    let same = front_cut text begins (34 ∷ (name ++ 34 ∷ 44 ∷ [])) rest whole cut in
+    (inr (plain, same), whole ∙ ap (λ t. t ++ rest) (sym same))
+
 -- the first two fields
 pub row_begins : (net : Network) (header : Header) (text : List ℕ) (node time : ℕ) (values first behind back second end : List ℕ) → IsField text first behind → behind ≡ 44 ∷ back
     → IsField back second end → source_named net first ≡ Some node → number_of second (2 ^ 60) ≡ Some time → RowSoFar net header text 0 node time values end
@@ -146,7 +189,7 @@ row_clean net header number first second later node time few len source time_is 
 
 -- the whole record
 pub row_ends : (net : Network) (header : Header) (text : List ℕ) (number index : ℕ) (row : PlainRow) (values end : List ℕ) → IsHeaderOf net header
-    → RowSoFar net header text index row.node row.time values end → index ≡ length header.reads.items → ends_record end ≡ true → row.rest.now ≡ drop 1 end
+    → RowSoFar net header text index row.source.node row.time values end → index ≡ length header.reads.items → ends_record end ≡ true → row.rest.now ≡ drop 1 end
     → number ≤ 1048576 → IsFirstRow net header text number row values
 row_ends net header text number index row values end is so all ends rest few =
     let names = fields_of header.names in
@@ -156,7 +199,7 @@ row_ends net header text number index row values end is so all ends rest few =
     record {
       fields = so.first ∷ so.second ∷ so.later;
       first = ends_first text (so.first ∷ so.second ∷ so.later) end row.rest.now so.ends ends rest;
-      clean = row_clean net names number so.first so.second so.later row.node row.time few len so.source so.number (rw whole at so.clean);
+      clean = row_clean net names number so.first so.second so.later row.source.node row.time few len so.source so.number (rw whole at so.clean);
       source = so.source;
       time = number_is so.second (2 ^ 60) row.time so.number;
       held = λ k less read. so.held k (omega arith) read ∙ ap (digits_value 10) (later_field (so.first ∷ so.second ∷ so.later) k);

@@ -13,6 +13,7 @@ use Rattle.mq_trace.specs.Records.{Record, records_at}
 use Rattle.mq_trace.specs.Trace.{row_fault, source_named}
 use Rattle.mq_trace.specs.declared.header.Header.{Header}
 use Rattle.mq_trace.specs.declared.plain.PlainRow.{PlainRow}
+use Rattle.mq_trace.specs.declared.plain_source.PlainSource.{PlainSource}
 
 -- a byte that ends a record
 abbrev pub is_line_end : ℕ → Bool
@@ -25,6 +26,17 @@ is_plain c = not ((c == 34) || (c == 44) || (c == 13) || (c == 10))
 -- a text begins with this field, as it stands or between quotes, and this is left behind it
 abbrev pub IsField : List ℕ → List ℕ → List ℕ → Type 0
 IsField text field rest = ((list_all is_plain field ≡ true) × (text ≡ field ++ rest)) ⊎ ((has_quote field ≡ false) × (text ≡ 34 ∷ (field ++ 34 ∷ rest)))
+
+-- its text is the name of its node, as it stands or between quotes, and a comma
+pub record IsSource (net : Network) (source : PlainSource) : Type 0 where
+  pub name : List ℕ
+  pub stands : IsField source.text.now name (44 ∷ [])
+  pub named : source_named net name ≡ Some source.node
+
+-- a text begins with this source, and this is left behind it
+pub record IsSourceOf (net : Network) (text : List ℕ) (source : PlainSource) (rest : List ℕ) : Type 0 where
+  pub source_is : IsSource net source
+  pub begins : text ≡ source.text.now ++ rest
 
 -- a column that isn't read, or a field whose number was noted
 abbrev pub IsNoted : Bool → ℕ → List ℕ → Type 0
@@ -53,6 +65,6 @@ pub record IsFirstRow (net : Network) (header : Header) (text : List ℕ) (numbe
   pub fields : Record
   pub first : BeginsWith text fields row.rest.now
   pub clean : row_fault net (fields_of header.names) number fields ≡ None
-  pub source : source_named net (field_of fields 0) ≡ Some row.node
+  pub source : source_named net (field_of fields 0) ≡ Some row.source.node
   pub time : row.time ≡ digits_value 10 (field_of fields 1)
   pub held : HoldsValues header.reads.items values fields

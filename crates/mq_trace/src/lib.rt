@@ -15,6 +15,7 @@ mod piece;
 mod pieces;
 mod plain;
 mod plain_rows;
+mod plain_source;
 mod quotes;
 mod read;
 mod records;

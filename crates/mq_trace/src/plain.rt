@@ -1,17 +1,17 @@
 // Records that are read as they stand in the text: in their fields no quote stands, but around them.
 
-ghost use Rattle.std.specs.Prelude.{◌≡◌, ◌+◌, ◌^◌, ◌<◌, ◌≤◌, ◌∷◌, ◌++◌, ℕ, List, length, true, Some, IfSome, drop, take};
+ghost use Rattle.std.specs.Prelude.{◌≡◌, ◌+◌, ◌^◌, ◌<◌, ◌≤◌, ◌∷◌, ◌++◌, ℕ, All, List, length, true, Some, IfSome, drop, take};
 ghost use Rattle.std.specs.Char.{is_ascii_digit};
 ghost use Rattle.std.specs.List.{list_all, prefix_len};
 ghost use Rattle.std.specs.Str.Parse.{digits_value};
 ghost use Rattle.mq_base.specs.Text.{number_of};
-ghost use Rattle.mq_trace.specs.Plain.{BeginsWith, IsColumnField, IsField, IsFirstRow, ends_record, is_plain};
+ghost use Rattle.mq_trace.specs.Plain.{BeginsWith, IsColumnField, IsField, IsFirstRow, IsSource, ends_record, is_plain};
 ghost use Rattle.mq_trace.specs.Reading.{IsHeaderOf};
 ghost use Rattle.mq_trace.specs.Records.{Record};
 
 use crate::header::Header;
+use crate::plain_source::{PlainSource, plain_source};
 use crate::quotes::ends_field;
-use crate::row::find_source;
 use crate::rows::MOST_ROWS;
 use memchr::memchr;
 use mq_core::Network;
@@ -19,8 +19,10 @@ use mq_core::Network;
 /// What a record gives, beside the numbers of its columns.
 #[derive(Clone, Copy)]
 pub struct PlainRow<'a> {
-    /// The node of its source.
-    pub node: u32,
+    /// Its source.
+    pub source: PlainSource<'a>,
+    /// Whether that is none of those that are known.
+    pub is_new: bool,
     /// When the job comes, in ticks.
     pub time: u64,
     /// The text behind the record.
@@ -43,7 +45,7 @@ fn field_length(text: &[u8]) -> usize
 }
 
 /// What stands behind a byte, where a text begins with it.
-fn behind_byte(byte: u8, text: &[u8]) -> Option<&[u8]>
+pub fn behind_byte(byte: u8, text: &[u8]) -> Option<&[u8]>
     ensures { IfSome result (λ more. text.now ≡ byte ∷ more.now) }
 {
     match text {
@@ -54,7 +56,7 @@ fn behind_byte(byte: u8, text: &[u8]) -> Option<&[u8]>
 
 /// The field that a text begins with, and what stands behind it. Where quotes stand around the field, the second one
 /// that the text has ends it.
-fn split_field(text: &[u8]) -> Option<(&[u8], &[u8])>
+pub fn split_field(text: &[u8]) -> Option<(&[u8], &[u8])>
     ensures { IfSome result (λ p. IsField text.now p.0.now p.1.now) }
 {
     if let Some(quoted) = behind_byte(b'"', text) {
@@ -152,11 +154,12 @@ fn column_field<'a>(text: &'a [u8], reads: bool, value: &mut u64) -> Option<&'a 
     Some(rest)
 }
 
-/// Reads the first record of a text, behind so many others, where it is plain and has no fault. The numbers of its
-/// columns go into `values`.
+/// Reads the first record of a text, behind so many others, where it is plain and has no fault. Some sources
+/// are known from other records. The numbers of its columns go into `values`.
 pub fn plain_row<'a>(
     text: &'a [u8],
     before: usize,
+    known: &[PlainSource<'a>],
     net: &Network,
     header: &Header,
     values: &mut [u64],
@@ -164,21 +167,17 @@ pub fn plain_row<'a>(
     requires header { IsHeaderOf net.now header.now }
     requires nodes { length net.now.nodes < 2 ^ 32 }
     requires room { length values.old ≡ 16 }
-    ensures { IfSome result (λ row. IsFirstRow net.now header.now text.now (before + 1) row values.new) }
+    requires known { All (λ source. IsSource net.now source) known.now }
+    ensures first { IfSome result (λ row. IsFirstRow net.now header.now text.now (before + 1) row values.new) }
+    ensures source { IfSome result (λ row. IsSource net.now row.source) }
 {
     if before >= MOST_ROWS as usize {
         return None;
     }
-    let Some((name, behind)) = split_field(text) else {
+    let Some(first) = plain_source(text, known, net) else {
         return None;
     };
-    let Some(node) = find_source(net, name) else {
-        return None;
-    };
-    let Some(field) = behind_byte(b',', behind) else {
-        return None;
-    };
-    let Some((time, mut end)) = split_number(field, 1 << 60) else {
+    let Some((time, mut end)) = split_number(first.rest, 1 << 60) else {
         return None;
     };
     for (index, reads) in header.reads.as_slice().iter().enumerate() {
@@ -191,7 +190,8 @@ pub fn plain_row<'a>(
         return None;
     };
     Some(PlainRow {
-        node: node as u32,
+        source: first.source,
+        is_new: first.is_new,
         time,
         rest,
     })

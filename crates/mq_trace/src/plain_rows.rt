@@ -10,6 +10,7 @@ ghost use Rattle.mq_trace.specs.Records.{records_at};
 use crate::growing::GrowingRows;
 use crate::header::Header;
 use crate::plain::{behind_first, behind_record, plain_row};
+use crate::plain_source::PlainSource;
 use crate::quotes::unmarked;
 use mq_base::OutOfMemory;
 use mq_core::{Network, Rows};
@@ -43,19 +44,37 @@ fn plain_rows(
     let mut rows = GrowingRows::new(alloc, net.columns.as_slice(), room)?;
     let mut values = [0u64; 16];
     let mut rest = text;
+    let mut known = [PlainSource { text: b"", node: 0 }; 8];
+    let mut count = 0;
     while !rest.is_empty() {
         // An empty line is no record.
         if let Some(more) = behind_record(rest) {
             rest = more;
             continue;
         }
-        let Some(row) = plain_row(rest, rows.source.len(), net, header, &mut values) else {
+        let Some(row) = plain_row(
+            rest,
+            rows.source.len(),
+            &known[..count],
+            net,
+            header,
+            &mut values,
+        ) else {
             drop(rows);
             return Ok(None);
         };
-        if let Err(fault) = rows.push(row.node, row.time, header.indices.as_slice(), &values) {
+        if let Err(fault) = rows.push(
+            row.source.node,
+            row.time,
+            header.indices.as_slice(),
+            &values,
+        ) {
             drop(rows);
             return Err(fault);
+        }
+        if row.is_new && count < known.len() {
+            known[count] = row.source;
+            count += 1;
         }
         rest = row.rest;
     }

@@ -1,15 +1,19 @@
-use Rattle.std.proofs.Common.{◌≡◌, ◌≢◌, ◌<◌, ◌^◌, ◌∙◌, ap, arith, length, length-set, set, sym}
+use Rattle.std.proofs.Common.{◌≡◌, ◌≢◌, ◌<◌, ◌^◌, ◌∙◌, ◌∷◌, ap, arith, length, length-set, refl, set}
 use Rattle.std.proofs.lemmas.List.{get_or-set_other, get_or-set_same}
-use Rattle.mq_trace.proofs.PlainRows.{number_field, row_begins, row_ends, row_more}
+use Rattle.mq_trace.proofs.PlainRows.{comma_field, number_field, row_begins, row_ends, row_more}
 use Rattle.mq_trace.proofs.RowFacts.{reads_few}
 use Rattle.mq_trace.proofs.plain.plain_row.Goals as goal
 
 pub loop-index-init : goal.loop-index-init
 loop-index-init c =
     let (digits, split, number) = c.in-Some-split_number.ensures in
+    let source = c.in-Some.ensures in
+    let field = c.in-Some.first.rest.now in
     record {
       room = c.requires.room;
-      so_far = row_begins _ _ _ _ _ _ c.in-Some.name.now c.in-Some.behind.now c.in-Some-behind_byte.field.now digits c.in-Some-split_number.end.now c.in-Some.ensures c.in-Some-behind_byte.ensures (number_field c.in-Some-behind_byte.field.now digits c.in-Some-split_number.end.now (2 ^ 60) c.in-Some-split_number.time split number) (sym c.in-Some-find_source.ensures) number;
+      so_far = row_begins _ _ _ _ _ _ source.source_is.name (44 ∷ field) field digits c.in-Some-split_number.end.now
+          (comma_field c.args.text.now c.in-Some.first.source.text.now source.source_is.name field source.source_is.stands source.begins) refl
+          (number_field field digits c.in-Some-split_number.end.now (2 ^ 60) c.in-Some-split_number.time split number) source.source_is.named number;
     }
 
 pub bounds-values-index : goal.bounds-values-index
@@ -39,8 +43,8 @@ loop-index-preserved c =
           (rw (get_or-set_same old index value 0 (omega arith)) here);
     }
 
-pub returns : goal.returns
-returns c =
+pub returns-clause-first : goal.returns-clause-first
+returns-clause-first c =
     let i = c.loop-index.invariant in
     let all : c.loop-index.index ≡ length c.args.header.now.reads.items = omega (arith, c.loop-index-test.false, c.loop-index.auto.index-end, ap length c.as_slice-reads-items.ensures.value) in
     row_ends _ _ _ _ c.loop-index.index _ _ _ c.requires.header i.so_far all c.in-Some-behind_record.ensures.ends c.in-Some-behind_record.ensures.rest (omega arith)

@@ -2,14 +2,17 @@ use Rattle.std.proofs.Common.{◌≡◌, ◌∙◌, ◌+◌, ◌++◌, ◌∷◌
 use Rattle.std.proofs.lemmas.Bool.{eqb-true}
 use Rattle.std.proofs.lemmas.List.{length-map}
 use Rattle.mq_trace.proofs.PlainFacts.{done_all, done_more, none_begins}
+use Rattle.mq_trace.proofs.PlainRows.{no_sources, one_source}
 use Rattle.mq_trace.proofs.RowFacts.{column_stands, reads_few, so_far_all, so_far_count, so_far_more, so_far_none}
 use Rattle.mq_trace.proofs.plain_rows.plain_rows.Goals as goal
+use Rattle.mq_trace.proofs.plain_rows.plain_rows.Goals.{then-row+then-count-lt8, else-row}
 
 pub loop-rest-init : goal.loop-rest-init
 loop-rest-init c = record {
   room = refl;
   done = [];
   split = refl;
+  known = no_sources _ _ refl;
   rows = rw (c.in_ok-rows.ensures.source, c.in_ok-rows.ensures.time, c.in_ok-rows.ensures.demands, c.as_slice.ensures) (so_far_none _ _);
 }
 
@@ -21,8 +24,12 @@ loop-rest-preserved-in-Some c =
       room = i.room;
       done = i.done;
       split = rw e.rest (i.split ∙ ap (λ more. i.done ++ more) (none_begins c.loop-rest.rest.now e.ends));
+      known = i.known;
       rows = i.rows;
     }
+
+pub plain_row-requires-clause-known : goal.plain_row-requires-clause-known
+plain_row-requires-clause-known c = c.loop-rest.invariant.known.each
 
 pub push-requires-clause-same : goal.push-requires-clause-same
 push-requires-clause-same c =
@@ -39,13 +46,17 @@ push-requires-clause-indices c = λ k less.
 pub loop-rest-preserved : goal.loop-rest-preserved
 loop-rest-preserved c =
     let i = c.loop-rest.invariant in
-    let first = c.in-Some-plain_row.ensures in
+    let first = c.in-Some-plain_row.ensures.first in
     let pushed = c.in_default-push.ensures in
     let count : c.len.result + 1 ≡ 1 + length i.done = omega (arith, c.len.ensures, so_far_count _ _ _ _ _ _ i.rows) in
     record {
       room = c.plain_row.auto.values ∙ i.room;
       done = i.done ++ first.fields ∷ [];
       split = done_more c.args.text.now c.loop-rest.rest.now c.in-Some-plain_row.row.rest.now i.done first.fields i.split first.first;
+      known = elim c.if-row.branch [
+        | then-row+then-count-lt8 w ↦ rw (w.known-is, w.count-is) (one_source _ _ _ _ i.known c.in-Some-plain_row.ensures.source w.if-count-lt8.true)
+        | else-row w ↦ rw (w.known-is, w.count-is) i.known
+      ];
       rows = rw (pushed.source, pushed.time) (so_far_more _ _ _ _ _ _ _ _ _ _ _ c.requires.header i.rows (rw count at first.clean) first.source first.time first.held (rw c.as_slice-in-loop-rest.ensures.value at pushed.demands));
     }
 
