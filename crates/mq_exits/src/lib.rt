@@ -43,8 +43,8 @@ pub use working::{After, Ending, NodeResult, Worked, nobody, station_whole};
 ///
 /// 1 to 64 workers make the last pieces of all stations as one list: where the jobs leave in their order
 /// when they do, how many each visit found, and the jobs, and of a source when each visit departs; of a split
-/// in blocks when they leave and zeros; of a delay by blocks how many each visit found; of a loss station or a
-/// trunk group how the arrivals fared, and what leaves. Behind these come, where what
+/// in blocks when they leave and zeros; of a delay in which jobs overtake others by blocks how many each visit
+/// found; of a loss station or a trunk group how the arrivals fared, and what leaves. Behind these come, where what
 /// came was only read, the jobs and when they came, which the visits keep. It refuses for want of memory alone.
 pub fn station_results<R: Threads + Sync, G: Gate>(
     rt: &R,
