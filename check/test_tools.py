@@ -1,4 +1,6 @@
-"""The table that the planner's command makes of a sweep."""
+"""The table that the planner's command makes of a sweep, and what it says to an older Python."""
+import sys
+
 from programs import EXAMPLES, ROOT, Check, run
 
 PLANNER, DAY = ROOT / "tools" / "planner", EXAMPLES / "sweep"
@@ -16,3 +18,7 @@ class Tools(Check):
         self.same("the row of the last agents", [it for it in rows if "agents-15" in it and ",callback," in it], [row])
         last = "examples/cases/unknown-kind/model.txt,3,,,,,,,,,,,,,,,,,mpsim: model line 3: word 1 not allowed"
         self.same("the row of a model that is refused", rows[-1], last)
+
+    def test_an_older_python(self):
+        script = f"import sys; sys.version_info = (3, 6, 8); exec(open({str(PLANNER)!r}).read())"
+        self.did(run(sys.executable, "-c", script), 1, "", "planner: it wants Python 3.9 or later, and this is 3.6\n")

@@ -82,13 +82,14 @@ def judged_format(form):
         return form
     if "%" not in form:
         raise ValueError(f"{form!r} is no format: it is one of {', '.join(NAMES)}, or as strptime has it, as %d.%m.%Y %H:%M")
+    # Later Pythons warn of such a format where it is tried.
+    if re.search(r"%[djUWbBm]", form) and not re.search(r"%[YyGcx]", form):
+        raise ValueError(f"the format {form!r} has a day and no year")
     try:
         text = datetime(2026, 3, 2, 13, 5, 9, tzinfo=timezone.utc).strftime(form)
         datetime.strptime(text, form)
     except ValueError as fault:
         raise ValueError(f"{form!r} is no format of strptime: {fault}") from None
-    if re.search(r"%[djUWbBm]", form) and not re.search(r"%[YyGcx]", form):
-        raise ValueError(f"the format {form!r} has a day and no year")
     return form
 
 
