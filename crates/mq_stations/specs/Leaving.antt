@@ -9,6 +9,7 @@ use Rattle.mq_core.specs.Sequences.{IsStream, sequence_fates, sequence_outs, seq
 use Rattle.mq_core.specs.OnceOut.{leaving_times}
 use Rattle.mq_core.specs.Streams.{picked}
 use Rattle.mq_core.specs.Sound.{is_sound_kind, outputs_in}
+use Rattle.mq_core.specs.declared.model.Demand.{Demand}
 use Rattle.mq_core.specs.declared.model.Fate.{Fate}
 use Rattle.mq_core.specs.declared.model.Fate.TheVariants.{Departs}
 use Rattle.mq_core.specs.declared.model.Kind.{Kind}
