@@ -87,7 +87,8 @@ pub fn branched_behind<L: Ledger>(
     let demands = all_asked_of(alloc, rows, &asked, &behind.job)?;
     let begins = branch_begins(alloc, branches)?;
     branched_last(
-        alloc, rows, branches, arrivals, behind, &asked, &demands, &begins, blocks, carries, first, steps,
+        alloc, rows, branches, arrivals, behind, &asked, &demands, &begins, blocks, carries, first,
+        steps,
     )
 }
 

@@ -82,7 +82,8 @@ pub fn staged_behind<L: Ledger>(
     let demands = all_asked_of(alloc, rows, &asked, &behind.job)?;
     let places = stage_places(alloc, stages)?;
     staged_last(
-        alloc, rows, stages, arrivals, behind, &asked, &demands, &places, blocks, carries, first, steps,
+        alloc, rows, stages, arrivals, behind, &asked, &demands, &places, blocks, carries, first,
+        steps,
     )
 }
 

@@ -1,4 +1,5 @@
 use Rattle.std.proofs.Common.{◌≡◌, ◌∙◌, ◌+◌, ◌-◌, ◌*◌, ◌≤◌, All, [], ◌∷◌, ℕ, List, slice_get, ap, drop, length, map, refl, sym, subst, arith}
+use Rattle.std.proofs.lemmas.Result.{IfOk-weaker, on_ok_weaker}
 use Rattle.std.proofs.lemmas.List.{length-drop}
 use Rattle.mq_core.specs.Handling.{demand_of_job}
 use Rattle.mq_core.specs.Sequences.{IsSoundLoad}
@@ -65,7 +66,9 @@ redone_last-requires-clause-reads g c =
     reads c.alike_is_first.ensures c.args.rows.now stages c.args.arrivals.now c.requires.load c.args.blocks.now.block c.args.first c.args.carries.now inside c.requires.kept.0 c.requires.kept.1 c.new-step.result.places.now c.new-step.result.arrive.now c.new-step.result.demands.now c.carry_before-carry.result c.new-step.result.rows p a d at c.new-step.result.all_rows
 
 pub returns-clause-served : goal.returns-clause-served
-returns-clause-served g c = λ times stays.
+returns-clause-served g c =
+    IfOk-weaker c.redone_last.result _ _
+    (λ done h times stays.
     let from = c.args.first * c.args.blocks.now.block in
     let is = c.requires.behind in
     let stages = c.args.stages.now in
@@ -76,12 +79,14 @@ returns-clause-served g c = λ times stays.
     let a = c.new-step.ensures.arrive ∙ ap (λ (s : Stream). s.time) is in
     let p : c.new-step.result.places.now ≡ places_of stages = c.new-step.ensures.places ∙ c.requires.places in
     let at = ap (λ start. slice_get (start ∷ c.args.carries.now) c.args.first) (sym (c.first.ensures ∙ ap none_kept p)) ∙ c.carry_before-carry.ensures in
-    let done = c.in_ok-done.done in
     served-behind c.alike_is_first.ensures c.args.rows.now stages c.args.arrivals.now c.requires.load c.args.blocks.now.block c.args.first c.args.carries.now inside times stays done.times.items
-    (served c.alike_is_first.ensures c.args.rows.now stages c.args.arrivals.now c.requires.load c.args.blocks.now.block c.args.first c.args.carries.now inside (map (λ time. Departs time) times) stays c.args.blocks.now c.cut.result c.requires.all refl c.cut.ensures.1 c.new-step.result.places.now c.new-step.result.arrive.now c.new-step.result.demands.now (c.cut.ensures.0 ∙ c.count.ensures) p a d c.carry_before-carry.result at done.times.items done.carries.items c.in_ok-done.ensures.done)
+    (served c.alike_is_first.ensures c.args.rows.now stages c.args.arrivals.now c.requires.load c.args.blocks.now.block c.args.first c.args.carries.now inside (map (λ time. Departs time) times) stays c.args.blocks.now c.cut.result c.requires.all refl c.cut.ensures.1 c.new-step.result.places.now c.new-step.result.arrive.now c.new-step.result.demands.now (c.cut.ensures.0 ∙ c.count.ensures) p a d c.carry_before-carry.result at done.times.items done.carries.items h))
+    c.redone_last.ensures.done
 
 pub returns-clause-kept : goal.returns-clause-kept
-returns-clause-kept g c = λ fates stays.
+returns-clause-kept g c =
+    IfOk-weaker c.redone_last.result _ _
+    (λ done h fates stays.
     let from = c.args.first * c.args.blocks.now.block in
     let is = c.requires.behind in
     let stages = c.args.stages.now in
@@ -92,17 +97,8 @@ returns-clause-kept g c = λ fates stays.
     let a = c.new-step.ensures.arrive ∙ ap (λ (s : Stream). s.time) is in
     let p : c.new-step.result.places.now ≡ places_of stages = c.new-step.ensures.places ∙ c.requires.places in
     let at = ap (λ start. slice_get (start ∷ c.args.carries.now) c.args.first) (sym (c.first.ensures ∙ ap none_kept p)) ∙ c.carry_before-carry.ensures in
-    let done = c.in_ok-done.done in
-    station c.alike_is_first.ensures c.args.rows.now stages c.args.arrivals.now c.requires.load c.args.blocks.now.block c.args.first c.args.carries.now inside fates stays c.args.blocks.now c.cut.result c.requires.all refl c.cut.ensures.1 c.new-step.result.places.now c.new-step.result.arrive.now c.new-step.result.demands.now (c.cut.ensures.0 ∙ c.count.ensures) p a d c.carry_before-carry.result at done.times.items done.carries.items c.in_ok-done.ensures.done
-
-pub returns-in_err-done-clause-spent : goal.returns-in_err-done-clause-spent
-returns-in_err-done-clause-spent g c =
-    let spent = c.redone_last.ensures.spent in
-    let from = c.args.first * c.args.blocks.now.block in
-    let is = c.requires.behind in
-    let count : c.cut.result.n + from ≡ c.args.blocks.now.n = (let n = c.cut.ensures.0 ∙ (c.count.ensures ∙ (ap length c.new-step.ensures.arrive ∙ (ap (λ (s : Stream). length s.time) is ∙ length-drop from c.args.arrivals.now.time))) in let within = c.requires.inside in let all = c.requires.all in omega arith) in
-    let many = blocks-behind c.args.blocks.now c.cut.result c.args.first c.cut.ensures.1 count in
-    omega arith
+    station c.alike_is_first.ensures c.args.rows.now stages c.args.arrivals.now c.requires.load c.args.blocks.now.block c.args.first c.args.carries.now inside fates stays c.args.blocks.now c.cut.result c.requires.all refl c.cut.ensures.1 c.new-step.result.places.now c.new-step.result.arrive.now c.new-step.result.demands.now (c.cut.ensures.0 ∙ c.count.ensures) p a d c.carry_before-carry.result at done.times.items done.carries.items h)
+    c.redone_last.ensures.done
 
 pub returns-clause-spent : goal.returns-clause-spent
 returns-clause-spent g c =
@@ -115,9 +111,11 @@ returns-clause-spent g c =
 
 pub returns-clause-counted : goal.returns-clause-counted
 returns-clause-counted g c =
-    let counted = c.in_ok-done.ensures.counted in
+    on_ok_weaker c.redone_last.result
+    (λ counted.
     let from = c.args.first * c.args.blocks.now.block in
     let is = c.requires.behind in
     let count : c.cut.result.n + from ≡ c.args.blocks.now.n = (let n = c.cut.ensures.0 ∙ (c.count.ensures ∙ (ap length c.new-step.ensures.arrive ∙ (ap (λ (s : Stream). length s.time) is ∙ length-drop from c.args.arrivals.now.time))) in let within = c.requires.inside in let all = c.requires.all in omega arith) in
     let many = blocks-behind c.args.blocks.now c.cut.result c.args.first c.cut.ensures.1 count in
-    omega arith
+    omega arith)
+    c.redone_last.ensures.counted
