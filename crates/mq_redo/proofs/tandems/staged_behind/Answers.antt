@@ -25,108 +25,14 @@ all_asked_of-requires g c =
     subst (λ (s : Stream). All (λ demand. AreAsked c.args.rows.now demand s.job) c.in_ok-asked.asked) (sym is)
     (demands-asked c.args.rows.now c.in_ok-asked.asked asked (drop from c.args.arrivals.now.job) c.in_ok-asked.ensures (demands-told c.args.rows.now asked (drop from c.args.arrivals.now.job) (told-last (λ job. AreTold c.args.rows.now asked job) c.args.arrivals.now.job from c.requires.load.told)))
 
-pub new-step-requires-clause-load : goal.new-step-requires-clause-load
-new-step-requires-clause-load g c =
-    let from = c.args.first * c.args.blocks.now.block in
-    let is = c.stream-behind.ensures ∙ c.in_ok-last.ensures in
-    let stages = c.args.stages.now in
-    let asked = map (λ (stage : Stage). stage.demand) stages in
-    let d = c.in_ok-demands.ensures ∙ ((λ i. map (λ (demand : Demand). map (demand_of_job c.args.rows.now demand) (is i).job) (c.in_ok-asked.ensures i)) ∙ asked-last c.args.rows.now asked c.args.arrivals.now.job from) in
-    subst (λ (z : List ℕ × List (List ℕ)). All (λ column. IsSoundLoad z.0 column) z.1) (λ i. (sym (ap (λ (s : Stream). s.time) is) i, sym d i))
-    (loads-last c.args.arrivals.now.time (asks_at_stages c.args.rows.now stages c.args.arrivals.now.job) from (tandem-load c.args.rows.now stages c.args.arrivals.now c.requires.load).load)
+pub staged_last-requires-clause-behind : goal.staged_last-requires-clause-behind
+staged_last-requires-clause-behind g c = c.stream-behind.ensures ∙ c.in_ok-last.ensures
 
-pub new-step-requires-clause-stages : goal.new-step-requires-clause-stages
-new-step-requires-clause-stages g c = stages-are c.requires.load.columns c.args.stages.now c.in_ok-asked.asked _ (λ demand. map (demand_of_job c.args.rows.now demand) c.stream-behind.result.now.job) _ c.requires.load.sound c.in_ok-asked.ensures c.in_ok-places.ensures c.in_ok-demands.ensures
+pub staged_last-requires-clause-asked : goal.staged_last-requires-clause-asked
+staged_last-requires-clause-asked g c = c.in_ok-asked.ensures
 
-pub carry_before-carry-requires : goal.carry_before-carry-requires
-carry_before-carry-requires g c =
-    let from = c.args.first * c.args.blocks.now.block in
-    let stages = c.args.stages.now in
-    let inside : from ≤ length c.args.arrivals.now.time = (let within = c.requires.inside in let all = c.requires.all in omega arith) in
-    few-kept c.alike_is_first.ensures c.args.rows.now stages c.args.arrivals.now c.requires.load c.args.blocks.now.block c.args.first c.args.carries.now inside c.requires.kept.0 c.requires.kept.1
+pub staged_last-requires-clause-demands : goal.staged_last-requires-clause-demands
+staged_last-requires-clause-demands g c = c.in_ok-demands.ensures
 
-pub redone_last-requires-clause-acts : goal.redone_last-requires-clause-acts
-redone_last-requires-clause-acts g c =
-    let from = c.args.first * c.args.blocks.now.block in
-    let is = c.stream-behind.ensures ∙ c.in_ok-last.ensures in
-    let stages = c.args.stages.now in
-    let asked = map (λ (stage : Stage). stage.demand) stages in
-    let inside : from ≤ length c.args.arrivals.now.time = (let within = c.requires.inside in let all = c.requires.all in omega arith) in
-    let d : c.new-step.result.demands.now ≡ map (drop from) (asks_at_stages c.args.rows.now stages c.args.arrivals.now.job) =
-    c.new-step.ensures.demands ∙ (c.in_ok-demands.ensures ∙ ((λ i. map (λ (demand : Demand). map (demand_of_job c.args.rows.now demand) (is i).job) (c.in_ok-asked.ensures i)) ∙ asked-last c.args.rows.now asked c.args.arrivals.now.job from)) in
-    let a = c.new-step.ensures.arrive ∙ ap (λ (s : Stream). s.time) is in
-    let p : c.new-step.result.places.now ≡ places_of stages = c.new-step.ensures.places ∙ c.in_ok-places.ensures in
-    let at = ap (λ start. slice_get (start ∷ c.args.carries.now) c.args.first) (sym (c.first.ensures ∙ ap none_kept p)) ∙ c.carry_before-carry.ensures in
-    acts c.alike_is_first.ensures c.args.rows.now stages c.args.arrivals.now c.requires.load c.args.blocks.now.block c.args.first c.args.carries.now inside c.requires.kept.0 c.requires.kept.1 c.new-step.result.places.now c.new-step.result.arrive.now c.new-step.result.demands.now c.carry_before-carry.result p a d at
-
-pub redone_last-requires-clause-reads : goal.redone_last-requires-clause-reads
-redone_last-requires-clause-reads g c =
-    let from = c.args.first * c.args.blocks.now.block in
-    let is = c.stream-behind.ensures ∙ c.in_ok-last.ensures in
-    let stages = c.args.stages.now in
-    let asked = map (λ (stage : Stage). stage.demand) stages in
-    let inside : from ≤ length c.args.arrivals.now.time = (let within = c.requires.inside in let all = c.requires.all in omega arith) in
-    let d : c.new-step.result.demands.now ≡ map (drop from) (asks_at_stages c.args.rows.now stages c.args.arrivals.now.job) =
-    c.new-step.ensures.demands ∙ (c.in_ok-demands.ensures ∙ ((λ i. map (λ (demand : Demand). map (demand_of_job c.args.rows.now demand) (is i).job) (c.in_ok-asked.ensures i)) ∙ asked-last c.args.rows.now asked c.args.arrivals.now.job from)) in
-    let a = c.new-step.ensures.arrive ∙ ap (λ (s : Stream). s.time) is in
-    let p : c.new-step.result.places.now ≡ places_of stages = c.new-step.ensures.places ∙ c.in_ok-places.ensures in
-    let at = ap (λ start. slice_get (start ∷ c.args.carries.now) c.args.first) (sym (c.first.ensures ∙ ap none_kept p)) ∙ c.carry_before-carry.ensures in
-    reads c.alike_is_first.ensures c.args.rows.now stages c.args.arrivals.now c.requires.load c.args.blocks.now.block c.args.first c.args.carries.now inside c.requires.kept.0 c.requires.kept.1 c.new-step.result.places.now c.new-step.result.arrive.now c.new-step.result.demands.now c.carry_before-carry.result c.new-step.result.rows p a d at c.new-step.result.all_rows
-
-pub returns-clause-served : goal.returns-clause-served
-returns-clause-served g c = λ times stays.
-    let from = c.args.first * c.args.blocks.now.block in
-    let is = c.stream-behind.ensures ∙ c.in_ok-last.ensures in
-    let stages = c.args.stages.now in
-    let asked = map (λ (stage : Stage). stage.demand) stages in
-    let inside : from ≤ length c.args.arrivals.now.time = (let within = c.requires.inside in let all = c.requires.all in omega arith) in
-    let d : c.new-step.result.demands.now ≡ map (drop from) (asks_at_stages c.args.rows.now stages c.args.arrivals.now.job) =
-    c.new-step.ensures.demands ∙ (c.in_ok-demands.ensures ∙ ((λ i. map (λ (demand : Demand). map (demand_of_job c.args.rows.now demand) (is i).job) (c.in_ok-asked.ensures i)) ∙ asked-last c.args.rows.now asked c.args.arrivals.now.job from)) in
-    let a = c.new-step.ensures.arrive ∙ ap (λ (s : Stream). s.time) is in
-    let p : c.new-step.result.places.now ≡ places_of stages = c.new-step.ensures.places ∙ c.in_ok-places.ensures in
-    let at = ap (λ start. slice_get (start ∷ c.args.carries.now) c.args.first) (sym (c.first.ensures ∙ ap none_kept p)) ∙ c.carry_before-carry.ensures in
-    let done = c.in_ok-done.done in
-    served-behind c.alike_is_first.ensures c.args.rows.now stages c.args.arrivals.now c.requires.load c.args.blocks.now.block c.args.first c.args.carries.now inside times stays done.times.items
-    (served c.alike_is_first.ensures c.args.rows.now stages c.args.arrivals.now c.requires.load c.args.blocks.now.block c.args.first c.args.carries.now inside (map (λ time. Departs time) times) stays c.args.blocks.now c.cut.result c.requires.all refl c.cut.ensures.1 c.new-step.result.places.now c.new-step.result.arrive.now c.new-step.result.demands.now (c.cut.ensures.0 ∙ c.count.ensures) p a d c.carry_before-carry.result at done.times.items done.carries.items c.in_ok-done.ensures.done)
-
-pub returns-clause-kept : goal.returns-clause-kept
-returns-clause-kept g c = λ fates stays.
-    let from = c.args.first * c.args.blocks.now.block in
-    let is = c.stream-behind.ensures ∙ c.in_ok-last.ensures in
-    let stages = c.args.stages.now in
-    let asked = map (λ (stage : Stage). stage.demand) stages in
-    let inside : from ≤ length c.args.arrivals.now.time = (let within = c.requires.inside in let all = c.requires.all in omega arith) in
-    let d : c.new-step.result.demands.now ≡ map (drop from) (asks_at_stages c.args.rows.now stages c.args.arrivals.now.job) =
-    c.new-step.ensures.demands ∙ (c.in_ok-demands.ensures ∙ ((λ i. map (λ (demand : Demand). map (demand_of_job c.args.rows.now demand) (is i).job) (c.in_ok-asked.ensures i)) ∙ asked-last c.args.rows.now asked c.args.arrivals.now.job from)) in
-    let a = c.new-step.ensures.arrive ∙ ap (λ (s : Stream). s.time) is in
-    let p : c.new-step.result.places.now ≡ places_of stages = c.new-step.ensures.places ∙ c.in_ok-places.ensures in
-    let at = ap (λ start. slice_get (start ∷ c.args.carries.now) c.args.first) (sym (c.first.ensures ∙ ap none_kept p)) ∙ c.carry_before-carry.ensures in
-    let done = c.in_ok-done.done in
-    station c.alike_is_first.ensures c.args.rows.now stages c.args.arrivals.now c.requires.load c.args.blocks.now.block c.args.first c.args.carries.now inside fates stays c.args.blocks.now c.cut.result c.requires.all refl c.cut.ensures.1 c.new-step.result.places.now c.new-step.result.arrive.now c.new-step.result.demands.now (c.cut.ensures.0 ∙ c.count.ensures) p a d c.carry_before-carry.result at done.times.items done.carries.items c.in_ok-done.ensures.done
-
-pub returns-in_err-done-clause-spent : goal.returns-in_err-done-clause-spent
-returns-in_err-done-clause-spent g c =
-    let spent = c.redone_last.ensures.spent in
-    let from = c.args.first * c.args.blocks.now.block in
-    let is = c.stream-behind.ensures ∙ c.in_ok-last.ensures in
-    let count : c.cut.result.n + from ≡ c.args.blocks.now.n = (let n = c.cut.ensures.0 ∙ (c.count.ensures ∙ (ap length c.new-step.ensures.arrive ∙ (ap (λ (s : Stream). length s.time) is ∙ length-drop from c.args.arrivals.now.time))) in let within = c.requires.inside in let all = c.requires.all in omega arith) in
-    let many = blocks-behind c.args.blocks.now c.cut.result c.args.first c.cut.ensures.1 count in
-    omega arith
-
-pub returns-clause-spent : goal.returns-clause-spent
-returns-clause-spent g c =
-    let spent = c.redone_last.ensures.spent in
-    let from = c.args.first * c.args.blocks.now.block in
-    let is = c.stream-behind.ensures ∙ c.in_ok-last.ensures in
-    let count : c.cut.result.n + from ≡ c.args.blocks.now.n = (let n = c.cut.ensures.0 ∙ (c.count.ensures ∙ (ap length c.new-step.ensures.arrive ∙ (ap (λ (s : Stream). length s.time) is ∙ length-drop from c.args.arrivals.now.time))) in let within = c.requires.inside in let all = c.requires.all in omega arith) in
-    let many = blocks-behind c.args.blocks.now c.cut.result c.args.first c.cut.ensures.1 count in
-    omega arith
-
-pub returns-clause-counted : goal.returns-clause-counted
-returns-clause-counted g c =
-    let counted = c.in_ok-done.ensures.counted in
-    let from = c.args.first * c.args.blocks.now.block in
-    let is = c.stream-behind.ensures ∙ c.in_ok-last.ensures in
-    let count : c.cut.result.n + from ≡ c.args.blocks.now.n = (let n = c.cut.ensures.0 ∙ (c.count.ensures ∙ (ap length c.new-step.ensures.arrive ∙ (ap (λ (s : Stream). length s.time) is ∙ length-drop from c.args.arrivals.now.time))) in let within = c.requires.inside in let all = c.requires.all in omega arith) in
-    let many = blocks-behind c.args.blocks.now c.cut.result c.args.first c.cut.ensures.1 count in
-    omega arith
+pub staged_last-requires-clause-places : goal.staged_last-requires-clause-places
+staged_last-requires-clause-places g c = c.in_ok-places.ensures
