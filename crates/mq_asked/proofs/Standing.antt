@@ -11,8 +11,8 @@ standing column jobs h e =
     let value = λ (job : ℕ). slice_index column job in
     ext_get_or 0 column (map value jobs) (e ∙ sym (length-map jobs value))
     (λ i l.
-        let here : i < length jobs = omega arith in
-        ap (λ (job : ℕ). value job) (sym (h i (get_or jobs i 0) (slice_get-get_or jobs i 0 here))) ∙ sym (get_or-map value jobs i 0 0 here))
+    let here : i < length jobs = omega arith in
+    ap (λ (job : ℕ). value job) (sym (h i (get_or jobs i 0) (slice_get-get_or jobs i 0 here))) ∙ sym (get_or-map value jobs i 0 0 here))
 
 pub column-is : (values : Option (List ℕ)) (column jobs : List ℕ) → values ≡ Some column → StandInTurn jobs → length column ≡ length jobs → column ≡ map (λ job. column_value values job) jobs
 column-is values column jobs is h e = standing column jobs h e ∙ ap (λ v. map (λ job. column_value v job) jobs) (sym is)
