@@ -122,11 +122,12 @@ const DELAY_IN_TURN_OF_A_KEPT_RUN: Case = Case {
     ..DELAY_IN_TURN
 };
 
-// Two sources: the rows of each. Behind them three blocks of what both let out, merged; the loss station itself is one piece.
+// Two sources: the rows of each. Behind them three blocks of what both let out, merged; the loss station itself is one piece, and of
+// what it settled two last ones are made.
 const MERGE: Case = Case {
     model: b"model 1\nsource src\nsource web\nloss l 1 a from src web\n",
     trace: b"source,time,a\nsrc,0,1\nweb,1,1\nsrc,2,1\n",
-    lists: &[2, 3],
+    lists: &[2, 3, 2],
     ..TANDEM
 };
 
@@ -162,36 +163,37 @@ const LONG_WAITS_OF_A_KEPT_RUN: Case = Case {
 };
 
 // A loss station with two ports beside three tandems: the rows of all sources. To the station come 6 jobs of 15, more than a third, so
-// it has a worker of its own, who merges what comes and settles it alone, and enters no gate. The two others have the tandems, of
-// which no list has a piece of the station: how each is worked out, their summaries and applied blocks. The totals of all four, and
-// what leaves them, are made by all workers.
+// it has a worker of its own, who merges what comes, settles it, and makes its two last pieces alone. The two others have the tandems,
+// of which no list has a piece of the station: how each is worked out, their summaries and applied blocks. The totals of all four,
+// and what leaves them, are made by all workers.
 const LOSS_BESIDE_TANDEMS: Case = Case {
     model: b"model 1\nsource src\nsource web\nsource a\nsource b\nsource c\nloss l 1 =2 from src web\n\
         tandem one =1 / 1 =2 from a\ntandem two =1 / 1 =2 from b\ntandem three =1 / 1 =2 from c\n",
     trace: b"source,time\nsrc,0\nweb,0\na,0\nb,0\nc,0\nsrc,1\nweb,1\na,1\nb,1\nc,1\nsrc,2\nweb,2\na,2\nb,2\nc,2\n",
     form: "1",
     workers: "3",
-    lists: &[5, 3, 9, 9, 4, 4],
+    lists: &[5, 3, 9, 9, 2, 4, 4],
     ..TANDEM
 };
 
-// The same where fewer jobs come to the loss station than a third: one list has its piece and what the blocks of the tandems do.
+// The same where fewer jobs come to the loss station than a third: one list has its piece and what the blocks of the tandems do, and
+// one its two last pieces.
 const SHORT_LOSS_AMONG_TANDEMS: Case = Case {
     trace: b"source,time\nsrc,0\nweb,0\na,0\nb,0\nc,0\na,1\nb,1\nc,1\na,2\nb,2\nc,2\n",
-    lists: &[5, 2, 4, 10, 9, 4, 4],
+    lists: &[5, 2, 4, 10, 9, 2, 4, 4],
     ..LOSS_BESIDE_TANDEMS
 };
 
 // Two loss stations, to each of which come 5 jobs of 15, beside a tandem, by four workers: the rows of all sources; of the stations how
-// each is worked out, both, and the copies of what came; of the tandem its summaries and applied blocks; and all totals, and what
-// leaves all three.
+// each is worked out, both, and their last pieces, with the copies of what came; of the tandem its summaries and applied blocks; and
+// all totals, and what leaves all three.
 const LOSSES_BESIDE_A_TANDEM: Case = Case {
     model: b"model 1\nsource a\nsource b\nsource c\nloss one 1 =2 from a\nloss two 1 =2 from b\n\
         tandem line =1 / 1 =2 from c\n",
     trace: b"source,time\na,0\nb,0\nc,0\na,1\nb,1\nc,1\na,2\nb,2\nc,2\na,3\nb,3\nc,3\na,4\nb,4\nc,4\n",
     form: "1",
     workers: "4",
-    lists: &[3, 2, 2, 4, 5, 5, 3, 3],
+    lists: &[3, 2, 2, 8, 5, 5, 3, 3],
     ..TANDEM
 };
 
