@@ -1,3 +1,4 @@
+pub mod Columns
 pub mod CsvPlain
 pub mod Forward
 pub mod Growing

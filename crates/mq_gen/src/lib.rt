@@ -36,7 +36,9 @@ fn made_text(alloc: Global, generator: &mut Lcg64Xsh32) -> Result<List<u8>, OutO
     ensures moved { OnOk result (generator.new ≡ (sections_from generator.old).generator) }
 {
     let plan = made_plan(alloc, generator)?;
-    print_model(alloc, &plan)
+    let text = print_model(alloc, &plan);
+    drop(plan);
+    text
 }
 
 /// The made input of a number. It refuses for want of memory alone.

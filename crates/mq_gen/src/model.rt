@@ -4,7 +4,7 @@ ghost use Rattle.mq_core.specs.Sound.{outputs_in};
 ghost use Rattle.rand_pcg.specs.Lcg.{Lcg};
 ghost use Rattle.mq_gen.specs.Drawing.{with_generator};
 ghost use Rattle.mq_model.specs.NetworkOf.{number_in};
-ghost use Rattle.mq_model.specs.Said.{added, columns_after, is_among};
+ghost use Rattle.mq_model.specs.Said.{added, columns_after};
 ghost use Rattle.mq_gen.specs.Made.{kind_by, mentions_of, network_from, next_section, no_sections, outputs_from, places_by, sections_from, source_node};
 
 use crate::draws::draw;
@@ -46,8 +46,7 @@ fn add_source(alloc: Global, sections: &mut Sections, node: u32) -> Result<(), O
         kind: Kind::Source,
         inputs: List::new(alloc),
     })?;
-    sections.ends.push(Input { node, out: 0 })?;
-    Ok(())
+    sections.ends.push(Input { node, out: 0 })
 }
 
 /// Adds two sources to no sections, and their outputs, which the first section reads.
@@ -58,22 +57,33 @@ fn add_sources(alloc: Global, sections: &mut Sections) -> Result<(), OutOfMemory
     ensures { OnOk result ((generator : Lcg) → with_generator sections.new generator ≡ no_sections generator) }
 {
     add_source(alloc, sections, 0)?;
-    add_source(alloc, sections, 1)?;
-    Ok(())
+    add_source(alloc, sections, 1)
 }
 
-fn is_among(columns: &[List<u8>], name: &[u8]) -> bool
-    ensures { result ≡ is_among columns.now name.now }
+/// The index of a column, or the number of columns.
+fn column_of(columns: &[List<u8>], name: &[u8]) -> usize
+    ensures at { result ≡ number_in columns.now name.now }
+    ensures within { result ≤ length columns.now }
 {
-    columns.iter().any(|other| other.as_slice() == name)
+    let mut index = 0;
+    let mut left = columns;
+    while let [first, rest @ ..] = left {
+        if first.as_slice() == name {
+            return index;
+        }
+        index += 1;
+        left = rest;
+    }
+    index
 }
 
 /// Adds a column where it isn't there.
+#[tactic(auto, using(crate::proofs::Columns::added_behind, crate::proofs::Columns::added_among))]
 fn mention(alloc: Global, columns: &mut List<List<u8>>, name: &[u8]) -> Result<(), OutOfMemory>
     ensures ok { OnOk result (columns.new ≡ added columns.old name.now) }
     ensures few { OnOk result (length columns.new ≤ length columns.old + 1) }
 {
-    if !is_among(columns.as_slice(), name) {
+    if column_of(columns.as_slice(), name) == columns.len() {
         columns.push(List::from_vec(name.to_vec(alloc)?))?;
     }
     Ok(())
@@ -93,17 +103,6 @@ fn mention_all(alloc: Global, columns: &mut List<List<u8>>, drawn: u32) -> Resul
         }
         _ => Ok(()),
     }
-}
-
-/// The index of a column, or the number of columns.
-fn column_of(columns: &[List<u8>], name: &[u8]) -> usize
-    ensures at { result ≡ number_in columns.now name.now }
-    ensures within { result ≤ length columns.now }
-{
-    columns
-        .iter()
-        .take_while(|other| other.as_slice() != name)
-        .count()
 }
 
 /// A job's value in the column of this name.
@@ -190,12 +189,9 @@ fn outputs_from(alloc: Global, node: u32, kind: &Kind) -> Result<List<Input>, Ou
     requires { outputs_in kind.now ≤ 8 }
     ensures { IfOk result (λ ends. ends ≡ outputs_from node kind.now) }
 {
-    let first = Input { node, out: 0 };
-    if outputs_of(kind) == 2 {
-        let ends = [first, Input { node, out: 1 }];
-        return Ok(List::from_vec(Vec::from_slice(alloc, &ends)?));
-    }
-    Ok(List::from_vec(Vec::from_slice(alloc, &[first])?))
+    let both = [Input { node, out: 0 }, Input { node, out: 1 }];
+    let count = if outputs_of(kind) == 2 { 2 } else { 1 };
+    Ok(List::from_vec(Vec::from_slice(alloc, &both[..count])?))
 }
 
 /// Adds a section, which reads each output of the section before it.
@@ -212,18 +208,18 @@ fn add_section(
     let drawn = draw(generator, 6);
     let places = places_by(drawn, generator);
     mention_all(alloc, &mut sections.columns, drawn)?;
-    let name = numbered(alloc, b'n', sections.nodes.len() - 2)?;
     let kind = kind_by(alloc, sections.columns.as_slice(), places, drawn)?;
-    let outputs = match outputs_from(alloc, sections.nodes.len() as u32, &kind) {
-        Ok(outputs) => outputs,
-        Err(fault) => {
-            drop(kind);
-            return Err(fault);
-        }
+    let Ok(outputs) = outputs_from(alloc, sections.nodes.len() as u32, &kind) else {
+        drop(kind);
+        return Err(OutOfMemory);
     };
     let inputs = mem::replace(&mut sections.ends, outputs);
-    sections.nodes.push(Node { name, kind, inputs })?;
-    Ok(())
+    let Ok(name) = numbered(alloc, b'n', sections.nodes.len() - 2) else {
+        drop(kind);
+        drop(inputs);
+        return Err(OutOfMemory);
+    };
+    sections.nodes.push(Node { name, kind, inputs })
 }
 
 /// Adds all sections that a generator draws, 1 to 12, to none.
