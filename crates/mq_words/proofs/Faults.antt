@@ -44,6 +44,21 @@ pub names_are : (words : List (List ℕ)) (f : Form) → HasForm words f → has
 names_are words (form.Names m t) h = ap₂ (λ (b : Bool) (left : List (List ℕ)). length left == (if b then 0 else 2)) h.0 h.1
 names_are words (form.Made text) h = ap₂ (λ (o : Option (List ℕ)) (left : List (List ℕ)). length left == (if is_some o then 0 else 2)) h.0 h.1
 
+-- ---- the first fault of words that have no form
+
+lacks_two : (left : List (List ℕ)) → slice_get left 1 ≡ None → (length left == 2) ≡ false
+lacks_two [] e = refl
+lacks_two (x ∷ []) e = refl
+lacks_two (x ∷ y ∷ left) e = some_is_none y e
+
+-- no made input is asked for, and one of the two names isn't there
+pub lacks_name : (words : List (List ℕ)) → refuses_words words ≡ false → value_of made_option words ≡ None → slice_get (words_left words) 1 ≡ None
+    → usage_fault words ≡ Some fault.Form
+lacks_name words pass none second =
+    let lacks : has_names words ≡ false =
+    ap (λ (o : Option (List ℕ)). length (words_left words) == (if is_some o then 0 else 2)) none ∙ lacks_two (words_left words) second in
+    rw (pass, lacks) refl
+
 -- ---- the first fault of words that have a form
 
 pub no_workers : (words : List (List ℕ)) → refuses_words words ≡ false → has_names words ≡ true → workers_asked words ≡ None → usage_fault words ≡ Some Workers

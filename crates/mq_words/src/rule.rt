@@ -10,7 +10,7 @@ use mq_base::begins_with_dash;
 fn takes_value(word: &str) -> bool
     ensures { result ≡ takes_value_of word.now }
 {
-    word == "--workers" || word == "--block" || word == "--made" || word == "--report"
+    matches!(word, "--workers" | "--block" | "--made" | "--report")
 }
 
 fn is_option(word: &str) -> bool
