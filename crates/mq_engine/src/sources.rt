@@ -30,6 +30,7 @@ use mq_core::{
 };
 use mq_counts::{NodeCount, is_read};
 use mq_crew::Gate;
+use mq_join::fork_copies;
 use mq_merge::Arrivals;
 use mq_stations::{first_late_in_turn, only};
 use mq_stats::{Exit, NodeTotals, Percentiles, last, leaving, runs_give_visits};
@@ -52,22 +53,13 @@ fn sources_among(alloc: Global, plan: &Plan, ready: &[u32]) -> Result<Vec<u32>, 
     Ok(sources)
 }
 
-// A stream of its own.
-fn copied(alloc: Global, stream: &Stream) -> Result<Stream, OutOfMemory>
-    ensures { IfOk result (λ copy. copy ≡ stream.now) }
-{
-    let job = List::from_vec(Vec::from_slice(alloc, stream.job.as_slice())?);
-    let time = List::from_vec(Vec::from_slice(alloc, stream.time.as_slice())?);
-    Ok(Stream { job, time })
-}
-
-// What came to a node, as a stream of its own. What comes to a source is that already: it reads no port.
-fn owned(alloc: Global, arrivals: Arrivals) -> Result<Stream, OutOfMemory>
-    ensures { IfOk result (λ stream. stream ≡ stream_in arrivals.entry) }
+// What leaves a source, by its one output: what came to it, handed on whole. It reads no port, so that what came is its own already.
+fn passed_on(alloc: Global, arrivals: Arrivals) -> Result<List<Stream>, OutOfMemory>
+    ensures { IfOk result (λ streams. streams ≡ stream_in arrivals.entry ∷ []) }
 {
     match arrivals {
-        Arrivals::Merged(stream) => Ok(stream),
-        Arrivals::Read(stream) => copied(alloc, stream),
+        Arrivals::Merged(stream) => only(alloc, stream),
+        Arrivals::Read(stream) => fork_copies(alloc, stream, 1),
     }
 }
 
@@ -129,39 +121,18 @@ fn count_sent(
     })
 }
 
-// A source that ends with this stream, of which this is told.
-fn sent_with(
-    alloc: Global,
-    number: u32,
-    stream: Stream,
-    count: NodeCount,
-) -> Result<ToldNode, OutOfMemory>
-    ensures { IfOk result (λ sent. sent ≡ record { number = number; ending = ToldEnding.Told (stream ∷ []) count }) }
-{
-    match only(alloc, stream) {
-        Ok(streams) => Ok(ToldNode {
-            number,
-            ending: ToldEnding::Told(streams, count),
-        }),
-        Err(fault) => {
-            drop(count);
-            Err(fault)
-        }
-    }
-}
-
-// How a source ends whose jobs come so, none after the bound.
+// How a source ends to which this came, nothing after the bound.
 fn sent_on_time(
     alloc: Global,
     plan: &Plan,
     rows: &Rows,
     number: u32,
-    stream: Stream,
+    arrivals: Arrivals,
 ) -> Result<ToldNode, OutOfMemory>
     requires read { IsReadFor plan.now.net rows.now }
-    requires loaded { IsLoaded plan.now rows.now number stream }
+    requires loaded { IsLoaded plan.now rows.now number (stream_in arrivals) }
     requires source { (node : TheNode) → slice_get plan.now.net.nodes number ≡ Some node → is_source_kind node.kind ≡ true }
-    requires early { first_of (sequence_late_from plan.now.net.bound number 0 (map (λ time. Departs time) stream.time)) ≡ None }
+    requires early { first_of (sequence_late_from plan.now.net.bound number 0 (map (λ time. Departs time) (stream_in arrivals).time)) ≡ None }
     ensures { IfOk result (λ sent. (sent.number ≡ number) × ((form : ℕ) → IsToldNode plan.now rows.now form sent)) }
 {
     core_laws();
@@ -169,45 +140,21 @@ fn sent_on_time(
     sequences_go_by_fates();
     fates_are_in_time();
     runs_give_visits();
-    match count_sent(alloc, plan.net.nodes.as_slice(), rows, number, &stream) {
-        Ok(count) => sent_with(alloc, number, stream, count),
-        Err(fault) => {
-            drop(stream);
-            Err(fault)
-        }
-    }
+    let nodes = plan.net.nodes.as_slice();
+    let Ok(count) = count_sent(alloc, nodes, rows, number, arrivals.stream()) else {
+        drop(arrivals);
+        return Err(OutOfMemory);
+    };
+    let Ok(streams) = passed_on(alloc, arrivals) else {
+        drop(count);
+        return Err(OutOfMemory);
+    };
+    let ending = ToldEnding::Told(streams, count);
+    Ok(ToldNode { number, ending })
 }
 
-// How a source ends whose jobs come so.
+// How a source ends to which this came.
 fn sent_of(
-    alloc: Global,
-    plan: &Plan,
-    rows: &Rows,
-    number: u32,
-    stream: Stream,
-) -> Result<ToldNode, OutOfMemory>
-    requires read { IsReadFor plan.now.net rows.now }
-    requires loaded { IsLoaded plan.now rows.now number stream }
-    requires source { (node : TheNode) → slice_get plan.now.net.nodes number ≡ Some node → is_source_kind node.kind ≡ true }
-    ensures { IfOk result (λ sent. (sent.number ≡ number) × ((form : ℕ) → IsToldNode plan.now rows.now form sent)) }
-{
-    core_laws();
-    orders_keep_items();
-    sequences_go_by_fates();
-    match first_late_in_turn(plan.net.bound, number, &stream.time) {
-        Some(past) => {
-            drop(stream);
-            Ok(ToldNode {
-                number,
-                ending: ToldEnding::TooLate(past),
-            })
-        }
-        None => sent_on_time(alloc, plan, rows, number, stream),
-    }
-}
-
-// The same, of what came to it.
-fn sent_arrived(
     alloc: Global,
     plan: &Plan,
     rows: &Rows,
@@ -218,9 +165,18 @@ fn sent_arrived(
     requires source { (node : TheNode) → slice_get plan.now.net.nodes arrived.number ≡ Some node → is_source_kind node.kind ≡ true }
     ensures { IfOk result (λ sent. (sent.number ≡ arrived.entry.number) × ((form : ℕ) → IsToldNode plan.now rows.now form sent)) }
 {
+    core_laws();
+    orders_keep_items();
+    sequences_go_by_fates();
     let Arrived { number, arrivals } = arrived;
-    let stream = owned(alloc, arrivals)?;
-    sent_of(alloc, plan, rows, number, stream)
+    match first_late_in_turn(plan.net.bound, number, &arrivals.stream().time) {
+        Some(past) => {
+            drop(arrivals);
+            let ending = ToldEnding::TooLate(past);
+            Ok(ToldNode { number, ending })
+        }
+        None => sent_on_time(alloc, plan, rows, number, arrivals),
+    }
 }
 
 // The same of each.
@@ -240,7 +196,7 @@ fn all_sent(
     };
     let mut arrived = arrived.into_vec();
     while let Some(one) = arrived.pop() {
-        match sent_arrived(alloc, arriving.plan, arriving.rows, one) {
+        match sent_of(alloc, arriving.plan, arriving.rows, one) {
             Ok(node) => sent.push_reserved(node),
             Err(fault) => {
                 drop(arrived);

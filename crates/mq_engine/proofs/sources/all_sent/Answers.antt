@@ -6,11 +6,11 @@ use Rattle.mq_engine.specs.Counting.{IsToldAmong}
 use Rattle.mq_engine.specs.Sources.{IsSourceArrived}
 use Rattle.mq_engine.proofs.sources.all_sent.Goals as goal
 
-pub sent_arrived-requires-clause-loaded : goal.sent_arrived-requires-clause-loaded
-sent_arrived-requires-clause-loaded c = (Each-back _ c.pop.new.self.items (c.in-Some.one ∷ []) (subst (Each (IsSourceArrived c.args.arriving.now)) c.in-Some.ensures.items c.loop-one.invariant.left)).0.0.0
+pub sent_of-requires-clause-loaded : goal.sent_of-requires-clause-loaded
+sent_of-requires-clause-loaded c = (Each-back _ c.pop.new.self.items (c.in-Some.one ∷ []) (subst (Each (IsSourceArrived c.args.arriving.now)) c.in-Some.ensures.items c.loop-one.invariant.left)).0.0.0
 
-pub sent_arrived-requires-clause-source : goal.sent_arrived-requires-clause-source
-sent_arrived-requires-clause-source c = (Each-back _ c.pop.new.self.items (c.in-Some.one ∷ []) (subst (Each (IsSourceArrived c.args.arriving.now)) c.in-Some.ensures.items c.loop-one.invariant.left)).0.1
+pub sent_of-requires-clause-source : goal.sent_of-requires-clause-source
+sent_of-requires-clause-source c = (Each-back _ c.pop.new.self.items (c.in-Some.one ∷ []) (subst (Each (IsSourceArrived c.args.arriving.now)) c.in-Some.ensures.items c.loop-one.invariant.left)).0.1
 
 pub push_reserved-requires : goal.push_reserved-requires
 push_reserved-requires c =
@@ -25,10 +25,10 @@ pub loop-one-preserved : goal.loop-one-preserved
 loop-one-preserved c =
     let s = c.args.arriving.now in
     let one = c.in-Some.one in
-    let node = c.in-Ok-sent_arrived.node in
+    let node = c.in-Ok-sent_of.node in
     let all = subst (Each (IsSourceArrived s)) c.in-Some.ensures.items c.loop-one.invariant.left in
     let is = λ (form : ℕ). IsToldAmong s.plan.now s.rows.now form s.ready.now in
-    let own : (form : ℕ) → is form node = λ form. (subst (Contains s.ready.now) (sym c.in-Ok-sent_arrived.ensures.0) (Each-back _ c.pop.new.self.items (one ∷ []) all).0.0.1, c.in-Ok-sent_arrived.ensures.1 form) in
+    let own : (form : ℕ) → is form node = λ form. (subst (Contains s.ready.now) (sym c.in-Ok-sent_of.ensures.0) (Each-back _ c.pop.new.self.items (one ∷ []) all).0.0.1, c.in-Ok-sent_of.ensures.1 form) in
     let size = c.loop-one.invariant.len in
     let left = ap length c.in-Some.ensures.items in
     let less = length-append c.pop.new.self.items (one ∷ []) in
