@@ -1,5 +1,5 @@
 -- Lists by index, and what a loop has made of one so far.
-use Rattle.std.proofs.Common.{◌==◌, ◌||◌, ◌&&◌, ◌≡◌, ℕ, zero, suc, ◌+◌, Bool, true, false, cond, IsTrue, List, [], ◌∷◌, ◌++◌, length, take, Some, sym, refl, ap, ◌∙◌, arith, eqb-true}
+use Rattle.std.proofs.Common.{◌==◌, ◌||◌, ◌&&◌, ◌≡◌, ℕ, zero, suc, ◌+◌, ◌≤◌, Bool, true, false, cond, IsTrue, List, [], ◌∷◌, ◌++◌, length, take, Some, sym, refl, ap, ◌∙◌, arith, eqb-true, subst}
 use Rattle.std.specs.Prelude.{filter, slice_get}
 use Rattle.std.specs.List.{AllByRecursion as Each, list_all}
 use Rattle.std.proofs.lemmas.Bool.{and_parts}
@@ -17,6 +17,16 @@ Each-at P (x ∷ xs) h = (h zero x refl, Each-at P xs (λ k y e. h (suc k) y e))
 pub no-items : {X : Type 0} (xs : List X) → length xs ≡ 0 → xs ≡ []
 no-items [] h = refl
 no-items (x ∷ xs) h = absurd (omega arith)
+
+-- a number that isn't 0
+pub one-at-least : (n : ℕ) → (n == 0) ≡ false → 1 ≤ n
+one-at-least zero h = absurd cc
+one-at-least (suc n) h = omega arith
+
+-- a list that isn't empty
+pub some-item : {X : Type 0} (xs : List X) (empty : Bool) → empty ≡ false → (xs ≡ [] → IsTrue empty) → 1 ≤ length xs
+some-item [] empty e h = absurd (let no = subst IsTrue e (h refl) in cc)
+some-item (x ∷ xs) empty e h = omega arith
 
 -- what a list has, and what its front has
 pub has-index : (xs : List ℕ) (n : ℕ) → IsTrue (has xs n) → (q : ℕ) × (slice_get xs q ≡ Some n)

@@ -1,22 +1,24 @@
 // A run that is counted as it goes.
-ghost use Rattle.std.specs.Prelude.{◌≡◌, ◌≤◌, ℕ, [], filter, IfErr, IfOk, None};
+ghost use Rattle.std.specs.Prelude.{◌≡◌, ◌≤◌, ℕ, [], filter, length, IfErr, IfOk, None};
+ghost use Rattle.std.specs.List.{AllByRecursion};
 ghost use Rattle.mq_core.specs.Results.{refusal_of};
 ghost use Rattle.mq_core.specs.Theorems.{IsReadFor};
 ghost use Rattle.mq_counts.specs.Counts.{AreCounts};
 ghost use Rattle.mq_engine.specs.Answer.{IsCause};
 ghost use Rattle.mq_engine.specs.CoreLaws.{CoreLaws};
-ghost use Rattle.mq_engine.specs.Counting.{IsCounting};
+ghost use Rattle.mq_engine.specs.Counting.{IsCounting, IsToldAmong};
 ghost use Rattle.mq_engine.specs.Progress.{is_ready};
+ghost use Rattle.mq_engine.specs.Waves.{IsWave};
 
 use crate::counting::{Counting, beginning_counts, let_go, settle_told};
 use crate::fault::RunFault;
 use crate::laws::core_laws;
 use crate::progress::{Stand, ready_nodes};
 use crate::sources::sources_sent;
-use crate::told::{counts_of_wave, told_nodes};
+use crate::told::{ToldNode, counts_of_wave, told_nodes};
 use crate::wave::wave_of;
 use mq_arrivals::Arriving;
-use mq_base::List;
+use mq_base::{List, OutOfMemory};
 use mq_core::{Plan, Rows};
 use mq_counts::{Counts, counted};
 use mq_crew::Gate;
@@ -51,44 +53,102 @@ pub fn run_counted<R: Threads + Sync, G: Gate>(
     core_laws();
     let mut counting = beginning_counts(alloc, plan.net.nodes.len())?;
     'waves: loop {
-        let Ok(ready) = ready_nodes(alloc, plan, &counting.stands) else {
+        let Ok(told) = told_next(rt, alloc, plan, rows, &counting, workers, block, form, gate)
+        else {
             drop(counting);
             return Err(RunFault::Memory);
         };
-        if ready.is_empty() {
+        if told.is_empty() {
+            drop(told);
             return ended_counts(plan, rows, counting);
         }
-        let arriving = Arriving {
-            plan,
-            rows,
-            outputs: &counting.outputs,
-            ready: &ready,
-            workers,
-            block,
-        };
-        let Ok(sent) = sources_sent(rt, alloc, &arriving, gate) else {
-            drop(counting);
-            return Err(RunFault::Memory);
-        };
-        if !sent.is_empty() {
-            settle_told(&mut counting, sent);
-            continue 'waves;
-        }
-        let Ok(given) = wave_of(rt, alloc, &arriving, gate) else {
-            drop(counting);
-            return Err(RunFault::Memory);
-        };
-        let Ok(counts) = counts_of_wave(rt, alloc, workers, plan, rows, &given, form, gate) else {
-            drop(given);
-            drop(counting);
-            return Err(RunFault::Memory);
-        };
-        let Ok(told) = told_nodes(alloc, plan.net.nodes.as_slice(), given, counts) else {
-            drop(counting);
-            return Err(RunFault::Memory);
-        };
         settle_told(&mut counting, told);
         let_go(alloc, plan, &mut counting);
+    }
+}
+
+// What is told of the nodes that are ready: of none, where none is.
+fn told_next<R: Threads + Sync, G: Gate>(
+    rt: &R,
+    alloc: Global,
+    plan: &Plan,
+    rows: &Rows,
+    counting: &Counting,
+    workers: u32,
+    block: u32,
+    form: u8,
+    gate: &G,
+) -> Result<List<ToldNode>, OutOfMemory>
+    requires read { IsReadFor plan.now.net rows.now }
+    requires laws { CoreLaws }
+    requires counting { IsCounting plan.now rows.now form counting.now.counts.items counting.now.outputs.items counting.now.stands.items }
+    requires some { 1 ≤ workers }
+    requires most { workers ≤ 64 }
+    requires block { 1 ≤ block }
+    ensures stuck { IfOk result (λ told. length told ≡ 0 → filter (is_ready plan.now.net.nodes counting.now.stands.items) plan.now.order ≡ []) }
+    ensures told { IfOk result (AllByRecursion (IsToldAmong plan.now rows.now form (filter (is_ready plan.now.net.nodes counting.now.stands.items) plan.now.order))) }
+{
+    let ready = ready_nodes(alloc, plan, &counting.stands)?;
+    if ready.is_empty() {
+        return Ok(List::new(alloc));
+    }
+    let arriving = Arriving {
+        plan,
+        rows,
+        outputs: &counting.outputs,
+        ready: &ready,
+        workers,
+        block,
+    };
+    told_ready(rt, alloc, &arriving, form, gate)
+}
+
+// What is told of these nodes: of the sources among them alone, where there are some.
+fn told_ready<R: Threads + Sync, G: Gate>(
+    rt: &R,
+    alloc: Global,
+    arriving: &Arriving,
+    form: u8,
+    gate: &G,
+) -> Result<List<ToldNode>, OutOfMemory>
+    requires wave { IsWave arriving.now }
+    requires few { length arriving.now.ready.now ≤ 64 }
+    requires some { 1 ≤ arriving.now.workers }
+    requires most { arriving.now.workers ≤ 64 }
+    ensures some { IfOk result (λ told. 1 ≤ length arriving.now.ready.now → 1 ≤ length told) }
+    ensures told { IfOk result (AllByRecursion (IsToldAmong arriving.now.plan.now arriving.now.rows.now form arriving.now.ready.now)) }
+{
+    let sent = sources_sent(rt, alloc, arriving, gate)?;
+    if sent.is_empty() {
+        drop(sent);
+        return told_wave(rt, alloc, arriving, form, gate);
+    }
+    Ok(sent)
+}
+
+// What is told of all of these nodes, worked out in one wave.
+fn told_wave<R: Threads + Sync, G: Gate>(
+    rt: &R,
+    alloc: Global,
+    arriving: &Arriving,
+    form: u8,
+    gate: &G,
+) -> Result<List<ToldNode>, OutOfMemory>
+    requires wave { IsWave arriving.now }
+    requires few { length arriving.now.ready.now ≤ 64 }
+    requires some { 1 ≤ arriving.now.workers }
+    requires most { arriving.now.workers ≤ 64 }
+    ensures len { IfOk result (λ told. length told ≡ length arriving.now.ready.now) }
+    ensures told { IfOk result (AllByRecursion (IsToldAmong arriving.now.plan.now arriving.now.rows.now form arriving.now.ready.now)) }
+{
+    let given = wave_of(rt, alloc, arriving, gate)?;
+    let (plan, rows, workers) = (arriving.plan, arriving.rows, arriving.workers);
+    match counts_of_wave(rt, alloc, workers, plan, rows, &given, form, gate) {
+        Ok(counts) => told_nodes(alloc, plan.net.nodes.as_slice(), given, counts),
+        Err(fault) => {
+            drop(given);
+            Err(fault)
+        }
     }
 }
 

@@ -3,10 +3,12 @@
 
 // Where a call of `drop` lets go of what is left, that spares proof: a call is proved once for a type, the end of a scope anew at each exit.
 
-ghost use Rattle.std.specs.Prelude.{◌≡◌, ◌≤◌, [], filter, IfErr, IfOk, None};
+ghost use Rattle.std.specs.Prelude.{◌≡◌, ◌≤◌, [], filter, length, IfErr, IfOk, None};
+ghost use Rattle.std.specs.List.{AllByRecursion};
 ghost use Rattle.mq_core.specs.Sequences.{IsRunOf};
 ghost use Rattle.mq_core.specs.Results.{refusal_of};
 ghost use Rattle.mq_core.specs.Theorems.{IsReadFor};
+ghost use Rattle.mq_exits.specs.Results.{IsResultOf};
 ghost use Rattle.mq_engine.specs.Answer.{IsCause};
 ghost use Rattle.mq_engine.specs.CoreLaws.{CoreLaws};
 ghost use Rattle.mq_engine.specs.Progress.{IsReached, is_ready};
@@ -31,11 +33,11 @@ pub use counted::run_counted;
 pub use fault::RunFault;
 pub use laws::core_laws;
 use mq_arrivals::Arriving;
-use mq_base::List;
+use mq_base::{List, OutOfMemory};
 pub use mq_core::{OverFault, PastFault};
 use mq_core::{Plan, Rows, Run};
 use mq_crew::Gate;
-use mq_exits::finished;
+use mq_exits::{NodeResult, finished};
 pub use mq_pass::chain_departures;
 use std::alloc::Global;
 use std::thread::Threads;
@@ -80,31 +82,53 @@ pub fn run<R: Threads + Sync, G: Gate>(
     core_laws();
     let mut progress = beginning(alloc, plan.net.nodes.len())?;
     'waves: loop {
-        let Ok(ready) = ready_nodes(alloc, plan, &progress.stands) else {
+        let Ok(results) = results_next(rt, alloc, plan, rows, &progress, workers, block, gate)
+        else {
             drop(progress);
             return Err(RunFault::Memory);
         };
-        if ready.is_empty() {
+        if results.is_empty() {
+            drop(results);
             return ended(plan, rows, progress);
         }
-        let arriving = Arriving {
-            plan,
-            rows,
-            outputs: &progress.outputs,
-            ready: &ready,
-            workers,
-            block,
-        };
-        let Ok(given) = wave_of(rt, alloc, &arriving, gate) else {
-            drop(progress);
-            return Err(RunFault::Memory);
-        };
-        let Ok(results) = finished(rt, alloc, workers, given, gate) else {
-            drop(progress);
-            return Err(RunFault::Memory);
-        };
         settle(&mut progress, results);
     }
+}
+
+// How the nodes end that are ready: none, where none is.
+fn results_next<R: Threads + Sync, G: Gate>(
+    rt: &R,
+    alloc: Global,
+    plan: &Plan,
+    rows: &Rows,
+    progress: &Progress,
+    workers: u32,
+    block: u32,
+    gate: &G,
+) -> Result<List<NodeResult>, OutOfMemory>
+    requires read { IsReadFor plan.now.net rows.now }
+    requires laws { CoreLaws }
+    requires reached { IsReached plan.now rows.now progress.now.visits.items progress.now.outputs.items progress.now.stands.items }
+    requires some { 1 ≤ workers }
+    requires most { workers ≤ 64 }
+    requires block { 1 ≤ block }
+    ensures stuck { IfOk result (λ results. length results ≡ 0 → filter (is_ready plan.now.net.nodes progress.now.stands.items) plan.now.order ≡ []) }
+    ensures known { IfOk result (AllByRecursion (IsResultOf plan.now rows.now (filter (is_ready plan.now.net.nodes progress.now.stands.items) plan.now.order))) }
+{
+    let ready = ready_nodes(alloc, plan, &progress.stands)?;
+    if ready.is_empty() {
+        return Ok(List::new(alloc));
+    }
+    let arriving = Arriving {
+        plan,
+        rows,
+        outputs: &progress.outputs,
+        ready: &ready,
+        workers,
+        block,
+    };
+    let given = wave_of(rt, alloc, &arriving, gate)?;
+    finished(rt, alloc, workers, given, gate)
 }
 
 // The run, where no node is ready any more: all nodes are done, or the first by rank that is not
