@@ -48,6 +48,10 @@ all-more P count xs xs' x all at grown =
           pushed-at P count xs xs' x all.len (λ u y here. among-all P count xs u y all here) at grown b (slice_index_or xs' b d) (slice_get-get_or xs' b d (subst (λ (n : ℕ). b < n) (sym many) l));
     }
 
+-- all items, once the list is given out
+pub all-done : {X : Type 0} (P : ℕ → X → Type 0) (count many : ℕ) (xs xs' : List X) → AreAll P count xs → count ≡ many → xs' ≡ xs → AreAll P many xs'
+all-done P count many xs xs' all end same = subst (AreAll P many) (sym same) (subst (λ (n : ℕ). AreAll P n xs) end all)
+
 -- what each item of a list has
 pub each-has : {X : Type 0} (P : X → Type 0) (xs : List X) (i : ℕ) (x : X) → Each P xs → slice_get xs i ≡ Some x → P x
 each-has P [] i x h e = absurd cc

@@ -14,8 +14,7 @@ use crate::later::{held_stay_on, totals_until};
 use crate::seen::{SeenStreams, SeenVisits};
 use mq_base::{List, OutOfMemory};
 use mq_core::{
-    Node, Plan, Rows, Run, nodes_are_in_limits, runs_have_sequences, span_is_sequences,
-    totals_are_sequences,
+    Node, Plan, Rows, Run, runs_have_sequences, span_is_sequences, totals_are_sequences,
 };
 use mq_crew::Gate;
 use mq_stats::{NodeTotals, lasts_are_greatest, runs_give_streams, runs_give_visits};
@@ -60,7 +59,6 @@ fn sequences_by_node<'a>(
     requires few { HasFewVisits plan.now rows.now }
     ensures { IfOk result (λ all. AreFirstSequences plan.now rows.now (length plan.now.net.nodes) all) }
 {
-    nodes_are_in_limits();
     let mut all = List::new(alloc);
     for node in 0..plan.net.nodes.len() {
         let declared = plan.net.nodes.get(node);

@@ -1,6 +1,11 @@
 use Rattle.std.proofs.Common.{arith}
 use Rattle.mq_counts.proofs.Counting.{visits-in-all, visits-in-more, visits-in-none}
+use Rattle.mq_counts.proofs.Lists.{each-has}
+use Rattle.mq_counts.specs.Counts.{AreCountable}
 use Rattle.mq_counts.proofs.counts.all_visits.Goals as goal
+
+pub node_visits-requires : goal.node_visits-requires
+node_visits-requires c = each-has (AreCountable c.args.rows.now) c.args.all.now c.loop-at.at c.get.result.now c.requires c.get.ensures
 
 pub loop-at-init : goal.loop-at-init
 loop-at-init c = visits-in-none c.args.rows.now c.args.all.now _ c.new-visits.ensures

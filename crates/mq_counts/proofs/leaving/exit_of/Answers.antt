@@ -10,6 +10,12 @@ its c =
     among-all (IsExitIn c.args.node.now c.loop-b.b) _ c.get.result.now c.args.output c.get-in-loop-b.result.now
     (among-all (AreExitsIn c.args.node.now) (exit_pieces c.args.node.now) c.args.parts.now c.loop-b.b c.get.result.now c.requires.parts c.get.ensures) c.get-in-loop-b.ensures
 
+pub get-requires-in-loop-b : goal.get-requires-in-loop-b
+get-requires-in-loop-b c =
+    let len = (among-all (AreExitsIn c.args.node.now) (exit_pieces c.args.node.now) c.args.parts.now c.loop-b.b c.get.result.now c.requires.parts c.get.ensures).len in
+    let inside = c.requires.inside in
+    omega arith
+
 pub exits_added-sum-requires-clause-before : goal.exits_added-sum-requires-clause-before
 exits_added-sum-requires-clause-before c = (exit-is-small c.args.node.now c.args.output c.loop-b.b c.loop-b.sum c.get-in-loop-b.result.now c.requires.inside c.requires.told c.loop-b.invariant (its c)).0
 

@@ -1,6 +1,12 @@
 use Rattle.std.proofs.Common.{arith}
+use Rattle.mq_core.proofs.lemmas.Plans.{within-limits}
 use Rattle.mq_counts.proofs.Endings.{sequences-all, sequences-more, sequences-none}
 use Rattle.mq_counts.proofs.runs.sequences_by_node.Goals as goal
+
+pub overflow_cast-node : goal.overflow_cast-node
+overflow_cast-node c =
+    let few = (within-limits c.args.plan.now).0 in
+    omega arith
 
 pub loop-node-preserved : goal.loop-node-preserved
 loop-node-preserved c =

@@ -1,9 +1,13 @@
 use Rattle.std.proofs.Common.{arith}
 use Rattle.mq_counts.proofs.CountedTails.{counted-all, counted-at, counted-more, counted-none, sum-at}
-use Rattle.mq_counts.proofs.Lists.{among-all}
+use Rattle.mq_counts.proofs.Lists.{among-all, each-has}
+use Rattle.mq_counts.specs.TailPieces.{IsWaited}
 use Rattle.mq_counts.specs.Totals.{IsSumIn}
 use Rattle.mq_base.proofs.lemmas.Lists.{get-some}
 use Rattle.mq_counts.proofs.tail_pieces.counted_of.Goals as goal
+
+pub counted_at-requires-clause-waited : goal.counted_at-requires-clause-waited
+counted_at-requires-clause-waited c = each-has IsWaited c.args.all.now c.loop-node.node c.get.result.now c.requires.waits.waited c.get.ensures
 
 pub counted_at-requires-clause-group : goal.counted_at-requires-clause-group
 counted_at-requires-clause-group c = c.requires.groups.each c.loop-node.node c.get.result.now _ c.get.ensures c.get-in-loop-node-2.ensures

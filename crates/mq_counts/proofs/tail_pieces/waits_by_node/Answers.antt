@@ -1,6 +1,11 @@
 use Rattle.std.proofs.Common.{arith}
 use Rattle.mq_counts.proofs.CountedTails.{waits-all, waits-more, waits-none, waits-of}
+use Rattle.mq_counts.proofs.Lists.{each-has}
+use Rattle.mq_counts.specs.Totals.{IsVisited}
 use Rattle.mq_counts.proofs.tail_pieces.waits_by_node.Goals as goal
+
+pub waits_of_node-requires : goal.waits_of_node-requires
+waits_of_node-requires c = record { visited = each-has IsVisited c.args.known.now.nodes.now c.loop-node.node c.get.result.now c.requires.visited c.get.ensures }
 
 pub push_reserved-requires : goal.push_reserved-requires
 push_reserved-requires c = omega (arith, c.loop-node.invariant.so_far.len, c.loop-node.invariant.room, c.loop-node-test.true, c.len-node-end.ensures)
