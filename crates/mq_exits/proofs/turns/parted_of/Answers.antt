@@ -6,6 +6,9 @@ use Rattle.mq_exits.proofs.Emptying.{IsEmptiedOf}
 use Rattle.mq_exits.proofs.Turning.{IsGivenIn}
 use Rattle.mq_exits.proofs.turns.parted_of.Goals as goal
 
+pub side_of-requires : goal.side_of-requires
+side_of-requires c = apart-last IsReadyCompletion IsReadyCompletion IsEmptiedOf IsGivenIn IsEmptiedOf _ _ _ _ _ _ _ c.loop-emptied.invariant.are c.in-Some.ensures.items
+
 pub loop-emptied-preserved-in-Through : goal.loop-emptied-preserved-in-Through
 loop-emptied-preserved-in-Through c = record {
   are = apart-first IsReadyCompletion IsReadyCompletion IsEmptiedOf IsGivenIn IsEmptiedOf _ _ _ _ _ _ _ _ _ _ c.loop-emptied.invariant.are c.in-Some.ensures.items (λ w h. c.in-Through.ensures w.0 w.1 w.2 h) c.push_reserved.ensures.items refl;
