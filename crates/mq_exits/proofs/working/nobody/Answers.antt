@@ -1,5 +1,6 @@
-use Rattle.std.proofs.Common.{◌<◌, length, get_or, ap, arith}
+use Rattle.std.proofs.Common.{◌∙◌, ◌<◌, length, get_or, ap, arith}
 use Rattle.std.proofs.lemmas.Option.{slice_get-get_or}
+use Rattle.mq_base.proofs.lemmas.Lists.{map-all}
 use Rattle.mq_stations.proofs.lemmas.Lists.{map-more}
 use Rattle.mq_exits.proofs.working.nobody.Goals as goal
 
@@ -12,3 +13,8 @@ loop-preserved c =
       len = omega arith;
       room = omega arith;
     }
+
+pub returns : goal.returns
+returns c =
+    let all = ap length c.as_slice-items.ensures in
+    c.from_vec.ensures ∙ map-all (λ _. 0) c.args.arrive.now c.loop.index c.loop.found.items (omega arith) c.loop.invariant.so_far
