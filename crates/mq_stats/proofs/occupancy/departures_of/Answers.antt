@@ -1,4 +1,5 @@
-use Rattle.std.proofs.Common.{◌+◌, ◌++◌, Some, ap, ◌∙◌, drop, arith}
+use Rattle.std.proofs.Common.{◌+◌, ◌++◌, Some, ap, sym, ◌∙◌, drop, arith}
+use Rattle.std.proofs.lemmas.List.{append-nil, drop_all}
 use Rattle.std.specs.Vec.{vec_len, vec_capacity}
 use Rattle.mq_stats.proofs.Founds.{departs-next, no-departure, none-next}
 use Rattle.mq_stats.specs.Departures.{departures_from}
@@ -27,3 +28,9 @@ loop-at-preserved c =
             room = omega arith;
           }
     ]
+
+pub returns : goal.returns
+returns c =
+    sym (append-nil c.loop-at.departures.items)
+    ∙ (ap (λ left. c.loop-at.departures.items ++ departures_from c.loop-at.at left) (sym (drop_all c.loop-at.at c.args.fates.now (omega arith)))
+    ∙ c.loop-at.invariant.so_far)
