@@ -1,5 +1,10 @@
 use Rattle.mq_counts.proofs.Exits.{streams-more}
+use Rattle.mq_counts.proofs.Lists.{each-has}
+use Rattle.mq_counts.specs.Counts.{AreCountable}
 use Rattle.mq_counts.proofs.leaving.all_streams.Goals as goal
+
+pub node_streams-requires : goal.node_streams-requires
+node_streams-requires c = each-has (AreCountable c.args.rows.now) c.args.all.now c.loop-at.at c.get.result.now c.requires c.get.ensures
 
 pub loop-at-preserved : goal.loop-at-preserved
 loop-at-preserved c =
