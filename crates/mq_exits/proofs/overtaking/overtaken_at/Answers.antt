@@ -7,6 +7,7 @@ use Rattle.mq_stations.specs.Late.{late_told}
 use Rattle.mq_exits.proofs.DelayOrder.{departs-few, departs-later, is-overtaken}
 use Rattle.mq_stations.proofs.lemmas.Leaves.{departs-even}
 use Rattle.mq_exits.proofs.InOrder.{in-turn-risen}
+use Rattle.mq_exits.proofs.Leavings.{late-by}
 use Rattle.mq_exits.proofs.overtaking.overtaken_at.Goals as goal
 
 pub returns-then-never_fall : goal.returns-then-never_fall
@@ -39,6 +40,9 @@ ahead_of_departures-requires-clause-departs g c =
     let loaded = c.requires.loaded in
     let load = c.args.load.now in
     departs-later c.fates_are_in_time.ensures load.rows.now loaded.node.kind load.arrivals.now c.args.departs loaded.load (c.requires.departs loaded.node loaded.there)
+
+pub returns-in-Some : goal.returns-in-Some
+returns-in-Some g c node there = late-by c.args.load.now.plan.now.net.bound c.args.load.now.number _ _ _ (c.requires.departs node there).fates (c.first_late_overtaken.ensures ∙ ap (option_map late_told) c.in-Some.is)
 
 pub returns-in-Ok : goal.returns-in-Ok
 returns-in-Ok g c =
