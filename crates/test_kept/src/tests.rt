@@ -2,6 +2,7 @@
 mod calls;
 mod cases;
 mod draws;
+mod kept;
 mod networks;
 mod rows;
 mod same;

@@ -1,86 +1,14 @@
 // Worked cases of edits, and runs that are refused before them and after them.
-ghost use Rattle.std.specs.Prelude.{◌≡◌, ◌<◌, length, IfOk, OnErr, OnOk};
-ghost use Rattle.mq_core.specs.Theorems.{IsReadFor};
-ghost use Rattle.mq_edits.specs.Edited.{AreEditsFor, edited_rows};
-ghost use Rattle.mq_kept.specs.Keeping.{IsKeptRun};
+ghost use Rattle.std.specs.Prelude.{◌≡◌, ◌≤◌};
 
-use super::same::{is_as_from_nothing, same_fate};
-use mq_base::{List, OutOfMemory, Steps};
-use mq_core::{Fate, Plan, Rows};
-use mq_edits::{Edit, read_edits};
+use super::kept::{edited, is_as_from_nothing, kept_of, plan_of};
+use super::same::same_fate;
+use mq_base::OutOfMemory;
+use mq_core::{Fate, Fates, PastFault, Plan};
 use mq_kept::{Kept, Redone, RunFault};
-use mq_model::read_model;
-use mq_trace::read_trace;
 use std::alloc::Global;
-use std::marker::Brand;
-use std::sync::ledger::{Blank, Ledger};
 use std::test::Fail;
 use std::thread::Threads;
-
-/// A model and rows of a trace that were read.
-#[derive(Drop)]
-pub struct Case {
-    pub plan: Plan,
-    pub rows: Rows,
-}
-
-/// Reads a model and a trace.
-pub fn case_of<R: Threads + Sync>(
-    rt: &R,
-    alloc: Global,
-    model: &[u8],
-    trace: &[u8],
-) -> Result<Case, OutOfMemory>
-    ensures { IfOk result (λ case. IsReadFor case.plan.net case.rows) }
-{
-    let Ok(plan) = read_model(alloc, model) else {
-        return Err(OutOfMemory)
-    };
-    match read_trace(rt, alloc, 1, trace, &plan.net) {
-        Ok(rows) => Ok(Case { plan, rows }),
-        Err(_) => {
-            drop(plan);
-            Err(OutOfMemory)
-        }
-    }
-}
-
-/// Reads edits of rows.
-pub fn edits_of(
-    alloc: Global,
-    plan: &Plan,
-    rows: &Rows,
-    text: &[u8],
-) -> Result<List<Edit>, OutOfMemory>
-    requires { IsReadFor plan.now.net rows.now }
-    ensures { IfOk result (λ edits. AreEditsFor plan.now.net (length rows.now.source) edits) }
-{
-    match read_edits(alloc, text, &plan.net, rows.source.len() as u32) {
-        Ok(edits) => Ok(edits),
-        Err(_) => Err(OutOfMemory),
-    }
-}
-
-/// Makes edits in a kept run, with a counter of their own.
-pub fn edited<R: Threads + Sync, L: Ledger>(
-    rt: &R,
-    alloc: Global,
-    kept: &mut Kept,
-    edits: &List<Edit>,
-    blank: Blank,
-) -> Result<Redone, RunFault>
-    requires edits { AreEditsFor kept.old.plan.net (length kept.old.rows.source) edits.now }
-    requires name { blank.name ≡ L.name }
-    requires parts { blank.parts ≡ L.parts }
-    requires some { 0 < blank.parts }
-    ensures plan { kept.new.plan ≡ kept.old.plan }
-    ensures kept { IsKeptRun kept.new }
-    ensures rows { OnOk result (kept.new.rows ≡ edited_rows kept.old.rows edits.now) }
-    ensures err { OnErr result (kept.new ≡ kept.old) }
-{
-    let mut steps = Steps::<L>::new(blank);
-    kept.edit(rt, alloc, edits, &mut steps)
-}
 
 /// A source and a server, which asks for the one column.
 pub const MODEL: &[u8] = b"model 1\nsource src\nserver desk d from src\n";
@@ -91,88 +19,174 @@ const EARLY: &[u8] = b"model 1\nbound 8\nsource src\nserver desk d from src\n";
 /// Three records of it.
 pub const TRACE: &[u8] = b"source,time,d\nsrc,0,4\nsrc,1,1\nsrc,2,3\n";
 
-#[test]
-fn one_row_more(rt: HostRuntime) -> Result<(), Fail> {
-    let alloc = rt.alloc();
-    let Case { plan, rows } = case_of(&rt, alloc, MODEL, TRACE)?;
-    let edits = edits_of(alloc, &plan, &rows, b"add src 3 2")?;
-    let Ok(mut kept) = Kept::start(&rt, alloc, &plan, rows, 4, 4096) else {
-        return Err(OutOfMemory.into())
-    };
-    let Ok(redone) = edited::<_, Brand>(&rt, alloc, &mut kept, &edits, Blank::new(1)) else {
-        return Err(OutOfMemory.into())
-    };
-    assert!(rt; redone.again == 2 && redone.all == 2);
-    assert!(rt; kept.rows().source.len() == 4);
-    assert!(rt; kept.run().visits.len() == 2);
-    let fate = &kept.run().visits.get(1).fate;
-    assert!(rt; fate.len() == 4 && same_fate(fate.at(3), Fate::Departs(10)));
-    Ok(())
+// A text of edits, and what comes of it: how much is done again, or why it is refused; and when each job leaves the desk then.
+#[derive(Clone, Copy)]
+struct Step<'a> {
+    text: &'a [u8],
+    made: Result<Redone, RunFault>,
+    departures: &'a [u64],
 }
 
-// A job at 0, 10 and so on, each of which asks for 1.
-fn long_trace(alloc: Global) -> Result<Vec<u8>, OutOfMemory> {
-    let mut text = Vec::new(alloc);
-    text.extend_from_slice(b"source,time,d\n")?;
-    for k in 0..200u32 {
-        text.extend_from_slice(b"src,")?;
-        text.push(b'0' + (k / 100) as u8)?;
-        text.push(b'0' + (k / 10 % 10) as u8)?;
-        text.push(b'0' + (k % 10) as u8)?;
-        text.extend_from_slice(b"0,1\n")?;
+const ONE_ROW_MORE: Step<'static> = Step {
+    text: b"add src 3 2",
+    made: Ok(Redone { again: 2, all: 2 }),
+    departures: &[4, 5, 8, 10],
+};
+
+// The same passes the bound, and changes nothing.
+const TOO_LATE: Step<'static> = Step {
+    text: b"add src 3 2",
+    made: Err(RunFault::Past(PastFault {
+        node: 1,
+        position: 3,
+        time: 10,
+    })),
+    departures: &[4, 5, 8],
+};
+
+const SHORTER: Step<'static> = Step {
+    text: b"set 3 src 2 1\nadd src 3 2",
+    made: Ok(Redone { again: 2, all: 2 }),
+    departures: &[4, 5, 6, 8],
+};
+
+// Whether visits depart at these times.
+fn depart_at(fates: &Fates, times: &[u64]) -> bool {
+    if fates.len() != times.len() {
+        return false;
     }
-    Ok(text)
+    for at in 0..times.len() {
+        if !same_fate(fates.at(at), Fate::Departs(times[at])) {
+            return false;
+        }
+    }
+    true
+}
+
+// Whether a kept run has as many rows as there are departures, and these from the second of its two nodes.
+fn leaves_so(kept: &Kept, departures: &[u64]) -> bool {
+    let run = kept.run();
+    kept.rows().source.len() == departures.len()
+        && run.visits.len() == 2
+        && depart_at(&run.visits.get(1).fate, departures)
+}
+
+// Whether this comes of the edits, and the run is as from nothing then.
+fn goes_so<R: Threads + Sync>(
+    rt: &R,
+    alloc: Global,
+    plan: &Plan,
+    kept: &mut Kept,
+    step: &Step<'_>,
+) -> bool
+    requires plan { kept.old.plan ≡ plan.now }
+    ensures plan { kept.new.plan ≡ kept.old.plan }
+{
+    let made = edited(rt, alloc, plan, kept, step.text);
+    made == step.made
+        && leaves_so(kept, step.departures)
+        && is_as_from_nothing(rt, alloc, plan, kept)
+}
+
+// Whether each of these steps goes so.
+fn all_go_so<R: Threads + Sync>(
+    rt: &R,
+    alloc: Global,
+    plan: &Plan,
+    kept: &mut Kept,
+    steps: &[Step<'_>],
+) -> bool
+    requires plan { kept.old.plan ≡ plan.now }
+{
+    for step in steps {
+        if !goes_so(rt, alloc, plan, kept, step) {
+            return false;
+        }
+    }
+    true
+}
+
+// Whether the steps go so, one after another, behind a run of the trace.
+fn go_so_behind<R: Threads + Sync>(
+    rt: &R,
+    alloc: Global,
+    plan: &Plan,
+    workers: u32,
+    block: u32,
+    steps: &[Step<'_>],
+) -> bool
+    requires some { 1 ≤ workers }
+    requires most { workers ≤ 64 }
+    requires block { 64 ≤ block }
+    requires large { block ≤ 65536 }
+{
+    match kept_of(rt, alloc, plan, TRACE, workers, block) {
+        Ok(mut kept) => {
+            let so = all_go_so(rt, alloc, plan, &mut kept, steps);
+            drop(kept);
+            so
+        }
+        Err(_) => false,
+    }
+}
+
+// The same for the plan of a model.
+fn go_so<R: Threads + Sync>(
+    rt: &R,
+    alloc: Global,
+    model: &[u8],
+    workers: u32,
+    block: u32,
+    steps: &[Step<'_>],
+) -> Result<bool, OutOfMemory>
+    requires some { 1 ≤ workers }
+    requires most { workers ≤ 64 }
+    requires block { 64 ≤ block }
+    requires large { block ≤ 65536 }
+{
+    let plan = plan_of(alloc, model)?;
+    let so = go_so_behind(rt, alloc, &plan, workers, block, steps);
+    drop(plan);
+    Ok(so)
 }
 
 #[test]
-fn one_row_of_two_hundred(rt: HostRuntime) -> Result<(), Fail> {
-    let alloc = rt.alloc();
-    let trace = long_trace(alloc)?;
-    let Case { plan, rows } = case_of(&rt, alloc, MODEL, &trace)?;
-    let edits = edits_of(alloc, &plan, &rows, b"set 150 src 1490 5")?;
-    let Ok(mut kept) = Kept::start(&rt, alloc, &plan, rows, 4, 64) else {
-        return Err(OutOfMemory.into())
-    };
-    let Ok(redone) = edited::<_, Brand>(&rt, alloc, &mut kept, &edits, Blank::new(1)) else {
-        return Err(OutOfMemory.into())
-    };
-    assert!(rt; redone.again == 2 && redone.all == 8);
+fn edits_come_to_this(rt: HostRuntime) -> Result<(), Fail> {
+    assert!(rt; go_so(&rt, rt.alloc(), MODEL, 4, 4096, &[ONE_ROW_MORE])?);
+    assert!(rt; go_so(&rt, rt.alloc(), EARLY, 1, 64, &[TOO_LATE, SHORTER])?);
     Ok(())
+}
+
+// Whether there is no run of this trace, since its third job leaves at 9.
+fn is_refused<R: Threads + Sync>(rt: &R, alloc: Global, plan: &Plan, trace: &[u8]) -> bool {
+    let past = PastFault {
+        node: 1,
+        position: 2,
+        time: 9,
+    };
+    match kept_of(rt, alloc, plan, trace, 1, 64) {
+        Ok(kept) => {
+            drop(kept);
+            false
+        }
+        Err(fault) => fault == RunFault::Past(past),
+    }
+}
+
+fn longer_is_refused<R: Threads + Sync>(rt: &R, alloc: Global) -> Result<bool, OutOfMemory> {
+    let plan = plan_of(alloc, EARLY)?;
+    let so = is_refused(
+        rt,
+        alloc,
+        &plan,
+        b"source,time,d\nsrc,0,4\nsrc,1,1\nsrc,2,4\n",
+    );
+    drop(plan);
+    Ok(so)
 }
 
 #[test]
 fn a_run_is_refused_at_the_start(rt: HostRuntime) -> Result<(), Fail> {
-    let alloc = rt.alloc();
-    let late = b"source,time,d\nsrc,0,4\nsrc,1,1\nsrc,2,4\n";
-    let Case { plan, rows } = case_of(&rt, alloc, EARLY, late)?;
-    match Kept::start(&rt, alloc, &plan, rows, 1, 64) {
-        Err(RunFault::Past(past)) => assert!(rt; past.node == 1 && past.position == 2),
-        _ => return Err(OutOfMemory.into()),
-    }
-    Ok(())
-}
-
-#[test]
-fn a_refused_edit_changes_nothing(rt: HostRuntime) -> Result<(), Fail> {
-    let alloc = rt.alloc();
-    let Case { plan, rows } = case_of(&rt, alloc, EARLY, TRACE)?;
-    let late = edits_of(alloc, &plan, &rows, b"add src 3 2")?;
-    let early = edits_of(alloc, &plan, &rows, b"set 3 src 2 1\nadd src 3 2")?;
-    let Ok(mut kept) = Kept::start(&rt, alloc, &plan, rows, 1, 64) else {
-        return Err(OutOfMemory.into())
-    };
-    let refused = edited::<_, Brand>(&rt, alloc, &mut kept, &late, Blank::new(1));
-    match refused {
-        Err(RunFault::Past(past)) => assert!(rt; past.node == 1 && past.position == 3),
-        _ => return Err(OutOfMemory.into()),
-    }
-    assert!(rt; kept.rows().source.len() == 3);
-    assert!(rt; is_as_from_nothing(&rt, alloc, &plan, kept.rows(), kept.run()));
-    let Ok(redone) = edited::<_, Brand>(&rt, alloc, &mut kept, &early, Blank::new(1)) else {
-        return Err(OutOfMemory.into())
-    };
-    assert!(rt; redone.again == 2 && redone.all == 2);
-    assert!(rt; kept.rows().source.len() == 4);
-    assert!(rt; is_as_from_nothing(&rt, alloc, &plan, kept.rows(), kept.run()));
+    assert!(rt; longer_is_refused(&rt, rt.alloc())?);
     Ok(())
 }

@@ -1,63 +1,84 @@
 // Networks of many kinds, with edits that look random.
-ghost use Rattle.mq_core.specs.Theorems.{IsReadFor};
+ghost use Rattle.std.specs.Prelude.{◌≡◌};
 
-use super::cases::{Case, case_of, edited, edits_of};
-use super::draws::{Draws, drawn_edit, drawn_trace};
-use super::same::is_as_from_nothing;
+use super::draws::{push_edit, push_trace};
+use super::kept::{edited, is_as_from_nothing, kept_of, plan_of};
 use mq_base::OutOfMemory;
-use mq_core::{Plan, Rows};
+use mq_core::Plan;
 use mq_gen::made;
 use mq_kept::Kept;
-use mq_model::read_model;
 use std::alloc::Global;
-use std::marker::Brand;
-use std::sync::ledger::Blank;
 use std::test::Fail;
 use std::thread::Threads;
 
-// Whether the runs of a model are as from nothing, after the start and after each of four edits.
-fn stays_the_same<R: Threads + Sync>(
-    rt: &R,
-    alloc: Global,
-    number: u64,
-    model: &[u8],
-) -> Result<bool, OutOfMemory> {
-    let Ok(plan) = read_model(alloc, model) else {
-        return Err(OutOfMemory)
-    };
-    let mut draws = Draws::new(number);
-    let count = 60 + draws.below(200) as u32;
-    let trace = drawn_trace(alloc, &plan, count, &mut draws)?;
-    drop(plan);
-    let Case { plan, rows } = case_of(rt, alloc, model, trace.as_slice())?;
-    is_kept_through(rt, alloc, &plan, rows, &mut draws)
-}
-
-fn is_kept_through<R: Threads + Sync>(
+// Whether a kept run is as from nothing, also after each of four edits, whose text is written in place of what stands in `text`.
+fn stays_through<R: Threads + Sync>(
     rt: &R,
     alloc: Global,
     plan: &Plan,
-    rows: Rows,
-    draws: &mut Draws,
+    kept: &mut Kept,
+    text: &mut Vec<u8>,
+    state: &mut u64,
 ) -> Result<bool, OutOfMemory>
-    requires { IsReadFor plan.now.net rows }
+    requires plan { kept.old.plan ≡ plan.now }
 {
-    let Ok(mut kept) = Kept::start(rt, alloc, plan, rows, 1, 64) else {
-        return Err(OutOfMemory)
-    };
-    if !is_as_from_nothing(rt, alloc, plan, kept.rows(), kept.run()) {
+    if !is_as_from_nothing(rt, alloc, plan, kept) {
         return Ok(false);
     }
     for _ in 0..4 {
-        let text = drawn_edit(alloc, plan, kept.rows().source.len() as u64, draws)?;
-        let edits = edits_of(alloc, plan, kept.rows(), text.as_slice())?;
-        let Ok(redone) = edited::<_, Brand>(rt, alloc, &mut kept, &edits, Blank::new(1)) else {
-            return Err(OutOfMemory)
+        text.clear();
+        push_edit(text, plan, kept.rows().source.len() as u64, state)?;
+        let Ok(redone) = edited(rt, alloc, plan, kept, text) else {
+            return Ok(false);
         };
-        if redone.again > redone.all {
+        if redone.again > redone.all || !is_as_from_nothing(rt, alloc, plan, kept) {
             return Ok(false);
         }
-        if !is_as_from_nothing(rt, alloc, plan, kept.rows(), kept.run()) {
+    }
+    Ok(true)
+}
+
+// Whether the run of a trace that looks random does, in blocks of 64 jobs.
+fn trace_stays<R: Threads + Sync>(
+    rt: &R,
+    alloc: Global,
+    plan: &Plan,
+    text: &mut Vec<u8>,
+    number: u64,
+) -> Result<bool, OutOfMemory> {
+    let mut state = number;
+    push_trace(text, plan, &mut state)?;
+    match kept_of(rt, alloc, plan, text, 1, 64) {
+        Ok(mut kept) => {
+            let so = stays_through(rt, alloc, plan, &mut kept, text, &mut state);
+            drop(kept);
+            so
+        }
+        Err(_) => Err(OutOfMemory),
+    }
+}
+
+// The same for the plan of a model.
+fn model_stays<R: Threads + Sync>(
+    rt: &R,
+    alloc: Global,
+    model: &[u8],
+    number: u64,
+) -> Result<bool, OutOfMemory> {
+    let plan = plan_of(alloc, model)?;
+    let mut text = Vec::new(alloc);
+    let so = trace_stays(rt, alloc, &plan, &mut text, number);
+    drop(text);
+    drop(plan);
+    so
+}
+
+fn made_models_stay<R: Threads + Sync>(rt: &R, alloc: Global) -> Result<bool, OutOfMemory> {
+    for number in 0..12 {
+        let input = made(alloc, number)?;
+        let so = model_stays(rt, alloc, input.model.as_slice(), number);
+        drop(input);
+        if !so? {
             return Ok(false);
         }
     }
@@ -66,11 +87,7 @@ fn is_kept_through<R: Threads + Sync>(
 
 #[test]
 fn edited_runs_are_as_from_nothing(rt: HostRuntime) -> Result<(), Fail> {
-    let alloc = rt.alloc();
-    for number in 0..12 {
-        let input = made(alloc, number)?;
-        assert!(rt; stays_the_same(&rt, alloc, number, input.model.as_slice())?);
-    }
+    assert!(rt; made_models_stay(&rt, rt.alloc())?);
     Ok(())
 }
 
@@ -80,11 +97,17 @@ const WIDE: &[u8] =
     server s k from f p.1\ndelay w m from f.1 c\njoin j from s w\nloss l 2 m from j\nsplit x 3 mod k from l l.1\n\
     trunk t 2 m from x c.1\nforkjoin g k m | m from c.2 t.1 x.1\ntandem q k / 2 m / 1 =1 from t g x.2\n";
 
+fn wide_model_stays<R: Threads + Sync>(rt: &R, alloc: Global) -> Result<bool, OutOfMemory> {
+    for number in 100..106 {
+        if !model_stays(rt, alloc, WIDE, number)? {
+            return Ok(false);
+        }
+    }
+    Ok(true)
+}
+
 #[test]
 fn a_network_of_all_kinds(rt: HostRuntime) -> Result<(), Fail> {
-    let alloc = rt.alloc();
-    for number in 100..106 {
-        assert!(rt; stays_the_same(&rt, alloc, number, WIDE)?);
-    }
+    assert!(rt; wide_model_stays(&rt, rt.alloc())?);
     Ok(())
 }

@@ -1,36 +1,81 @@
 // Rows that are edited in place and put back, beside those that are edited in a copy.
+ghost use Rattle.std.specs.Prelude.{length};
+ghost use Rattle.mq_core.specs.Theorems.{IsReadFor};
+ghost use Rattle.mq_core.specs.declared.model.Network.{Network};
+ghost use Rattle.mq_edits.specs.Edited.{AreEditsFor};
 
-use super::cases::{Case, MODEL, TRACE, case_of, edits_of};
-use mq_core::Rows;
-use mq_edits::{edit_rows, edited};
+use super::cases::{MODEL, TRACE};
+use super::kept::plan_of;
+use mq_base::{List, OutOfMemory};
+use mq_core::{Plan, Rows};
+use mq_edits::{Edit, edit_rows, edited, read_edits};
+use mq_trace::read_trace;
+use std::alloc::Global;
 use std::test::Fail;
+use std::thread::Threads;
 
-// Whether rows of one column are those of one source, with these times and values.
-fn are(rows: &Rows, times: &[u64], values: &[u64]) -> bool {
-    rows.source.as_slice().iter().all(|source| *source == 0)
-        && rows.source.len() == times.len()
+// Whether rows of one column are these: of the one source, with these times and values.
+fn are(rows: &Rows, sources: &[u32], times: &[u64], values: &[u64]) -> bool {
+    rows.source.as_slice() == sources
         && rows.time.as_slice() == times
         && rows.demands.len() == 1
-        && rows.demands.as_slice()[0].as_slice() == values
+        && rows.demands.get(0).as_slice() == values
+}
+
+fn are_edited(rows: &Rows) -> bool {
+    are(rows, &[0, 0, 0, 0], &[0, 5, 2, 9], &[4, 7, 3, 8])
+}
+
+fn are_edited_in_a_copy(alloc: Global, rows: &Rows, edits: &List<Edit>) -> Result<bool, OutOfMemory>
+    requires { (net : Network) × IsReadFor net rows.now × AreEditsFor net (length rows.now.source) edits.now }
+{
+    let copy = edited(alloc, rows, edits)?;
+    let so = are_edited(&copy);
+    drop(copy);
+    Ok(so)
+}
+
+// Whether edits in place give the same rows, and then those of before.
+fn come_back(alloc: Global, rows: &mut Rows, edits: &List<Edit>) -> Result<bool, OutOfMemory>
+    requires { (net : Network) × IsReadFor net rows.old × AreEditsFor net (length rows.old.source) edits.now }
+{
+    let former = edit_rows(alloc, rows, edits)?;
+    let so = former.from == 1 && are(&former.rows, &[0, 0], &[1, 2], &[1, 3]) && are_edited(rows);
+    former.put_back(alloc, rows);
+    drop(former);
+    Ok(so && are(rows, &[0, 0, 0], &[0, 1, 2], &[4, 1, 3]))
+}
+
+// Whether the edits do, of rows that were read for a plan.
+fn edits_come_back(alloc: Global, plan: &Plan, rows: &mut Rows) -> Result<bool, OutOfMemory>
+    requires { IsReadFor plan.now.net rows.old }
+{
+    let text = b"add src 3 2\nset 2 src 5 7\nset 4 src 9 8";
+    let Ok(edits) = read_edits(alloc, text, &plan.net, rows.source.len() as u32) else {
+        return Err(OutOfMemory);
+    };
+    let copied = are_edited_in_a_copy(alloc, rows, &edits);
+    let so = come_back(alloc, rows, &edits);
+    drop(edits);
+    Ok(copied? && so?)
+}
+
+fn rows_come_back<R: Threads + Sync>(rt: &R, alloc: Global) -> Result<bool, OutOfMemory> {
+    let plan = plan_of(alloc, MODEL)?;
+    let so = match read_trace(rt, alloc, 1, TRACE, &plan.net) {
+        Ok(mut rows) => {
+            let so = edits_come_back(alloc, &plan, &mut rows);
+            drop(rows);
+            so
+        }
+        Err(_) => Err(OutOfMemory),
+    };
+    drop(plan);
+    so
 }
 
 #[test]
 fn edited_rows_come_back(rt: HostRuntime) -> Result<(), Fail> {
-    let alloc = rt.alloc();
-    let Case { plan, mut rows } = case_of(&rt, alloc, MODEL, TRACE)?;
-    let edits = edits_of(
-        alloc,
-        &plan,
-        &rows,
-        b"add src 3 2\nset 2 src 5 7\nset 4 src 9 8",
-    )?;
-    let copy = edited(alloc, &rows, &edits)?;
-    assert!(rt; are(&copy, &[0, 5, 2, 9], &[4, 7, 3, 8]));
-    let former = edit_rows(alloc, &mut rows, &edits)?;
-    assert!(rt; former.from == 1);
-    assert!(rt; are(&former.rows, &[1, 2], &[1, 3]));
-    assert!(rt; are(&rows, &[0, 5, 2, 9], &[4, 7, 3, 8]));
-    former.put_back(alloc, &mut rows);
-    assert!(rt; are(&rows, &[0, 1, 2], &[4, 1, 3]));
+    assert!(rt; rows_come_back(&rt, rt.alloc())?);
     Ok(())
 }

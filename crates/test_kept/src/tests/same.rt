@@ -1,15 +1,7 @@
 // Whether runs are the same.
-ghost use Rattle.mq_core.specs.Theorems.{IsReadFor};
 
-use mq_core::{Fate, Fates, Plan, Rows, Run, Stream, Visits};
-use mq_crew::Open;
-use mq_engine::run;
-use std::alloc::Global;
-use std::thread::Threads;
-
-fn same_stream(one: &Stream, other: &Stream) -> bool {
-    one.job.as_slice() == other.job.as_slice() && one.time.as_slice() == other.time.as_slice()
-}
+use mq_base::List;
+use mq_core::{Fate, Fates, Run, Stream, Visits};
 
 /// Whether two visits end alike.
 pub fn same_fate(one: Fate, other: Fate) -> bool {
@@ -40,19 +32,14 @@ fn same_visits(one: &Visits, other: &Visits) -> bool {
         && same_fates(&one.fate, &other.fate)
 }
 
-fn same_outputs(one: &Run, other: &Run) -> bool {
-    if one.outputs.len() != other.outputs.len() {
+fn same_streams(one: &List<Stream>, other: &List<Stream>) -> bool {
+    if one.len() != other.len() {
         return false;
     }
-    for v in 0..one.outputs.len() {
-        let (a, b) = (one.outputs.get(v), other.outputs.get(v));
-        if a.len() != b.len() {
+    for at in 0..one.len() {
+        let (a, b) = (one.get(at), other.get(at));
+        if a.job.as_slice() != b.job.as_slice() || a.time.as_slice() != b.time.as_slice() {
             return false;
-        }
-        for out in 0..a.len() {
-            if !same_stream(a.get(out), b.get(out)) {
-                return false;
-            }
         }
     }
     true
@@ -60,7 +47,7 @@ fn same_outputs(one: &Run, other: &Run) -> bool {
 
 /// Whether two runs have the same visits and streams at each node.
 pub fn same_run(one: &Run, other: &Run) -> bool {
-    if one.visits.len() != other.visits.len() {
+    if one.visits.len() != other.visits.len() || one.outputs.len() != other.outputs.len() {
         return false;
     }
     for v in 0..one.visits.len() {
@@ -68,21 +55,10 @@ pub fn same_run(one: &Run, other: &Run) -> bool {
             return false;
         }
     }
-    same_outputs(one, other)
-}
-
-/// Whether a run is that of a plan over rows, from nothing.
-pub fn is_as_from_nothing<R: Threads + Sync>(
-    rt: &R,
-    alloc: Global,
-    plan: &Plan,
-    rows: &Rows,
-    kept: &Run,
-) -> bool
-    requires { IsReadFor plan.now.net rows.now }
-{
-    match run(rt, alloc, plan, rows, 1, 4096, &Open) {
-        Ok(whole) => same_run(kept, &whole),
-        Err(_) => false,
+    for v in 0..one.outputs.len() {
+        if !same_streams(one.outputs.get(v), other.outputs.get(v)) {
+            return false;
+        }
     }
+    true
 }
