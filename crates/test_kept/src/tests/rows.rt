@@ -60,22 +60,31 @@ fn edits_come_back(alloc: Global, plan: &Plan, rows: &mut Rows) -> Result<bool, 
     Ok(copied? && so?)
 }
 
-fn rows_come_back<R: Threads + Sync>(rt: &R, alloc: Global) -> Result<bool, OutOfMemory> {
-    let plan = plan_of(alloc, MODEL)?;
-    let so = match read_trace(rt, alloc, 1, TRACE, &plan.net) {
+// The same of the rows of the trace.
+fn rows_come_back<R: Threads + Sync>(
+    rt: &R,
+    alloc: Global,
+    plan: &Plan,
+) -> Result<bool, OutOfMemory> {
+    match read_trace(rt, alloc, 1, TRACE, &plan.net) {
         Ok(mut rows) => {
-            let so = edits_come_back(alloc, &plan, &mut rows);
+            let so = edits_come_back(alloc, plan, &mut rows);
             drop(rows);
             so
         }
         Err(_) => Err(OutOfMemory),
-    };
+    }
+}
+
+fn all_come_back<R: Threads + Sync>(rt: &R, alloc: Global) -> Result<bool, OutOfMemory> {
+    let plan = plan_of(alloc, MODEL)?;
+    let so = rows_come_back(rt, alloc, &plan);
     drop(plan);
     so
 }
 
 #[test]
 fn edited_rows_come_back(rt: HostRuntime) -> Result<(), Fail> {
-    assert!(rt; rows_come_back(&rt, rt.alloc())?);
+    assert!(rt; all_come_back(&rt, rt.alloc())?);
     Ok(())
 }
