@@ -1,4 +1,4 @@
-use Rattle.std.proofs.Common.{◌≡◌, ◌+◌, ◌*◌, ◌<◌, ◌≤◌, ℕ, zero, suc, List, [], ◌∷◌, length, get_or, min, refl, subst, sym, arith}
+use Rattle.std.proofs.Common.{◌≡◌, ◌+◌, ◌*◌, ◌<◌, ℕ, zero, suc, List, [], ◌∷◌, get_or, min, refl, subst, sym, arith}
 use Rattle.mq_redo.specs.Doing.{AreStaying}
 use Rattle.mq_scan.specs.Folds.{fold_to}
 use Rattle.test_kept.proofs.tests.calls.asked_behind.Goals as goal
