@@ -13,19 +13,18 @@ use std::sync::ledger::{Blank, Ledger};
 use std::test::Fail;
 use std::thread::Threads;
 
-// What comes of a text of edits: how many blocks come from the first difference on, and how many there are; or why it isn't made.
-#[derive(Clone, Copy, PartialEq, Eq)]
-enum Made {
-    Again(u64, u64),
-    Edits(EditFault),
-    Run(RunFault),
-}
+// What comes of a text of edits: why it isn't read, or else why its edits aren't made, or how much is done again.
+type Made = Result<Result<Redone, RunFault>, EditFault>;
 
-fn plan_of(alloc: Global, text: &[u8]) -> Result<Plan, OutOfMemory> {
-    match read_model(alloc, text) {
-        Ok(plan) => Ok(plan),
-        Err(_) => Err(OutOfMemory),
-    }
+// A text of edits, and what comes of it; how many rows there are then, and as many visits to the desk; and the times of some rows.
+#[derive(Clone, Copy)]
+struct Step<'a> {
+    text: &'a [u8],
+    made: Made,
+    count: usize,
+    from: usize,
+    to: usize,
+    times: &'a [u64],
 }
 
 // The run of a trace, for 4 workers and blocks of 64 jobs.
@@ -65,13 +64,12 @@ fn edit_with<R: Threads + Sync, L: Ledger>(
     let _ = kept.run();
     let edits = match read_edits(alloc, text, &plan.net, kept.rows().source.len() as u32) {
         Ok(edits) => edits,
-        Err(fault) => return Made::Edits(fault),
+        Err(fault) => return Err(fault),
     };
     let mut steps = Steps::<L>::new(blank);
-    match kept.edit(rt, alloc, &edits, &mut steps) {
-        Ok(Redone { again, all }) => Made::Again(again, all),
-        Err(fault) => Made::Run(fault),
-    }
+    let made = kept.edit(rt, alloc, &edits, &mut steps);
+    drop(edits);
+    Ok(made)
 }
 
 // The same with a counter that nothing reads.
@@ -88,43 +86,6 @@ fn edited<R: Threads + Sync>(
     edit_with::<R, Brand>(rt, alloc, plan, kept, text, Blank::new(1))
 }
 
-// The example of the documentation of `mq_edit`.
-#[test]
-fn a_kept_run_gets_a_job_more(rt: HostRuntime) -> Result<(), Fail> {
-    let alloc = rt.alloc();
-    let plan = plan_of(alloc, MODEL)?;
-    let mut kept = kept_of(&rt, alloc, &plan, TRACE)?;
-    let made = edited(&rt, alloc, &plan, &mut kept, b"add src 3 2\n");
-    assert!(rt; made == Made::Again(2, 2));
-    assert!(rt; kept.rows().time.as_slice() == [0, 1, 2, 3].as_slice());
-    Ok(())
-}
-
-// 200 jobs, who come at 0, 10 and so on, and are served for a tick each. The 150th stands in the third of four blocks.
-#[test]
-fn a_row_of_two_hundred_is_edited(rt: HostRuntime) -> Result<(), Fail> {
-    let alloc = rt.alloc();
-    let mut trace = String::from_str(alloc, "source,time,d\n")?;
-    for at in 0..200u64 {
-        trace.push_str(&format!(in alloc; "src,{},1\n", 10 * at)?)?;
-    }
-    let plan = plan_of(alloc, MODEL)?;
-    let mut kept = kept_of(&rt, alloc, &plan, trace.as_bytes())?;
-    let made = edited(&rt, alloc, &plan, &mut kept, b"set 150 src 1490 5");
-    assert!(rt; made == Made::Again(2, 8));
-    let made = edited(&rt, alloc, &plan, &mut kept, b"set 201 src 0 1");
-    assert!(rt; made == Made::Edits(EditFault::UnknownRow { line: 1 }));
-    // what is there already changes nothing
-    let made = edited(&rt, alloc, &plan, &mut kept, b"set 150 src 1490 5");
-    assert!(rt; made == Made::Again(0, 8));
-    // the 65th job is the first of the second block
-    let made = edited(&rt, alloc, &plan, &mut kept, b"set 65 src 641 1");
-    assert!(rt; made == Made::Again(6, 8));
-    let made = edited(&rt, alloc, &plan, &mut kept, b"set 64 src 631 1");
-    assert!(rt; made == Made::Again(8, 8));
-    Ok(())
-}
-
 fn visits_to_the_desk(kept: &Kept) -> usize {
     match kept.run().visits.as_slice().get(1) {
         Some(visits) => visits.fate.len(),
@@ -132,24 +93,207 @@ fn visits_to_the_desk(kept: &Kept) -> usize {
     }
 }
 
+// Whether the rows and the visits of a kept run are these.
+fn stands_so(kept: &Kept, step: &Step<'_>) -> bool {
+    let times = kept.rows().time.as_slice();
+    times.len() == step.count
+        && visits_to_the_desk(kept) == step.count
+        && match times.get(step.from..step.to) {
+            Some(some) => some == step.times,
+            None => false,
+        }
+}
+
+// Whether the steps go so in a kept run, one after another.
+fn all_go_so<R: Threads + Sync>(
+    rt: &R,
+    alloc: Global,
+    plan: &Plan,
+    kept: &mut Kept,
+    steps: &[Step<'_>],
+) -> bool
+    requires plan { kept.old.plan ≡ plan.now }
+{
+    for step in steps {
+        let made = edited(rt, alloc, plan, kept, step.text);
+        if made != step.made || !stands_so(kept, step) {
+            return false;
+        }
+    }
+    true
+}
+
+// The same behind the run of a trace.
+fn go_so_behind<R: Threads + Sync>(
+    rt: &R,
+    alloc: Global,
+    plan: &Plan,
+    trace: &[u8],
+    steps: &[Step<'_>],
+) -> Result<bool, OutOfMemory> {
+    let mut kept = kept_of(rt, alloc, plan, trace)?;
+    let so = all_go_so(rt, alloc, plan, &mut kept, steps);
+    drop(kept);
+    Ok(so)
+}
+
+// The same for the plan of a model.
+fn go_so<R: Threads + Sync>(
+    rt: &R,
+    alloc: Global,
+    model: &[u8],
+    trace: &[u8],
+    steps: &[Step<'_>],
+) -> Result<bool, OutOfMemory> {
+    match read_model(alloc, model) {
+        Ok(plan) => {
+            let so = go_so_behind(rt, alloc, &plan, trace, steps);
+            drop(plan);
+            so
+        }
+        Err(_) => Err(OutOfMemory),
+    }
+}
+
+// The example of the documentation of `mq_edit`.
+const ONE_MORE: &[Step<'static>] = &[Step {
+    text: b"add src 3 2\n",
+    made: Ok(Ok(Redone { again: 2, all: 2 })),
+    count: 4,
+    from: 0,
+    to: 4,
+    times: &[0, 1, 2, 3],
+}];
+
+#[test]
+fn a_kept_run_gets_a_job_more(rt: HostRuntime) -> Result<(), Fail> {
+    assert!(rt; go_so(&rt, rt.alloc(), MODEL, TRACE, ONE_MORE)?);
+    Ok(())
+}
+
+// The 150th of two hundred jobs stands in the third of four blocks.
+const OF_TWO_HUNDRED: &[Step<'static>] = &[
+    Step {
+        text: b"set 150 src 1490 5",
+        made: Ok(Ok(Redone { again: 2, all: 8 })),
+        count: 200,
+        from: 149,
+        to: 150,
+        times: &[1490],
+    },
+    Step {
+        text: b"set 201 src 0 1",
+        made: Err(EditFault::UnknownRow { line: 1 }),
+        count: 200,
+        from: 198,
+        to: 200,
+        times: &[1980, 1990],
+    },
+    // what is there already changes nothing
+    Step {
+        text: b"set 150 src 1490 5",
+        made: Ok(Ok(Redone { again: 0, all: 8 })),
+        count: 200,
+        from: 149,
+        to: 150,
+        times: &[1490],
+    },
+    // the 65th job is the first of the second block
+    Step {
+        text: b"set 65 src 641 1",
+        made: Ok(Ok(Redone { again: 6, all: 8 })),
+        count: 200,
+        from: 63,
+        to: 66,
+        times: &[630, 641, 650],
+    },
+    Step {
+        text: b"set 64 src 631 1",
+        made: Ok(Ok(Redone { again: 8, all: 8 })),
+        count: 200,
+        from: 62,
+        to: 65,
+        times: &[620, 631, 641],
+    },
+];
+
+// The row of a job that comes at ten times this number, below 1,000, and is served for a tick.
+fn row(number: u32) -> [u8; 11] {
+    [
+        b's',
+        b'r',
+        b'c',
+        b',',
+        b'0' + (number / 100 % 10) as u8,
+        b'0' + (number / 10 % 10) as u8,
+        b'0' + (number % 10) as u8,
+        b'0',
+        b',',
+        b'1',
+        b'\n',
+    ]
+}
+
+// Whether the steps go so behind a run of 200 jobs, whose trace is written here.
+fn go_so_in_many<R: Threads + Sync>(
+    rt: &R,
+    alloc: Global,
+    trace: &mut Vec<u8>,
+    steps: &[Step<'_>],
+) -> Result<bool, OutOfMemory> {
+    trace.extend_from_slice(b"source,time,d\n")?;
+    for number in 0..200 {
+        trace.extend_from_slice(&row(number))?;
+    }
+    go_so(rt, alloc, MODEL, trace, steps)
+}
+
+// The same with a text of its own.
+fn go_so_in_two_hundred<R: Threads + Sync>(
+    rt: &R,
+    alloc: Global,
+    steps: &[Step<'_>],
+) -> Result<bool, OutOfMemory> {
+    let mut trace = Vec::new(alloc);
+    let so = go_so_in_many(rt, alloc, &mut trace, steps);
+    drop(trace);
+    so
+}
+
+#[test]
+fn a_row_of_two_hundred_is_edited(rt: HostRuntime) -> Result<(), Fail> {
+    assert!(rt; go_so_in_two_hundred(&rt, rt.alloc(), OF_TWO_HUNDRED)?);
+    Ok(())
+}
+
+const BOUND: &[u8] = b"model 1\nbound 9\nsource src\nserver desk d from src\n";
+
+// An edit that is refused leaves the run as it was, and what comes behind it is made.
+const LATE: &[Step<'static>] = &[
+    Step {
+        text: b"add src 3 2\n",
+        made: Ok(Err(RunFault::Past(PastFault {
+            node: 1,
+            position: 3,
+            time: 10,
+        }))),
+        count: 3,
+        from: 0,
+        to: 3,
+        times: &[0, 1, 2],
+    },
+    Step {
+        text: b"add src 3 1\n",
+        made: Ok(Ok(Redone { again: 2, all: 2 })),
+        count: 4,
+        from: 0,
+        to: 4,
+        times: &[0, 1, 2, 3],
+    },
+];
+
 #[test]
 fn a_refused_edit_leaves_the_run(rt: HostRuntime) -> Result<(), Fail> {
-    let alloc = rt.alloc();
-    let plan = plan_of(
-        alloc,
-        b"model 1\nbound 9\nsource src\nserver desk d from src\n",
-    )?;
-    let mut kept = kept_of(&rt, alloc, &plan, TRACE)?;
-    let late = PastFault {
-        node: 1,
-        position: 3,
-        time: 10,
-    };
-    let made = edited(&rt, alloc, &plan, &mut kept, b"add src 3 2\n");
-    assert!(rt; made == Made::Run(RunFault::Past(late)));
-    assert!(rt; kept.rows().time.as_slice() == [0, 1, 2].as_slice());
-    assert!(rt; visits_to_the_desk(&kept) == 3);
-    let made = edited(&rt, alloc, &plan, &mut kept, b"add src 3 1\n");
-    assert!(rt; made == Made::Again(2, 2));
+    assert!(rt; go_so(&rt, rt.alloc(), BOUND, TRACE, LATE)?);
     Ok(())
 }
