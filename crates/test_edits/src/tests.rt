@@ -19,30 +19,52 @@ const REPORT: &[u8] = b"mpsim report 2\njobs 4 span 10\n\
     exit desk.0 4 sojourn 21\n\
     again 2 of 2 blocks\n";
 
-// A call: its words; the texts of the model, the trace and the edits; the number of the read that fails, and of the put of
-// the report, from 1, where of number 0 none does. And how it ends, with its status, and what the two outputs gained.
+// A line, so many times.
+#[derive(Clone, Copy)]
+struct Repeated<'a> {
+    line: &'a [u8],
+    count: u32,
+}
+
+const NO_MORE: Repeated<'static> = Repeated {
+    line: b"",
+    count: 0,
+};
+
+// A call: its words; the texts of the model, the trace and the edits, and what comes behind the latter two; and the number of the
+// read that fails, from 1, where of number 0 none does. And how it ends, with its status, and what the two outputs gain.
 #[derive(Clone, Copy)]
 struct Case<'a> {
     words: &'a [&'a str],
     model: &'a [u8],
     trace: &'a [u8],
+    more_rows: Repeated<'a>,
     edits: &'a [u8],
+    more_edits: Repeated<'a>,
     read: u64,
-    put: u64,
     outcome: EditOutcome,
     status: u8,
     out: &'a [u8],
     err: &'a [u8],
 }
 
+fn text_of(alloc: Global, head: &[u8], more: &Repeated<'_>) -> Result<Vec<u8>, OutOfMemory> {
+    let mut text = Vec::from_slice(alloc, head)?;
+    for _ in 0..more.count {
+        text.extend_from_slice(more.line)?;
+    }
+    Ok(text)
+}
+
 fn push_file(
     alloc: Global,
     files: &mut Vec<MemFile>,
     name: &str,
-    text: &[u8],
+    head: &[u8],
+    more: &Repeated<'_>,
 ) -> Result<(), OutOfMemory> {
     let name = String::from_str(alloc, name)?;
-    let bytes = Vec::from_slice(alloc, text)?;
+    let bytes = text_of(alloc, head, more)?;
     files.push(MemFile { name, bytes })?;
     Ok(())
 }
@@ -53,57 +75,48 @@ fn push_files(
     files: &mut Vec<MemFile>,
     case: &Case<'_>,
 ) -> Result<Vec<u64>, OutOfMemory> {
-    push_file(alloc, files, "m", case.model)?;
-    push_file(alloc, files, "t", case.trace)?;
-    push_file(alloc, files, "e", case.edits)?;
+    push_file(alloc, files, "m", case.model, &NO_MORE)?;
+    push_file(alloc, files, "t", case.trace, &case.more_rows)?;
+    push_file(alloc, files, "e", case.edits, &case.more_edits)?;
     Ok(Vec::from_slice(alloc, &[case.read])?)
 }
 
-// A sink with room for all that comes, whose puts take 16 bytes each, and of which the put of this number fails.
-fn sink(alloc: Global, failing: u64) -> Result<MemSink, OutOfMemory> {
-    let mut sink = MemSink::new(alloc, 16, Vec::from_slice(alloc, &[failing])?);
-    sink.reserve(1024)?;
-    Ok(sink)
-}
-
-// Whether the call ends so, over these files and with this sink for the report.
-fn ends_with<R: Threads + Sync>(
-    rt: &R,
-    alloc: Global,
-    case: &Case<'_>,
-    files: &mut MemFiles,
-    out: &mut MemSink,
-) -> Result<bool, OutOfMemory> {
-    let mut err = sink(alloc, 0)?;
-    let outcome = edit_trace(rt, alloc, case.words, files, out, &mut err);
-    let so = outcome == case.outcome
-        && outcome.status() == case.status
-        && out.bytes() == case.out
-        && err.bytes() == case.err;
-    drop(err);
-    Ok(so)
-}
-
-// The same with a sink of its own.
+// Whether the call ends so over these files, where the put of this number on the report's sink fails and the sink then has this.
+// Puts take 16 bytes each, and there is room for all that comes.
 fn ends_over<R: Threads + Sync>(
     rt: &R,
     alloc: Global,
-    case: &Case<'_>,
     files: &mut MemFiles,
+    case: &Case<'_>,
+    put: u64,
+    written: &[u8],
 ) -> Result<bool, OutOfMemory> {
-    let mut out = sink(alloc, case.put)?;
-    let so = ends_with(rt, alloc, case, files, &mut out);
+    let mut out = MemSink::new(alloc, 16, Vec::from_slice(alloc, &[put])?);
+    out.reserve(1024)?;
+    let mut err = MemSink::new(alloc, 16, Vec::new(alloc));
+    let outcome = edit_trace(rt, alloc, case.words, files, &mut out, &mut err);
+    let so = outcome == case.outcome
+        && outcome.status() == case.status
+        && out.bytes() == written
+        && err.bytes() == case.err;
+    drop(err);
     drop(out);
-    so
+    Ok(so)
 }
 
-// Whether the call ends so.
-fn ends<R: Threads + Sync>(rt: &R, alloc: Global, case: &Case<'_>) -> Result<bool, OutOfMemory> {
+// The same over files of its own.
+fn ends<R: Threads + Sync>(
+    rt: &R,
+    alloc: Global,
+    case: &Case<'_>,
+    put: u64,
+    written: &[u8],
+) -> Result<bool, OutOfMemory> {
     let mut files = Vec::new(alloc);
     match push_files(alloc, &mut files, case) {
         Ok(failing) => {
             let mut files = MemFiles::new(files, failing);
-            let so = ends_over(rt, alloc, case, &mut files);
+            let so = ends_over(rt, alloc, &mut files, case, put, written);
             drop(files);
             so
         }
@@ -114,14 +127,14 @@ fn ends<R: Threads + Sync>(rt: &R, alloc: Global, case: &Case<'_>) -> Result<boo
     }
 }
 
-// Whether each of these calls ends so.
+// Whether each of these calls ends so, where no put fails.
 fn all_end<R: Threads + Sync>(
     rt: &R,
     alloc: Global,
     cases: &[Case<'_>],
 ) -> Result<bool, OutOfMemory> {
     for case in cases {
-        if !ends(rt, alloc, case)? {
+        if !ends(rt, alloc, case, 0, case.out)? {
             return Ok(false);
         }
     }
@@ -132,22 +145,122 @@ const ADDED: Case<'static> = Case {
     words: &["m", "t", "e"],
     model: MODEL,
     trace: TRACE,
+    more_rows: NO_MORE,
     edits: b"add src 3 2\n",
+    more_edits: NO_MORE,
     read: 0,
-    put: 0,
     outcome: EditOutcome::Done,
     status: 0,
     out: REPORT,
     err: b"",
 };
 
+// Behind 64 bytes it is the rest of the greatest text of edits, which has 16,777,216 bytes.
+const SPACES: Repeated<'static> = Repeated {
+    line: b"                                                                ",
+    count: 262_143,
+};
+
+const REPORTED: &[Case<'static>] = &[
+    ADDED,
+    Case {
+        edits: b"add src 3 2                                                     ",
+        more_edits: SPACES,
+        ..ADDED
+    },
+];
+
+const UNWRITTEN: Case<'static> = Case {
+    outcome: EditOutcome::WriteFault,
+    status: 7,
+    err: b"mpedit: cannot write the report\n",
+    ..ADDED
+};
+
+// How many bytes stand before each put of the report: 264 before the last line, which is put by itself.
+const BEFORE: &[usize] = &[
+    0, 16, 32, 48, 64, 80, 96, 112, 128, 144, 160, 176, 192, 208, 224, 240, 256, 264, 280,
+];
+
+// Whether a first part is written where a put fails, whichever does.
+fn all_puts_fail<R: Threads + Sync>(rt: &R, alloc: Global) -> Result<bool, OutOfMemory> {
+    for at in 0..BEFORE.len() {
+        let Some(first) = REPORT.get(..BEFORE[at]) else {
+            return Ok(false);
+        };
+        if !ends(rt, alloc, &UNWRITTEN, at as u64 + 1, first)? {
+            return Ok(false);
+        }
+    }
+    Ok(true)
+}
+
 #[test]
 fn an_edited_trace_is_reported(rt: HostRuntime) -> Result<(), Fail> {
-    assert!(rt; all_end(&rt, rt.alloc(), &[ADDED])?);
+    assert!(rt; all_end(&rt, rt.alloc(), REPORTED)?);
+    assert!(rt; all_puts_fail(&rt, rt.alloc())?);
     Ok(())
 }
 
-const UNREAD: &[Case<'static>] = &[
+// A text of edits that is refused in its first line.
+const REFUSED: Case<'static> = Case {
+    status: 10,
+    out: b"",
+    err: b"mpedit: edits line 1: not allowed\n",
+    ..ADDED
+};
+
+// Five forks in a row make 1,024 jobs of one. So 1,025 rows are too many visits.
+const FORKS: &[u8] =
+    b"model 2\nsource s\nfork a 4 from s\nfork b 4 from a a.1 a.2 a.3\nfork c 4 from b b.1 b.2 b.3\n\
+    fork d 4 from c c.1 c.2 c.3\nfork e 4 from d d.1 d.2 d.3\ndelay w =0 from e e.1 e.2 e.3\n";
+
+const OVER: OverFault = OverFault {
+    node: 6,
+    count: 1_049_600,
+};
+
+// The trace has so many rows.
+const OVER_BEFORE: Case<'static> = Case {
+    model: FORKS,
+    trace: b"source,time\n",
+    more_rows: Repeated {
+        line: b"s,0\n",
+        count: 1025,
+    },
+    edits: b"",
+    outcome: EditOutcome::Over {
+        edited: false,
+        fault: OVER,
+    },
+    status: 9,
+    out: b"",
+    err: b"mpedit: node w has 1049600 visits before the edits\n",
+    ..ADDED
+};
+
+const USAGE: Case<'static> = Case {
+    outcome: EditOutcome::Usage,
+    status: 2,
+    out: b"",
+    err: b"mpedit: usage: mpedit MODEL TRACE EDITS\n",
+    ..ADDED
+};
+
+const FAULTS: &[Case<'static>] = &[
+    Case {
+        words: &["m", "t"],
+        ..USAGE
+    },
+    Case {
+        words: &["m", "t", "-e"],
+        ..USAGE
+    },
+    Case {
+        words: &["m", "t", "e", "e"],
+        ..USAGE
+    },
+    // Each of three reads fails.
     Case {
         read: 1,
         outcome: EditOutcome::ReadFault { file: 0 },
@@ -172,54 +285,6 @@ const UNREAD: &[Case<'static>] = &[
         err: b"mpedit: cannot read file 3\n",
         ..ADDED
     },
-];
-
-#[test]
-fn a_read_that_fails_is_named(rt: HostRuntime) -> Result<(), Fail> {
-    assert!(rt; all_end(&rt, rt.alloc(), UNREAD)?);
-    Ok(())
-}
-
-// How many bytes stand before each put of the report: 264 before the last line, which is put by itself.
-const BEFORE: [usize; 19] = [
-    0, 16, 32, 48, 64, 80, 96, 112, 128, 144, 160, 176, 192, 208, 224, 240, 256, 264, 280,
-];
-
-fn all_puts_fail<R: Threads + Sync>(rt: &R, alloc: Global) -> Result<bool, OutOfMemory> {
-    for at in 0..19 {
-        let Some(out) = REPORT.get(..BEFORE[at]) else {
-            return Ok(false);
-        };
-        let case = Case {
-            put: at as u64 + 1,
-            outcome: EditOutcome::WriteFault,
-            status: 7,
-            out,
-            err: b"mpedit: cannot write the report\n",
-            ..ADDED
-        };
-        if !ends(rt, alloc, &case)? {
-            return Ok(false);
-        }
-    }
-    Ok(true)
-}
-
-#[test]
-fn a_put_that_fails_leaves_a_first_part(rt: HostRuntime) -> Result<(), Fail> {
-    assert!(rt; all_puts_fail(&rt, rt.alloc())?);
-    Ok(())
-}
-
-// A text of edits that is refused in its first line.
-const REFUSED: Case<'static> = Case {
-    status: 10,
-    out: b"",
-    err: b"mpedit: edits line 1: not allowed\n",
-    ..ADDED
-};
-
-const MISREAD: &[Case<'static>] = &[
     Case {
         edits: b"\nadd src 3\n",
         outcome: EditOutcome::Edits(EditFault::BadLine { line: 2, word: 4 }),
@@ -247,51 +312,15 @@ const MISREAD: &[Case<'static>] = &[
         err: b"mpedit: edits line 2: not allowed\n",
         ..REFUSED
     },
-];
-
-#[test]
-fn faults_of_edits_are_told(rt: HostRuntime) -> Result<(), Fail> {
-    assert!(rt; all_end(&rt, rt.alloc(), MISREAD)?);
-    Ok(())
-}
-
-// Whether the greatest text of edits is read, and one of a byte more refused: spaces behind this edit.
-fn spaces_end<R: Threads + Sync>(
-    rt: &R,
-    alloc: Global,
-    edits: &mut Vec<u8>,
-) -> Result<bool, OutOfMemory> {
-    edits.extend_from_slice(b"add src 3 2")?;
-    edits.resize(16_777_216, b' ')?;
-    let read = Case { edits, ..ADDED };
-    if !ends(rt, alloc, &read)? {
-        return Ok(false);
-    }
-    edits.push(b' ')?;
-    let refused = Case {
-        edits,
+    // A byte more than the greatest text.
+    Case {
+        edits: b"add src 3 2                                                      ",
+        more_edits: SPACES,
         outcome: EditOutcome::Edits(EditFault::TooLong),
         err: b"mpedit: edits: too long\n",
         ..REFUSED
-    };
-    ends(rt, alloc, &refused)
-}
-
-fn longest_texts_end<R: Threads + Sync>(rt: &R, alloc: Global) -> Result<bool, OutOfMemory> {
-    let mut edits = Vec::new(alloc);
-    let so = spaces_end(rt, alloc, &mut edits);
-    drop(edits);
-    so
-}
-
-#[test]
-fn a_text_of_edits_has_a_greatest_length(rt: HostRuntime) -> Result<(), Fail> {
-    assert!(rt; longest_texts_end(&rt, rt.alloc())?);
-    Ok(())
-}
-
-// The desk's last job leaves at 8, and the one that is added at 10.
-const PAST: &[Case<'static>] = &[
+    },
+    // The desk's last job leaves at 8, and the one that is added at 10.
     Case {
         model: b"model 1\nbound 7\nsource src\nserver desk d from src\n",
         outcome: EditOutcome::Past {
@@ -322,127 +351,28 @@ const PAST: &[Case<'static>] = &[
         err: b"mpedit: node desk position 3 passes the bound at time 10 after the edits\n",
         ..ADDED
     },
-];
-
-#[test]
-fn a_run_that_passes_the_bound_is_told(rt: HostRuntime) -> Result<(), Fail> {
-    assert!(rt; all_end(&rt, rt.alloc(), PAST)?);
-    Ok(())
-}
-
-// Five forks in a row make 1,024 jobs of one. So 1,025 rows are too many visits.
-const FORKS: &[u8] =
-    b"model 2\nsource s\nfork a 4 from s\nfork b 4 from a a.1 a.2 a.3\nfork c 4 from b b.1 b.2 b.3\n\
-    fork d 4 from c c.1 c.2 c.3\nfork e 4 from d d.1 d.2 d.3\ndelay w =0 from e e.1 e.2 e.3\n";
-
-const OVER: OverFault = OverFault {
-    node: 6,
-    count: 1_049_600,
-};
-
-// Its trace has too many rows.
-const OVER_BEFORE: Case<'static> = Case {
-    model: FORKS,
-    outcome: EditOutcome::Over {
-        edited: false,
-        fault: OVER,
-    },
-    status: 9,
-    out: b"",
-    err: b"mpedit: node w has 1049600 visits before the edits\n",
-    ..ADDED
-};
-
-// Its trace and the rows that edits add are too many.
-const OVER_AFTER: Case<'static> = Case {
-    outcome: EditOutcome::Over {
-        edited: true,
-        fault: OVER,
-    },
-    err: b"mpedit: node w has 1049600 visits after the edits\n",
-    ..OVER_BEFORE
-};
-
-// Adds a head, and so many lines behind it.
-fn push_lines(text: &mut Vec<u8>, head: &[u8], line: &[u8], count: u32) -> Result<(), OutOfMemory> {
-    text.extend_from_slice(head)?;
-    for _ in 0..count {
-        text.extend_from_slice(line)?;
-    }
-    Ok(())
-}
-
-// Whether the call ends so over a trace of so many rows and as many edits that add one, whose texts are written here.
-fn texts_end<R: Threads + Sync>(
-    rt: &R,
-    alloc: Global,
-    trace: &mut Vec<u8>,
-    edits: &mut Vec<u8>,
-    rows: u32,
-    adds: u32,
-    case: Case<'_>,
-) -> Result<bool, OutOfMemory> {
-    push_lines(trace, b"source,time\n", b"s,0\n", rows)?;
-    push_lines(edits, b"", b"add s 0\n", adds)?;
-    ends(
-        rt,
-        alloc,
-        &Case {
-            trace,
-            edits,
-            ..case
+    // The trace has too many rows, or it has one and the edits add as many as are too many with it.
+    OVER_BEFORE,
+    Case {
+        more_rows: Repeated {
+            line: b"s,0\n",
+            count: 1,
         },
-    )
-}
-
-// The same with texts of its own.
-fn lines_end<R: Threads + Sync>(
-    rt: &R,
-    alloc: Global,
-    rows: u32,
-    adds: u32,
-    case: Case<'_>,
-) -> Result<bool, OutOfMemory> {
-    let mut trace = Vec::new(alloc);
-    let mut edits = Vec::new(alloc);
-    let so = texts_end(rt, alloc, &mut trace, &mut edits, rows, adds, case);
-    drop(edits);
-    drop(trace);
-    so
-}
-
-#[test]
-fn a_run_with_too_many_visits_is_told(rt: HostRuntime) -> Result<(), Fail> {
-    assert!(rt; lines_end(&rt, rt.alloc(), 1025, 0, OVER_BEFORE)?);
-    assert!(rt; lines_end(&rt, rt.alloc(), 1, 1024, OVER_AFTER)?);
-    Ok(())
-}
-
-const USAGE: Case<'static> = Case {
-    outcome: EditOutcome::Usage,
-    status: 2,
-    out: b"",
-    err: b"mpedit: usage: mpedit MODEL TRACE EDITS\n",
-    ..ADDED
-};
-
-const MISUSED: &[Case<'static>] = &[
-    Case {
-        words: &["m", "t"],
-        ..USAGE
-    },
-    Case {
-        words: &["m", "t", "-e"],
-        ..USAGE
-    },
-    Case {
-        words: &["m", "t", "e", "e"],
-        ..USAGE
+        more_edits: Repeated {
+            line: b"add s 0\n",
+            count: 1024,
+        },
+        outcome: EditOutcome::Over {
+            edited: true,
+            fault: OVER,
+        },
+        err: b"mpedit: node w has 1049600 visits after the edits\n",
+        ..OVER_BEFORE
     },
 ];
 
 #[test]
-fn words_are_refused(rt: HostRuntime) -> Result<(), Fail> {
-    assert!(rt; all_end(&rt, rt.alloc(), MISUSED)?);
+fn faults_are_told(rt: HostRuntime) -> Result<(), Fail> {
+    assert!(rt; all_end(&rt, rt.alloc(), FAULTS)?);
     Ok(())
 }

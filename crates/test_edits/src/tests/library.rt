@@ -27,6 +27,15 @@ struct Step<'a> {
     times: &'a [u64],
 }
 
+// A model; a trace, and so many rows behind it; and steps, one after another.
+#[derive(Clone, Copy)]
+struct History<'a> {
+    model: &'a [u8],
+    trace: &'a [u8],
+    jobs: u32,
+    steps: &'a [Step<'a>],
+}
+
 // The run of a trace, for 4 workers and blocks of 64 jobs.
 fn kept_of<'p, R: Threads + Sync>(
     rt: &R,
@@ -86,18 +95,13 @@ fn edited<R: Threads + Sync>(
     edit_with::<R, Brand>(rt, alloc, plan, kept, text, Blank::new(1))
 }
 
-fn visits_to_the_desk(kept: &Kept) -> usize {
-    match kept.run().visits.as_slice().get(1) {
-        Some(visits) => visits.fate.len(),
-        None => 0,
-    }
-}
-
-// Whether the rows and the visits of a kept run are these.
+// Whether the rows and the visits of a kept run are these, at two nodes.
 fn stands_so(kept: &Kept, step: &Step<'_>) -> bool {
     let times = kept.rows().time.as_slice();
+    let run = kept.run();
     times.len() == step.count
-        && visits_to_the_desk(kept) == step.count
+        && run.visits.len() == 2
+        && run.visits.get(1).fate.len() == step.count
         && match times.get(step.from..step.to) {
             Some(some) => some == step.times,
             None => false,
@@ -123,100 +127,6 @@ fn all_go_so<R: Threads + Sync>(
     true
 }
 
-// The same behind the run of a trace.
-fn go_so_behind<R: Threads + Sync>(
-    rt: &R,
-    alloc: Global,
-    plan: &Plan,
-    trace: &[u8],
-    steps: &[Step<'_>],
-) -> Result<bool, OutOfMemory> {
-    let mut kept = kept_of(rt, alloc, plan, trace)?;
-    let so = all_go_so(rt, alloc, plan, &mut kept, steps);
-    drop(kept);
-    Ok(so)
-}
-
-// The same for the plan of a model.
-fn go_so<R: Threads + Sync>(
-    rt: &R,
-    alloc: Global,
-    model: &[u8],
-    trace: &[u8],
-    steps: &[Step<'_>],
-) -> Result<bool, OutOfMemory> {
-    match read_model(alloc, model) {
-        Ok(plan) => {
-            let so = go_so_behind(rt, alloc, &plan, trace, steps);
-            drop(plan);
-            so
-        }
-        Err(_) => Err(OutOfMemory),
-    }
-}
-
-// The example of the documentation of `mq_edit`.
-const ONE_MORE: &[Step<'static>] = &[Step {
-    text: b"add src 3 2\n",
-    made: Ok(Ok(Redone { again: 2, all: 2 })),
-    count: 4,
-    from: 0,
-    to: 4,
-    times: &[0, 1, 2, 3],
-}];
-
-#[test]
-fn a_kept_run_gets_a_job_more(rt: HostRuntime) -> Result<(), Fail> {
-    assert!(rt; go_so(&rt, rt.alloc(), MODEL, TRACE, ONE_MORE)?);
-    Ok(())
-}
-
-// The 150th of two hundred jobs stands in the third of four blocks.
-const OF_TWO_HUNDRED: &[Step<'static>] = &[
-    Step {
-        text: b"set 150 src 1490 5",
-        made: Ok(Ok(Redone { again: 2, all: 8 })),
-        count: 200,
-        from: 149,
-        to: 150,
-        times: &[1490],
-    },
-    Step {
-        text: b"set 201 src 0 1",
-        made: Err(EditFault::UnknownRow { line: 1 }),
-        count: 200,
-        from: 198,
-        to: 200,
-        times: &[1980, 1990],
-    },
-    // what is there already changes nothing
-    Step {
-        text: b"set 150 src 1490 5",
-        made: Ok(Ok(Redone { again: 0, all: 8 })),
-        count: 200,
-        from: 149,
-        to: 150,
-        times: &[1490],
-    },
-    // the 65th job is the first of the second block
-    Step {
-        text: b"set 65 src 641 1",
-        made: Ok(Ok(Redone { again: 6, all: 8 })),
-        count: 200,
-        from: 63,
-        to: 66,
-        times: &[630, 641, 650],
-    },
-    Step {
-        text: b"set 64 src 631 1",
-        made: Ok(Ok(Redone { again: 8, all: 8 })),
-        count: 200,
-        from: 62,
-        to: 65,
-        times: &[620, 631, 641],
-    },
-];
-
 // The row of a job that comes at ten times this number, below 1,000, and is served for a tick.
 fn row(number: u32) -> [u8; 11] {
     [
@@ -234,66 +144,143 @@ fn row(number: u32) -> [u8; 11] {
     ]
 }
 
-// Whether the steps go so behind a run of 200 jobs, whose trace is written here.
-fn go_so_in_many<R: Threads + Sync>(
+// Whether a history is so, whose trace is added to this text.
+fn is_so_behind<R: Threads + Sync>(
     rt: &R,
     alloc: Global,
-    trace: &mut Vec<u8>,
-    steps: &[Step<'_>],
+    plan: &Plan,
+    text: &mut Vec<u8>,
+    history: &History<'_>,
 ) -> Result<bool, OutOfMemory> {
-    trace.extend_from_slice(b"source,time,d\n")?;
-    for number in 0..200 {
-        trace.extend_from_slice(&row(number))?;
+    text.extend_from_slice(history.trace)?;
+    for number in 0..history.jobs {
+        text.extend_from_slice(&row(number))?;
     }
-    go_so(rt, alloc, MODEL, trace, steps)
+    let mut kept = kept_of(rt, alloc, plan, text)?;
+    let so = all_go_so(rt, alloc, plan, &mut kept, history.steps);
+    drop(kept);
+    Ok(so)
 }
 
-// The same with a text of its own.
-fn go_so_in_two_hundred<R: Threads + Sync>(
+// Whether a history is so.
+fn is_so<R: Threads + Sync>(
     rt: &R,
     alloc: Global,
-    steps: &[Step<'_>],
+    history: &History<'_>,
 ) -> Result<bool, OutOfMemory> {
-    let mut trace = Vec::new(alloc);
-    let so = go_so_in_many(rt, alloc, &mut trace, steps);
-    drop(trace);
-    so
+    match read_model(alloc, history.model) {
+        Ok(plan) => {
+            let mut text = Vec::new(alloc);
+            let so = is_so_behind(rt, alloc, &plan, &mut text, history);
+            drop(text);
+            drop(plan);
+            so
+        }
+        Err(_) => Err(OutOfMemory),
+    }
 }
 
-#[test]
-fn a_row_of_two_hundred_is_edited(rt: HostRuntime) -> Result<(), Fail> {
-    assert!(rt; go_so_in_two_hundred(&rt, rt.alloc(), OF_TWO_HUNDRED)?);
-    Ok(())
-}
-
-const BOUND: &[u8] = b"model 1\nbound 9\nsource src\nserver desk d from src\n";
-
-// An edit that is refused leaves the run as it was, and what comes behind it is made.
-const LATE: &[Step<'static>] = &[
-    Step {
+// The example of the documentation of `mq_edit`.
+const ONE_MORE: History<'static> = History {
+    model: MODEL,
+    trace: TRACE,
+    jobs: 0,
+    steps: &[Step {
         text: b"add src 3 2\n",
-        made: Ok(Err(RunFault::Past(PastFault {
-            node: 1,
-            position: 3,
-            time: 10,
-        }))),
-        count: 3,
-        from: 0,
-        to: 3,
-        times: &[0, 1, 2],
-    },
-    Step {
-        text: b"add src 3 1\n",
         made: Ok(Ok(Redone { again: 2, all: 2 })),
         count: 4,
         from: 0,
         to: 4,
         times: &[0, 1, 2, 3],
-    },
-];
+    }],
+};
+
+// 200 jobs, who come at 0, 10 and so on. The 150th stands in the third of four blocks.
+const TWO_HUNDRED: History<'static> = History {
+    model: MODEL,
+    trace: b"source,time,d\n",
+    jobs: 200,
+    steps: &[
+        Step {
+            text: b"set 150 src 1490 5",
+            made: Ok(Ok(Redone { again: 2, all: 8 })),
+            count: 200,
+            from: 149,
+            to: 150,
+            times: &[1490],
+        },
+        Step {
+            text: b"set 201 src 0 1",
+            made: Err(EditFault::UnknownRow { line: 1 }),
+            count: 200,
+            from: 198,
+            to: 200,
+            times: &[1980, 1990],
+        },
+        // what is there already changes nothing
+        Step {
+            text: b"set 150 src 1490 5",
+            made: Ok(Ok(Redone { again: 0, all: 8 })),
+            count: 200,
+            from: 149,
+            to: 150,
+            times: &[1490],
+        },
+        // the 65th job is the first of the second block
+        Step {
+            text: b"set 65 src 641 1",
+            made: Ok(Ok(Redone { again: 6, all: 8 })),
+            count: 200,
+            from: 63,
+            to: 66,
+            times: &[630, 641, 650],
+        },
+        Step {
+            text: b"set 64 src 631 1",
+            made: Ok(Ok(Redone { again: 8, all: 8 })),
+            count: 200,
+            from: 62,
+            to: 65,
+            times: &[620, 631, 641],
+        },
+    ],
+};
+
+// An edit that is refused leaves the run as it was, and what comes behind it is made.
+const LATE: History<'static> = History {
+    model: b"model 1\nbound 9\nsource src\nserver desk d from src\n",
+    trace: TRACE,
+    jobs: 0,
+    steps: &[
+        Step {
+            text: b"add src 3 2\n",
+            made: Ok(Err(RunFault::Past(PastFault {
+                node: 1,
+                position: 3,
+                time: 10,
+            }))),
+            count: 3,
+            from: 0,
+            to: 3,
+            times: &[0, 1, 2],
+        },
+        Step {
+            text: b"add src 3 1\n",
+            made: Ok(Ok(Redone { again: 2, all: 2 })),
+            count: 4,
+            from: 0,
+            to: 4,
+            times: &[0, 1, 2, 3],
+        },
+    ],
+};
+
+fn all_are_so<R: Threads + Sync>(rt: &R, alloc: Global) -> Result<bool, OutOfMemory> {
+    Ok(is_so(rt, alloc, &ONE_MORE)? && is_so(rt, alloc, &TWO_HUNDRED)? && is_so(rt, alloc, &LATE)?)
+}
 
 #[test]
-fn a_refused_edit_leaves_the_run(rt: HostRuntime) -> Result<(), Fail> {
-    assert!(rt; go_so(&rt, rt.alloc(), BOUND, TRACE, LATE)?);
+fn kept_runs_are_edited(rt: HostRuntime) -> Result<(), Fail> {
+    assert!(rt; all_are_so(&rt, rt.alloc())?);
     Ok(())
 }
