@@ -53,6 +53,21 @@ class Examples(Test):
         self.assertEqual(mpsim.edit(MODEL, TRACE, []).nodes, mpsim.run(MODEL, TRACE).nodes)
         added = mpsim.edit(DESK, [("door", 0, 4)], [mpsim.Add("door", 1, (2,)), mpsim.Set(2, "door", 3, (9,))])
         self.assertEqual((added.jobs, added["desk"].wait, added["desk"].busy), (2, 1, 13))
+        self.assertEqual(mpsim.edit(MODEL, TRACE, "").nodes, mpsim.run(MODEL, TRACE).nodes)
+        for edits in [mpsim.Set(10.0, "web", 20.0, (1.0, 1, 4, 1, 2))], ["set 10 web 20 1 1 4 1 2"]:
+            self.assertEqual("".join(mpsim.edit(MODEL, TRACE, edits).lines()), wanted)
+
+    def test_what_is_no_edit(self):
+        for edits, word in [
+            (change := mpsim.Set(10, "web", 20, (1, 1, 4, 1, 2)), "a list of Set and Add, and no Set"),
+            ([change._replace(values="11412")], "and no str: Set("),
+            ([mpsim.Add("web", 20, {"g": 1})], "and no dict: Add("),
+            ([mpsim.Add("web", 20, 1)], "and no int: Add("),
+            ([("web", 20)], "an edit is a Set, an Add or a line, and no tuple"),
+            (3, "and no int"),
+        ]:
+            with self.subTest(word), self.assertRaisesRegex(TypeError, word.replace("(", r"\(")):
+                mpsim.edit(MODEL, TRACE, edits)
 
     def test_visits_as_they_come(self):
         with mpsim.visits(MODEL, TRACE, workers=1, block=2) as reading:

@@ -26,7 +26,7 @@ class Set(NamedTuple):
     values: Tuple[int, ...] = ()
 
     def __str__(self):
-        return " ".join(map(str, ("set", self.record, self.source, self.time, *self.values)))
+        return " ".join(map(str, ("set", _whole(self.record), *_row_of(self))))
 
 
 class Add(NamedTuple):
@@ -42,7 +42,14 @@ class Add(NamedTuple):
     values: Tuple[int, ...] = ()
 
     def __str__(self):
-        return " ".join(map(str, ("add", self.source, self.time, *self.values)))
+        return " ".join(map(str, ("add", *_row_of(self))))
+
+
+def _row_of(edit):
+    """The words of an edit's row: the source, the time and the values."""
+    if isinstance(edit.values, (str, bytes, Mapping)) or not isinstance(edit.values, Iterable):
+        raise TypeError(f"the values of an edit are numbers, in the order of the model's columns, and no {type(edit.values).__name__}: {edit!r}")
+    return [edit.source, _whole(edit.time), *map(_whole, edit.values)]
 
 
 class Input:
@@ -166,8 +173,20 @@ def trace_input(value, model):
 
 
 def edits_input(value):
-    """Edits: a path, a text, or a list of Set and Add."""
-    return _given(value) if _is_given(value) else Input(write=lambda file: file.writelines(f"{it}\n".encode() for it in value))
+    """Edits: a path, a text, which may be empty, or a list of Set, Add and lines. Raises TypeError where it is none of these."""
+    if isinstance(value, str) and not value:
+        return Input(write=lambda file: None)
+    if _is_given(value):
+        return _given(value)
+    if isinstance(value, (Set, Add)) or not isinstance(value, Iterable):
+        raise TypeError(f"edits are a path, a text, or a list of Set and Add, and no {type(value).__name__}")
+    return Input(write=lambda file: file.writelines(f"{it}\n".encode() for it in map(_known_edit, value)))
+
+
+def _known_edit(edit):
+    if not isinstance(edit, (Set, Add, str)):
+        raise TypeError(f"an edit is a Set, an Add or a line, and no {type(edit).__name__}: {edit!r}")
+    return edit
 
 
 def _first(names):
