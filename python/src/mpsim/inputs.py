@@ -52,6 +52,22 @@ def _row_of(edit):
     return [edit.source, _whole(edit.time), *map(_whole, edit.values)]
 
 
+def records_of(lines):
+    """Pairs of a record's text (str), with the ends of its lines, and its fields (list of str), of the lines of a trace, from the header on, as the
+    program has them: empty lines are none. Raises csv.Error where Python's reader takes a field for none."""
+    kept = []
+
+    def each():
+        for line in lines:
+            kept.append(line)
+            yield line
+
+    for fields in csv.reader(each()):
+        if fields:
+            yield "".join(kept), fields
+        kept.clear()
+
+
 class Input:
     """A file for a program: a path as it was given, or what `write` puts into a file of bytes in memory, until `close`."""
 
@@ -97,21 +113,11 @@ class Input:
         return lines[number - 1].removesuffix("\r") if 0 < number <= len(lines) else None
 
     def _records(self):
-        """Pairs of a record's text and its fields, from the header on, as the program has them: empty lines are none."""
-        if not os.path.isfile(self.word):
-            return
-        with open(self.word, encoding="utf-8-sig", errors="surrogateescape", newline="") as file:
-            lines = []
-
-            def kept():
-                for line in file:
-                    lines.append(line)
-                    yield line
-
-            for fields in csv.reader(kept()):
-                if fields:
-                    yield "".join(lines).strip("\r\n"), fields
-                lines.clear()
+        """Pairs of a record's text and its fields, where the file can be read again."""
+        if os.path.isfile(self.word):
+            with open(self.word, encoding="utf-8-sig", errors="surrogateescape", newline="") as file:
+                for text, fields in records_of(file):
+                    yield text.strip("\r\n"), fields
 
     def _record(self, number):
         with contextlib.suppress(OSError, ValueError, csv.Error):

@@ -10,6 +10,7 @@ import sys
 COMMANDS = {
     "prepare": "makes a trace of an export with any delimiter, encoding, time format and names, and the first lines of its model",
     "scale": "makes a trace with more load of a trace",
+    "edit": "changes records of a trace, adds some, or takes some out",
     "pool": "divides the calls of a trace among agents with one queue",
     "run": "runs a trace through a model, and writes the report, and a page to look at",
     "days": "cuts a trace by day, runs each day by itself, and tells all in one table",

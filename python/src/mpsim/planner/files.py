@@ -58,6 +58,17 @@ def _is_whole(path):
     return not is_open and (os.path.isfile(path) or not os.path.exists(path))
 
 
+def judge_outputs(outputs, inputs):
+    """Looks at the paths of outputs. Raises ValueError where one file is to be written for two things, or one that is read would be written over:
+    `inputs` has the path of each, or None, by what it is."""
+    if len(set(map(os.path.realpath, outputs))) < len(outputs):
+        raise ValueError(f"{', '.join(outputs)}: one file can't be written for two things")
+    for path in outputs:
+        for what, read in inputs.items():
+            if read and os.path.isfile(path) and os.path.isfile(read) and os.path.samefile(path, read):
+                raise ValueError(f"{path}: it is the {what}, and isn't written over")
+
+
 @contextlib.contextmanager
 def written(path=None):
     """A block with a file to write text into, which gets its name when it is whole: where the block is left by an exception, what had that name

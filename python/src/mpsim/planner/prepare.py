@@ -9,7 +9,7 @@ from itertools import islice
 
 from .calendar import first_lines, length_text, tick_of
 from .exports import Export
-from .files import bytes_of, counted, say, text_of, written
+from .files import bytes_of, counted, judge_outputs, say, text_of, written
 from .formats import NUMBERS, looks_like_clocks
 from .lengths import Lengths
 from .plan import Plan
@@ -345,11 +345,7 @@ def main(asked):
     """Does what `planner prepare` asks."""
     options = {name: value for name, value in vars(asked).items() if name not in ("command", "main", "export", "first_lines", "out")}
     outputs = [it for it in (asked.out, asked.left_out, asked.first_lines) if it]
-    if len(set(map(os.path.realpath, outputs))) < len(outputs):
-        raise ValueError(f"{', '.join(outputs)}: one file can't be written for two things")
-    for path in outputs:
-        if os.path.isfile(path) and os.path.isfile(asked.export) and os.path.samefile(path, asked.export):
-            raise ValueError(f"{path}: it is the export, and isn't written over")
+    judge_outputs(outputs, {"export": asked.export})
     with contextlib.ExitStack() as stack:
         left_out = stack.enter_context(written(asked.left_out)) if asked.left_out else None
         made = prepare(**{**options, "export": asked.export, "model": text_of(asked.model) if asked.model else None, "left_out": left_out})

@@ -6,6 +6,7 @@ import io
 import os
 
 from ..errors import Error
+from ..inputs import records_of
 from .files import bytes_of
 
 
@@ -23,12 +24,20 @@ class Trace:
         self.path, self.header, self.rows = path, header, rows
 
     @classmethod
-    def read(cls, path):
-        """The trace in a file (str or PathLike). Raises OSError where it can't be read, ValueError where it is none, with the record's number."""
+    def read(cls, path, texts=None):
+        """The trace in a file (str or PathLike). With `texts` (a list) the text of the header and of each record goes there, as it stands in the file
+        to the end of its line, the header's with a byte order mark. Raises OSError where it can't be read, ValueError where it is none, with the
+        record's number."""
         path, rows = os.fsdecode(path), []
-        text = io.StringIO(bytes_of(path).decode("utf-8-sig", "surrogateescape"), newline="")
+        text = bytes_of(path).decode("utf-8", "surrogateescape")
+        lines = io.StringIO(text.removeprefix("\ufeff"), newline="")
         try:
-            rows.extend(filter(None, csv.reader(text)))
+            if texts is None:
+                rows.extend(filter(None, csv.reader(lines)))
+            else:
+                for record, fields in records_of(lines):
+                    texts.append(record if rows or not text.startswith("\ufeff") else "\ufeff" + record)
+                    rows.append(fields)
         except csv.Error as fault:
             raise ValueError(f"{path}: record {len(rows)}: {fault}") from None
         header, rows = (rows[0], rows[1:]) if rows else ([], [])
