@@ -3,9 +3,7 @@
 import contextlib
 import csv
 import io
-import math
 import re
-from fractions import Fraction
 
 from ..inputs import Add, Set
 from ..model import columns, sources
@@ -44,7 +42,9 @@ def stepped(old, sign, by):
     (6, 4, -2)
     """
     if sign == "*":
-        return math.floor(old * Fraction(by) + Fraction(1, 2))
+        whole, _, part = by.partition(".")
+        # In units of a half of the last digit.
+        return (2 * old * int(whole + part) + 10 ** len(part)) // (2 * 10 ** len(part))
     return old + int(by) if sign == "+" else old - int(by)
 
 
@@ -151,10 +151,7 @@ class Edited:
         text = self._texts[number] if number < len(self._texts) else ""
         if text and number not in self.changed and (is_last or number < len(self._texts) - 1 or _is_closed(text)):
             return text
-        line = io.StringIO(newline="")
-        # With this end of line carriage returns in a field are quoted, by each version of Python.
-        csv.writer(line, lineterminator="\r\n").writerow(self.rows[number - 1] if number else self.trace.header)
-        return line.getvalue()[:-2] + (_end(text) or end)
+        return _line_of(self.rows[number - 1] if number else self.trace.header) + (_end(text) or end)
 
     def edits(self):
         """The changes as edits of mpedit (a list of str), one for each record that is changed or added. Raises ValueError where one is taken out, and
@@ -174,6 +171,17 @@ class Edited:
         """How many records there are, and how many of them are changed or added, and how many taken out (str)."""
         before, now, out = len(self.trace.rows), len(self.rows) - len(self.out), sum(it < len(self._texts) for it in self.out)
         return f"{counted(now, 'record')} of {before:,}: {len(self.changed):,} changed, {now - before + out:,} added, {out:,} taken out"
+
+
+class _Line:
+    """In place of a file for a writer of CSV, which gives back what this does: the text of a row."""
+
+    write = staticmethod(str)
+
+
+def _line_of(row, write=csv.writer(_Line, lineterminator="\r\n").writerow):
+    """The text of a row without its end. With this end carriage returns in a field are quoted too, by each version of Python."""
+    return write(row)[:-2]
 
 
 def _end(text):
