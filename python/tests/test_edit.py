@@ -21,7 +21,7 @@ class Steps(Test):
             (5, "1.1", 6), (4, "1.1", 4), (15, "0.1", 2), (14, "0.1", 1), (1, "0.5", 1), (3, "0.5", 2), (5, "0.5", 3), (7, "0", 0), (7, "2", 14),
             # Half by tenths, which floats miss; and more digits than floats have.
             (1005, "0.001", 1), (35, "1.1", 39), (45, "1.1", 50), (TIME - 1, "1.0", TIME - 1), (VALUE - 1, "1.00000000000000000001", VALUE - 1),
-        ):  # fmt: skip
+        ):
             self.assertEqual(stepped(old, "*", by), made, (old, by))
         draw = random.Random(3)
         for _ in range(2000):

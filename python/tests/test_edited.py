@@ -118,7 +118,7 @@ class Beside(InFolder):
                         hand[it][3] = row[3] + by if way == "+" else (row[3] * (10 + by) + 5) // 10
                 lines.append({
                     "+": f"{numbers},+{by},,,+7\n", "*": f"{numbers},*1.{by},,,\n", "source": f"{numbers},,b,,\n", "out": f"{numbers},,,yes,\n"
-                }[way])  # fmt: skip
+                }[way])
             changes = self.file("c.csv", "".join(lines))
             kept = [it for it in hand if it]
             text = planner("edit", trace, changes)[1]
