@@ -9,6 +9,7 @@ pub mod InOrder
 pub mod InTurn
 pub mod Passing
 pub mod Telling
+pub mod Greatest
 pub mod Fine
 pub mod Held
 pub mod Joins

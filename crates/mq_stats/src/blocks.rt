@@ -1,10 +1,13 @@
 // The totals of a block of visits, and how many of their waits are each number of ticks, by one look at them.
 ghost use Rattle.std.specs.Prelude.{◌≡◌, ◌↔◌, ◌+◌, ◌++◌, ◌≤◌, ℕ, List as Items, IfOk, IfSome, IsSome, length};
+ghost use Rattle.mq_core.specs.Results.{peak_of};
 ghost use Rattle.mq_stats.specs.Blocks.{AreNeighbours, IsBlock, IsBlockOf};
 ghost use Rattle.mq_stats.specs.Numbers.{AreVisits, visits_of_columns};
 ghost use Rattle.mq_stats.specs.WaitCounts.{AreCounts};
+ghost use Rattle.mq_stats.specs.Waits.{AreWaiting};
 
 use crate::bare::bare_times;
+use crate::peaks::peak_of_found;
 use crate::tallies::{NodeTotals, part, totals_added, totals_of};
 use crate::wait_counts::{WaitCounts, counts_added, counts_of};
 use crate::waits::{Sums, Waiting, busy_of, waits_from};
@@ -21,17 +24,17 @@ pub struct BlockCount {
     pub waits: Option<WaitCounts>,
 }
 
-// What is counted of visits to a node of this kind, which stand in these columns.
+// What is counted of visits to a node of this kind, which stand in these columns and have this peak.
 pub fn count_columns(
     alloc: Global,
     waiting: &Waiting,
-    found: &[u32],
+    peak: u32,
     span: u64,
     most: u32,
 ) -> Result<BlockCount, OutOfMemory>
-    requires visits { AreVisits waiting.now.rows.now waiting.now.kind.now (visits_of_columns waiting.now.job.now waiting.now.arrive.now found.now waiting.now.fate.now) }
+    requires visits { AreWaiting waiting.now }
     requires most { most ≤ 1048576 }
-    ensures { IfOk result (IsBlockOf waiting.now.rows.now waiting.now.kind.now (visits_of_columns waiting.now.job.now waiting.now.arrive.now found.now waiting.now.fate.now) span most) }
+    ensures { (found : Items ℕ) → peak ≡ peak_of waiting.now.kind.now found waiting.now.fate.now → IfOk result (IsBlockOf waiting.now.rows.now waiting.now.kind.now (visits_of_columns waiting.now.job.now waiting.now.arrive.now found waiting.now.fate.now) span most) }
 {
     let bare = bare_times(alloc, waiting.rows, waiting.kind, waiting.job)?;
     let busy = busy_of(alloc, waiting, bare.as_slice())?;
@@ -43,7 +46,7 @@ pub fn count_columns(
     };
     let waits = counts_of(alloc, told.waits.as_slice(), told.longest, most)?;
     Ok(BlockCount {
-        totals: totals_of(waiting, found, span, &sums),
+        totals: totals_of(waiting, peak, span, &sums),
         waits,
     })
 }
@@ -76,7 +79,8 @@ pub fn count_block(
         arrive: part(&visits.arrive, from, to),
         fate: &visits.fate.part(from as usize, to as usize),
     };
-    count_columns(alloc, &waiting, part(&visits.found, from, to), span, most)
+    let peak = peak_of_found(kind, part(&visits.found, from, to), waiting.fate);
+    count_columns(alloc, &waiting, peak, span, most)
 }
 
 // The counts of waits and of others, added up, where there are both.

@@ -1,5 +1,5 @@
 // The numbers of visits whose jobs leave by one output in the order in which they came, of what came and when each departs: no list of the
-// visits is made, and what they found is told of the part that is looked at alone.
+// visits is made, nor of what they found.
 ghost use Rattle.std.specs.Prelude.{◌≡◌, ◌↔◌, ◌≤◌, IfOk, IfSome, IsSome, length};
 ghost use Rattle.mq_stats.specs.Blocks.{IsBlock};
 ghost use Rattle.mq_stats.specs.InTurn.{KeepTurn, visits_in_turn};
@@ -8,7 +8,7 @@ ghost use Rattle.mq_stats.specs.Percentiles.{ArePercentiles, longest_wait, waits
 ghost use Rattle.mq_stats.specs.WaitCounts.{AreCounts};
 
 use crate::blocks::{BlockCount, count_columns};
-use crate::pieces::found_piece_in_order;
+use crate::peaks::peak_in_turn;
 use crate::tails::{Percentiles, tail_of_columns};
 use crate::tallies::part;
 use crate::wait_counts::{WaitCounts, counts_of_columns};
@@ -36,7 +36,6 @@ pub fn count_in_turn(
     requires within { to ≤ length arrivals.now.job }
     ensures { IfOk result (IsBlock rows.now kind.now (visits_in_turn arrivals.now departs.now) span most from to) }
 {
-    let found = found_piece_in_order(alloc, &arrivals.time, departs, from, to)?;
     let waiting = Waiting {
         rows,
         kind,
@@ -44,9 +43,15 @@ pub fn count_in_turn(
         arrive: part(&arrivals.time, from, to),
         fate: &FateSlice::departures(part(departs, from, to)),
     };
-    let count = count_columns(alloc, &waiting, found.as_slice(), span, most);
-    drop(found);
-    count
+    let (first, end) = (from as usize, to as usize);
+    let peak = peak_in_turn(
+        kind,
+        arrivals.time.as_slice(),
+        departs.as_slice(),
+        first,
+        end,
+    );
+    count_columns(alloc, &waiting, peak, span, most)
 }
 
 /// What `count_between` tells, of visits whose jobs leave in the order in which they came.

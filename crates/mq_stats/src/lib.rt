@@ -10,6 +10,7 @@ mod in_turn;
 mod laws;
 mod occupancy;
 mod passed;
+mod peaks;
 mod pieces;
 mod spans;
 mod tails;

@@ -1,11 +1,12 @@
 // The totals of a node over a run.
-ghost use Rattle.std.specs.Prelude.{◌≡◌, ◌+◌, ◌*◌, ◌<◌, ◌≤◌, ◌^◌, All, length, max, fold, sum, cond, count_by};
+ghost use Rattle.std.specs.Prelude.{◌≡◌, ◌+◌, ◌*◌, ◌<◌, ◌≤◌, ◌^◌, ℕ, List as Items, length, sum, cond, count_by};
 ghost use Rattle.mq_base.specs.Lists.{between};
-ghost use Rattle.mq_core.specs.Results.{is_held, is_lost, numbers_of, one_more, peak_of};
+ghost use Rattle.mq_core.specs.Results.{is_held, is_lost, peak_of};
 ghost use Rattle.mq_core.specs.Sequences.{sequence_sojourn, sequence_sojourns, sequence_totals};
 ghost use Rattle.mq_stats.specs.Numbers.{AreSmall, AreVisits, added_totals, totals_from, visits_of_columns};
-ghost use Rattle.mq_stats.specs.Waits.{AreSums};
+ghost use Rattle.mq_stats.specs.Waits.{AreSums, AreWaiting};
 
+use crate::peaks::peak_of_found;
 use crate::waits::{Sums, Waiting, sums_of};
 use mq_base::List;
 use mq_core::{Fate, FateSlice, Kind, Rows, Visits};
@@ -67,43 +68,27 @@ fn sojourn_of(span: u64, arrive: u64, fate: Fate) -> u64
     }
 }
 
-// The number of jobs just after a visit came; 0 for a lost one.
-fn number_after(found: u32, fate: Fate) -> u32
-    requires { found ≤ 1048576 }
-    ensures { result ≡ one_more found fate }
-{
-    match fate {
-        Fate::Departs(_) | Fate::Held => found + 1,
-        Fate::Lost => 0,
-    }
-}
-
-// What is counted, added up and greatest over visits, whatever the kind of the node and the span of
+// What is counted and added up over visits, whatever the kind of the node and the span of
 // the run. A stay is that of a visit that departed.
 #[derive(Clone, Copy)]
 struct Stays {
     lost: u32,
     held: u32,
     stay: u128,
-    greatest: u32,
 }
 
-// The lost visits, the held ones, the sum of the stays, and the greatest number of
-// jobs just after a visit came. With a span of 0 a held visit doesn't stay.
+// The lost visits, the held ones, and the sum of the stays. With a span of 0 a held visit doesn't stay.
 // Its loop is not inlined, so that it has the registers to itself.
 #[inline(never)]
-fn stays_of(arrive: &[u64], found: &[u32], fate: &FateSlice) -> Stays
+fn stays_of(arrive: &[u64], fate: &FateSlice) -> Stays
     requires few { length arrive.now ≤ 1048576 }
-    requires founds { length found.now ≡ length arrive.now }
     requires fates { length fate.now ≡ length arrive.now }
-    requires small { All (λ n. n ≤ 1048576) found.now }
     ensures lost { result.lost ≡ count_by is_lost fate.now }
     ensures held { result.held ≡ count_by is_held fate.now }
     ensures stay { result.stay ≡ sum (sequence_sojourns 0 arrive.now fate.now) }
-    ensures greatest { result.greatest ≡ fold max 0 (numbers_of found.now fate.now) }
     ensures small { result.stay ≤ length arrive.now * 2 ^ 64 }
 {
-    let (mut lost, mut held, mut greatest) = (0u32, 0u32, 0u32);
+    let (mut lost, mut held) = (0u32, 0u32);
     let mut stay = 0u128;
     for at in 0..arrive.len() {
         let ending = fate.at(at);
@@ -111,14 +96,8 @@ fn stays_of(arrive: &[u64], found: &[u32], fate: &FateSlice) -> Stays
         lost += one_if_lost(ending);
         held += one_if_held(ending);
         stay += stayed as u128;
-        greatest = greatest.max(number_after(found[at], ending));
     }
-    Stays {
-        lost,
-        held,
-        stay,
-        greatest,
-    }
+    Stays { lost, held, stay }
 }
 
 // The sum of the sojourns by the end of a run with this span.
@@ -152,33 +131,16 @@ fn area_of(span: u64, arrive: &[u64], fate: &FateSlice, stays: &Stays) -> u128
     sojourns_of(span, arrive, fate)
 }
 
-// The peak of a node of this kind, where this is the greatest number of jobs just after a visit came.
-fn peak_at(kind: &Kind, greatest: u32, found: &[u32], fate: &FateSlice) -> u32
-    requires { greatest ≡ fold max 0 (numbers_of found.now fate.now) }
-    ensures { result ≡ peak_of kind.now found.now fate.now }
-{
-    match kind {
-        Kind::Source | Kind::Split(_) | Kind::Fork { .. } => 0,
-        Kind::Server(_)
-        | Kind::Delay(_)
-        | Kind::Loss { .. }
-        | Kind::Tandem(_)
-        | Kind::ForkJoin(_)
-        | Kind::Join
-        | Kind::Trunk { .. } => greatest,
-    }
-}
-
-// The totals of visits to a node of this kind, which stand in these columns and have these sums, in a run with this span.
-pub fn totals_of(waiting: &Waiting, found: &[u32], span: u64, sums: &Sums) -> NodeTotals
-    requires visits { AreVisits waiting.now.rows.now waiting.now.kind.now (visits_of_columns waiting.now.job.now waiting.now.arrive.now found.now waiting.now.fate.now) }
+// The totals of visits to a node of this kind, which stand in these columns and have these sums and this peak, in a run with this span.
+pub fn totals_of(waiting: &Waiting, peak: u32, span: u64, sums: &Sums) -> NodeTotals
+    requires visits { AreWaiting waiting.now }
     requires sums { AreSums waiting.now sums.now }
-    ensures totals { totals_from result ≡ sequence_totals waiting.now.rows.now waiting.now.kind.now (visits_of_columns waiting.now.job.now waiting.now.arrive.now found.now waiting.now.fate.now) span }
+    ensures totals { (found : Items ℕ) → peak ≡ peak_of waiting.now.kind.now found waiting.now.fate.now → totals_from result ≡ sequence_totals waiting.now.rows.now waiting.now.kind.now (visits_of_columns waiting.now.job.now waiting.now.arrive.now found waiting.now.fate.now) span }
     ensures small { AreSmall result }
 {
     let (arrive, fate) = (waiting.arrive, waiting.fate);
     let came = waiting.job.len() as u32;
-    let stays = stays_of(arrive, found, fate);
+    let stays = stays_of(arrive, fate);
     NodeTotals {
         came,
         left: came - stays.lost - stays.held,
@@ -188,7 +150,7 @@ pub fn totals_of(waiting: &Waiting, found: &[u32], span: u64, sums: &Sums) -> No
         longest: sums.longest,
         busy: sums.busy,
         area: area_of(span, arrive, fate, &stays),
-        peak: peak_at(waiting.kind, stays.greatest, found, fate),
+        peak,
     }
 }
 
@@ -240,5 +202,6 @@ pub fn totals(rows: &Rows, kind: &Kind, visits: &Visits, span: u64) -> NodeTotal
         fate: &visits.fate.as_slice(),
     };
     let sums = sums_of(&waiting);
-    totals_of(&waiting, visits.found.as_slice(), span, &sums)
+    let peak = peak_of_found(kind, visits.found.as_slice(), waiting.fate);
+    totals_of(&waiting, peak, span, &sums)
 }

@@ -1,4 +1,4 @@
-use Rattle.std.proofs.Common.{◌≡◌, ◌≤◌, ℕ, List, fold, max, subst}
+use Rattle.std.proofs.Common.{◌≤◌, ℕ, List, fold, max, subst}
 use Rattle.std.specs.Prelude.{◌↔◌, IfOk, IfSome, IsSome}
 use Rattle.mq_core.specs.Sequences.{sequence_waits}
 use Rattle.mq_core.specs.declared.model.Fate.{Fate}

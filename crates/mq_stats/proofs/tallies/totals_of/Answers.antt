@@ -18,7 +18,7 @@ returns-clause-totals c =
     let sums = c.requires.sums in
     let fates = c.requires.visits.fates in
     let left : length waiting.job.now - c.stays_of-stays.result.lost - c.stays_of-stays.result.held ≡ count_by is_departed waiting.fate.now = omega arith in
-    λ k. record {
+    λ found is k. record {
       came = length waiting.job.now;
       left = left k;
       lost = stays.lost k;
@@ -27,5 +27,5 @@ returns-clause-totals c =
       longest = sums.longest k;
       busy = sums.busy k;
       area = c.area_of.ensures.sum k;
-      peak = c.peak_at.ensures k;
+      peak = is k;
     }
