@@ -1,17 +1,23 @@
 // Worked totals of visits, whole and by pieces.
-ghost use Rattle.std.specs.Prelude.{◌≡◌, ◌≤◌, ◌^◌, ℕ, All, List as Items, Some, length, slice_get, IsTrue};
+ghost use Rattle.std.specs.Prelude.{◌≡◌, ◌≤◌, ◌^◌, ℕ, All, List as Items, Some, length, map, slice_get, IfOk, IsTrue};
+ghost use Rattle.std.specs.List.{AllByRecursion};
 ghost use Rattle.mq_core.specs.Asked.{HasDemands};
+ghost use Rattle.mq_core.specs.Laws.{Rises};
+ghost use Rattle.mq_core.specs.OnceOut.{founds_of};
 ghost use Rattle.mq_core.specs.Told.{HasValue, IsTold};
 ghost use Rattle.mq_core.specs.declared.model.Demand.TheVariants.{Column};
+ghost use Rattle.mq_core.specs.declared.model.Fate.TheVariants.{Departs};
 ghost use Rattle.mq_core.specs.declared.model.Kind.{Kind as TheKind};
+ghost use Rattle.mq_core.specs.declared.model.Rows.{Rows as TheRows};
+ghost use Rattle.mq_stats.specs.InTurn.{KeepTurn, visits_in_turn};
 ghost use Rattle.mq_stats.specs.Numbers.{AreVisits};
 
 use super::stats::{
     Case, Columns, HELD, LOST, NO_VISITS, SERVED, case_of, list, three_case, visits_with,
 };
 use mq_base::{List, OutOfMemory};
-use mq_core::{Demand, Fates, Kind, Rows, Visits};
-use mq_stats::{NodeTotals, blocks_added, count_block, totals};
+use mq_core::{Demand, Fates, Kind, Rows, Stream, Visits};
+use mq_stats::{NodeTotals, blocks_added, count_block, count_in_turn, totals};
 use std::alloc::Global;
 use std::test::Fail;
 
@@ -194,5 +200,158 @@ fn departures_have(alloc: Global, wanted: &NodeTotals, at: u32) -> Result<bool, 
 #[test]
 fn departures_are_fates(rt: HostRuntime) -> Result<(), Fail> {
     assert!(rt; departures_have(rt.alloc(), &SERVED_TOTALS, 2)?);
+    Ok(())
+}
+
+// What comes to a node, and when each job departs.
+#[derive(Drop)]
+struct Turn {
+    rows: Rows,
+    arrivals: Stream,
+    departs: List<u64>,
+}
+
+// A job comes at each of these times. No row tells what it asks for.
+fn turn_of(alloc: Global, arrive: &[u64], departs: &[u64]) -> Result<Turn, OutOfMemory>
+    ensures jobs { IfOk result (λ turn. length turn.arrivals.job ≡ length arrive.now) }
+    ensures times { IfOk result (λ turn. turn.arrivals.time ≡ arrive.now) }
+    ensures departs { IfOk result (λ turn. turn.departs ≡ departs.now) }
+{
+    let arrivals = Stream {
+        job: List::from_vec(vec![in alloc; 0u32; arrive.len()]?),
+        time: list(alloc, arrive)?,
+    };
+    Ok(Turn {
+        departs: list(alloc, departs)?,
+        arrivals,
+        rows: Rows {
+            source: List::new(alloc),
+            time: List::new(alloc),
+            demands: List::new(alloc),
+        },
+    })
+}
+
+// Whether they have these totals from one position up to another, where no wait is longer than 10 ticks.
+fn counted_so(
+    alloc: Global,
+    kind: &Kind,
+    turn: &Turn,
+    from: u32,
+    to: u32,
+    wanted: &NodeTotals,
+) -> Result<bool, OutOfMemory>
+    requires visits { AreVisits turn.now.rows kind.now (visits_in_turn turn.now.arrivals turn.now.departs) }
+    requires turn { KeepTurn turn.now.arrivals turn.now.departs }
+{
+    if from > to || to as usize > turn.arrivals.job.len() {
+        return Ok(false);
+    }
+    let (arrivals, departs) = (&turn.arrivals, &turn.departs);
+    let count = count_in_turn(alloc, &turn.rows, kind, arrivals, departs, 10, 10, from, to)?;
+    Ok(count.totals == *wanted && count.waits.is_some())
+}
+
+// The same of visits at these times, which depart in turn, to a node that asks nothing of the rows.
+fn turn_has(
+    alloc: Global,
+    kind: &Kind,
+    arrive: &[u64],
+    departs: &[u64],
+    from: u32,
+    to: u32,
+    wanted: &NodeTotals,
+) -> Result<bool, OutOfMemory>
+    requires asks { (rows : TheRows) (job : ℕ) → HasDemands rows kind.now job }
+    requires even { length departs.now ≡ length arrive.now }
+    requires few { length arrive.now ≤ 1048576 }
+    requires come { Rises (λ a b. a ≤ b) arrive.now }
+    requires leave { Rises (λ a b. a ≤ b) departs.now }
+    requires founds { length (founds_of arrive.now (map (λ time. Departs time) departs.now)) ≡ length arrive.now }
+    requires small { AllByRecursion (λ found. found ≤ 1048576) (founds_of arrive.now (map (λ time. Departs time) departs.now)) }
+{
+    let turn = turn_of(alloc, arrive, departs)?;
+    let found = counted_so(alloc, kind, &turn, from, to, wanted);
+    drop(turn);
+    found
+}
+
+// Six jobs at a server, for 2 ticks each, from one position up to another: two come at 0 and two at 6, and the last three as another
+// departs.
+fn ties_have(alloc: Global, from: u32, to: u32, wanted: &NodeTotals) -> Result<bool, OutOfMemory> {
+    let kind = Kind::Server(Demand::Fixed(2));
+    let arrive = [0, 0, 1, 4, 6, 6];
+    let departs = [2, 4, 6, 8, 10, 12];
+    let found = turn_has(alloc, &kind, &arrive, &departs, from, to, wanted);
+    drop(kind);
+    found
+}
+
+// Three jobs that depart as they come, two of them at one time.
+fn none_stay(alloc: Global, kind: &Kind, wanted: &NodeTotals) -> Result<bool, OutOfMemory>
+    requires { (rows : TheRows) (job : ℕ) → HasDemands rows kind.now job }
+{
+    turn_has(alloc, kind, &[0, 0, 3], &[0, 0, 3], 0, 3, wanted)
+}
+
+const TIED_TOTALS: NodeTotals = NodeTotals {
+    came: 6,
+    left: 6,
+    lost: 0,
+    held: 0,
+    wait: 13,
+    longest: 4,
+    busy: 12,
+    area: 25,
+    peak: 3,
+};
+
+// Of the fourth and the fifth.
+const MIDDLE_TOTALS: NodeTotals = NodeTotals {
+    came: 2,
+    left: 2,
+    lost: 0,
+    held: 0,
+    wait: 4,
+    longest: 2,
+    busy: 4,
+    area: 8,
+    peak: 2,
+};
+
+const ONCE_TOTALS: NodeTotals = NodeTotals {
+    came: 3,
+    left: 3,
+    lost: 0,
+    held: 0,
+    wait: 0,
+    longest: 0,
+    busy: 0,
+    area: 0,
+    peak: 1,
+};
+
+// Nobody stays.
+const SENT_TOTALS: NodeTotals = NodeTotals {
+    peak: 0,
+    ..ONCE_TOTALS
+};
+
+fn turns_have_totals(alloc: Global) -> Result<bool, OutOfMemory> {
+    let server = Kind::Server(Demand::Fixed(0));
+    let at_once = none_stay(alloc, &server, &ONCE_TOTALS);
+    drop(server);
+    Ok(
+        at_once?
+            && none_stay(alloc, &Kind::Source, &SENT_TOTALS)?
+            && ties_have(alloc, 0, 6, &TIED_TOTALS)?
+            && ties_have(alloc, 3, 5, &MIDDLE_TOTALS)?
+            && ties_have(alloc, 3, 3, &NO_TOTALS)?,
+    )
+}
+
+#[test]
+fn visits_in_turn_have_their_totals(rt: HostRuntime) -> Result<(), Fail> {
+    assert!(rt; turns_have_totals(rt.alloc())?);
     Ok(())
 }
