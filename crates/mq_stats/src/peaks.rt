@@ -52,10 +52,10 @@ pub fn peak_of_found(kind: &Kind, found: &[u32], fate: &FateSlice) -> u32
     peak
 }
 
-// The greater of a number and of that of the jobs that are there just after one came at this time, where so many came before it
-// and all depart at these times.
+// The greater of a number and of how many jobs are there just after one came at this time, where so many came before it, and jobs
+// depart at these times, which never fall.
 //
-// Departures never fall: more than so many jobs are there exactly where that of so many places before it departs later.
+// More than n are there, itself among them, exactly where the one that came n places before it departs later.
 fn number_with(departs: &[u64], before: usize, time: u64, number: usize) -> usize
     requires order { Rises (λ a b. a ≤ b) departs.now }
     requires within { before ≤ length departs.now }
