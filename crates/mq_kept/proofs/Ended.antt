@@ -27,6 +27,7 @@ use Rattle.mq_exits.specs.Results.{IsKnown, IsResultOf, IsWorkedOut}
 use Rattle.mq_exits.specs.declared.exits.Emptied.{Emptied}
 use Rattle.mq_exits.specs.declared.exits.Completion.{Completion}
 use Rattle.mq_exits.specs.declared.load.Held.{Held}
+use Rattle.mq_exits.specs.declared.load.Load.{Load}
 use Rattle.mq_exits.specs.declared.working.Ending.TheVariants.{OnTime, TooLate, TooMany}
 use Rattle.mq_exits.specs.declared.working.Ending.{Ending}
 use Rattle.mq_exits.specs.declared.working.NodeResult.{NodeResult}
@@ -34,6 +35,7 @@ use Rattle.mq_kept.proofs.SameNodes.{visits-by}
 use Rattle.mq_kept.specs.KeptNodes.{IsKeptNode, coming_of}
 use Rattle.mq_kept.specs.Formers.{FitsIn, lists_before}
 use Rattle.mq_kept.specs.NodeRuns.{IsFaultAt, IsFaultOf, IsNodeKept, IsNodeRun, again_behind, blocks_at, came_before}
+use Rattle.mq_kept.specs.TailRuns.{IsTailRun}
 use Rattle.mq_kept.specs.declared.checkpoints.Checkpoints.{Checkpoints}
 use Rattle.mq_kept.specs.declared.former.Former.TheVariants.{Whole}
 use Rattle.mq_kept.specs.declared.former.NodeLists.{NodeLists}
@@ -153,6 +155,20 @@ changed-run s old lists v again all made (Ok gives) a b few few' kept h = record
   all_few = subst (λ (n : ℕ). n < 2 ^ 32) (sym h.3) few';
 }
 changed-run s old lists v again all made (Err refusal) a b few few' kept h = tt
+
+-- What a node gives whose lists were edited in place.
+pub tail-gives : (s : Arriving) (old : Option Rows) (lists : NodeLists) (v again all : ℕ) (load : Load) → load.plan.now ≡ s.plan.now → load.rows.now ≡ s.rows.now → load.block ≡ s.block → load.number ≡ v → again ≡ again_behind s (came_before s.rows.now old lists) v → all ≡ blocks_at s v → again < 2 ^ 32 → all < 2 ^ 32 →
+    (gives : NodeRun) → IsTailRun load lists again all gives → IsNodeRun s old lists v gives
+tail-gives s old lists v again all load p r b n a d few few' gives h = record {
+  kept = subst (λ (t : Plan × Rows × ℕ × ℕ). IsNodeKept t.0 t.1 t.2 t.3 gives.lists) (λ i. (p i, r i, b i, n i)) h.kept;
+  back = ap (λ f. lists_before f gives.lists) h.former ∙ h.back;
+  fits = subst (λ f. FitsIn f gives.lists) (sym h.former) h.fits;
+  stayed = λ same. absurd (let differ = sym h.former ∙ same in cc);
+  again = h.again_is ∙ a;
+  all = h.all_is ∙ d;
+  again_few = subst (λ (m : ℕ). m < 2 ^ 32) (sym h.again_is) few;
+  all_few = subst (λ (m : ℕ). m < 2 ^ 32) (sym h.all_is) few';
+}
 
 -- what holds where they were made
 pub changed-ok : (X : Type 0) (lists : NodeLists) (again all : ℕ) (made : Result NodeLists RunFault) (result : Result NodeRun NodeRefusal) → OnOk made X → IfOk result (λ gives. (made ≡ Ok gives.lists) × (gives.former ≡ Whole lists) × (gives.again ≡ again) × (gives.all ≡ all)) → OnOk result X

@@ -14,6 +14,7 @@ pub mod SameNodes
 pub mod SourceEnds
 pub mod SourceLoads
 pub mod SourceRows
+pub mod Stays
 pub mod TailRuns
 pub mod Unchanged
 pub mod Within

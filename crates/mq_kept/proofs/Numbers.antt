@@ -11,6 +11,7 @@ use Rattle.mq_core.specs.declared.model.Stream.{Stream}
 use Rattle.mq_engine.specs.Apart.{CanGather}
 use Rattle.mq_exits.specs.Loads.{IsLoaded}
 use Rattle.mq_kept.proofs.SameNodes.{coming-is}
+use Rattle.mq_kept.specs.InTurn.{HasTail}
 use Rattle.mq_kept.specs.KeptNodes.{blocks_behind}
 use Rattle.mq_kept.specs.NodeRuns.{again_behind, blocks_at, coming_to, worked_behind}
 use Rattle.mq_redo.specs.Kept.{coming_as}
@@ -18,6 +19,22 @@ use Rattle.std.proofs.Common.{◌≡◌, ◌==◌, ◌&&◌, ℕ, zero, suc, ◌
 use Rattle.std.proofs.lemmas.Bool.Decides.{nat_tests}
 use Rattle.std.proofs.lemmas.Nat.{div-mul-add}
 use Rattle.std.specs.Prelude.{slice_get}
+
+-- those of a kind whose last visits can be edited in place are worked
+tail-works : (kind : Kind) → HasTail kind → is_worked kind ≡ true
+tail-works Source none = absurd none
+tail-works (Server demand) tail = refl
+tail-works (Delay demand) none = absurd none
+tail-works (Loss places demand) none = absurd none
+tail-works (Tandem stages) tail = refl
+tail-works (ForkJoin branches) tail = refl
+tail-works (Split route) none = absurd none
+tail-works (Fork outputs) none = absurd none
+tail-works Join none = absurd none
+tail-works (Trunk servers demand) none = absurd none
+
+pub tail-blocks : (kind : Kind) → HasTail kind → (block jobs first : ℕ) → blocks_behind block kind jobs first ≡ blocks_in block jobs - first
+tail-blocks kind tail block jobs first = ap (λ b. cond b (blocks_in block jobs - first) 0) (tail-works kind tail)
 
 -- the blocks of a fork or a join aren't counted
 pub apart-uncounted : (kind : Kind) → sends_once kind ≡ false → is_counted kind ≡ false

@@ -5,17 +5,13 @@ use Rattle.std.proofs.lemmas.List.{length-append, length-drop, length-map, lengt
 use Rattle.mq_base.proofs.lemmas.Lists.{some_inj}
 use Rattle.mq_alike.specs.Again.{AlikeIsFirst, Coming, alike}
 use Rattle.mq_core.specs.SequenceLaws.{FatesAreInTime}
-use Rattle.mq_core.specs.Sequences.{time_of_fate}
 use Rattle.mq_core.specs.StandardTable.{run_of}
 use Rattle.mq_core.specs.declared.model.Fate.{Fate}
 use Rattle.mq_core.specs.declared.model.Fate.TheVariants.{Departs}
-use Rattle.mq_core.specs.declared.model.Demand.{Demand}
 use Rattle.mq_core.specs.declared.model.Kind.{Kind}
-use Rattle.mq_core.specs.declared.model.Kind.TheVariants.{ForkJoin, Server, Tandem}
 use Rattle.mq_core.specs.Theorems.{IsReadFor}
 use Rattle.mq_core.specs.declared.model.Node.{Node}
 use Rattle.mq_core.specs.declared.model.Plan.{Plan}
-use Rattle.mq_core.specs.declared.model.Stage.{Stage}
 use Rattle.mq_core.specs.declared.model.Stream.{Stream}
 use Rattle.mq_core.specs.declared.model.Rows.{Rows}
 use Rattle.mq_exits.specs.Loads.{IsLoaded}
@@ -23,18 +19,15 @@ use Rattle.mq_exits.specs.NodeLaws.{NodeLaws}
 use Rattle.mq_exits.specs.Results.{IsKnown, IsWorkedOut}
 use Rattle.mq_exits.specs.declared.load.Load.{Load}
 use Rattle.mq_exits.specs.declared.working.Ending.TheVariants.{OnTime}
-use Rattle.mq_maxplus.specs.declared.mp.Mp.{Mp}
-use Rattle.mq_redo.specs.Kept.{IsForkJoinStaying, IsServerStaying, IsStaying, IsTandemStaying, coming_as}
-use Rattle.mq_redo.specs.Staying.{IsKeptStation}
+use Rattle.mq_redo.specs.Kept.{IsStaying, coming_as}
 use Rattle.mq_stations.proofs.lemmas.Leaves.{served-even}
 use Rattle.mq_stations.specs.Leaving.{AreServed, IsLoad}
 use Rattle.mq_kept.proofs.InTurn.{kept-turn}
-use Rattle.mq_kept.proofs.LastVisits.{times-back}
-use Rattle.mq_kept.specs.Carries.{forkjoin_carries, server_carries, tandem_carries}
+use Rattle.mq_kept.specs.InTurn.{HasTail}
 use Rattle.mq_kept.specs.Formers.{with_checkpoints}
 use Rattle.mq_kept.specs.KeptNodes.{IsKeptNode, coming_of}
 use Rattle.mq_kept.specs.NodeRuns.{IsNodeKept}
-use Rattle.mq_kept.specs.TailRuns.{IsTailStaying}
+use Rattle.mq_kept.specs.TailRuns.{IsTailServed, IsTailStaying}
 use Rattle.mq_kept.specs.Tails.{IsTailFor, IsTailPut, coming_behind, departures_in}
 use Rattle.mq_kept.specs.declared.checkpoints.Checkpoints.{Checkpoints}
 use Rattle.mq_kept.specs.declared.former.NodeLists.{NodeLists}
@@ -53,11 +46,6 @@ same-first (suc n) (x ∷ xs) (y ∷ ys) h =
 -- the items of a list from one on
 pub sliced : (xs ys : List ℕ) (n : ℕ) → xs ≡ ys → take (length xs - n) (drop n xs) ≡ drop n ys
 sliced xs ys n e = (λ k. take (length (e k) - n) (drop n (e k))) ∙ take_rest ys n
-
--- where all visits depart, their departures are their fates
-pub fates-back : {C : Type 0} (time : C → ℕ) (does : ℕ → C → C) (start : C) (jobs block : ℕ) (fates : List Fate) (carries : List C) → IsKeptStation time does start jobs block fates carries → fates ≡ map (λ time. Departs time) (map time_of_fate fates)
-fates-back time does start jobs block fates carries h =
-    h.fates_are ∙ ap (map (λ time. Departs time)) (sym (ap (map time_of_fate) h.fates_are ∙ times-back h.times))
 
 module _ (law : AlikeIsFirst) (load : Load) (kind : Kind) (first : ℕ) (lists : NodeLists) (stays : IsTailStaying load kind first lists) where
   abbrev from : ℕ
@@ -158,35 +146,26 @@ module _ (law : AlikeIsFirst) (load : Load) (kind : Kind) (first : ℕ) (lists :
             )) kept;
       }
 
--- A server. What was kept of it stays, told by its own numbers.
-pub server-stays : AlikeIsFirst → (load : Load) (demand : Demand) (first : ℕ) (lists : NodeLists) → IsTailStaying load (Server demand) first lists → (block : ℕ) (carries : List Mp) (fates : List Fate) → block ≡ load.block → carries ≡ server_carries lists.checkpoints → fates ≡ lists.visits.fate →
-    IsServerStaying demand (coming_as load.rows.now load.arrivals.now) block first fates carries
-server-stays law load demand first lists stays block carries fates b c f =
-    subst (λ (p : ℕ × List Fate × List Mp). IsServerStaying demand (coming_as load.rows.now load.arrivals.now) p.0 first p.1 p.2) (λ k. (sym b k, sym f k, sym c k))
-    (coming_of stays.earlier lists.visits, kept-of law load (Server demand) first lists stays, stay law load (Server demand) first lists stays)
+  -- The same told of the node that is there.
+  node-kind : (node : Node) → slice_get load.plan.now.net.nodes load.number ≡ Some node → kind ≡ node.kind
+  node-kind node there = sym stays.is ∙ (λ k. (some_inj _ _ (sym stays.there ∙ there) k).kind)
 
-pub server-fates : AlikeIsFirst → (load : Load) (demand : Demand) (first : ℕ) (lists : NodeLists) → IsTailStaying load (Server demand) first lists → map (λ time. Departs time) (departures_in lists) ≡ lists.visits.fate
-server-fates law load demand first lists stays = sym (fates-back _ _ _ _ _ _ _ (kept-of law load (Server demand) first lists stays))
+  pub node-tail : HasTail kind → (node : Node) → slice_get load.plan.now.net.nodes load.number ≡ Some node → HasTail node.kind
+  node-tail has node there = subst HasTail (node-kind node there) has
 
--- A tandem.
-pub tandem-stays : AlikeIsFirst → (load : Load) (stages : List Stage) (first : ℕ) (lists : NodeLists) → IsTailStaying load (Tandem stages) first lists → (block : ℕ) (carries : List (List Mp)) (fates : List Fate) → block ≡ load.block → carries ≡ tandem_carries lists.checkpoints → fates ≡ lists.visits.fate →
-    IsTandemStaying stages (coming_as load.rows.now load.arrivals.now) block first fates carries
-tandem-stays law load stages first lists stays block carries fates b c f =
-    subst (λ (p : ℕ × List Fate × List (List Mp)). IsTandemStaying stages (coming_as load.rows.now load.arrivals.now) p.0 first p.1 p.2) (λ k. (sym b k, sym f k, sym c k))
-    (coming_of stays.earlier lists.visits, kept-of law load (Tandem stages) first lists stays, stay law load (Tandem stages) first lists stays)
+  abbrev Stay : Kind → Coming → Type 0
+  Stay k old = IsKeptNode k old load.block lists.visits.fate lists.checkpoints × IsStaying k old (coming_as load.rows.now load.arrivals.now) load.block first
 
-pub tandem-fates : AlikeIsFirst → (load : Load) (stages : List Stage) (first : ℕ) (lists : NodeLists) → IsTailStaying load (Tandem stages) first lists → map (λ time. Departs time) (departures_in lists) ≡ lists.visits.fate
-tandem-fates law load stages first lists stays = sym (fates-back _ _ _ _ _ _ _ (kept-of law load (Tandem stages) first lists stays))
+  pub node-stays : (node : Node) → slice_get load.plan.now.net.nodes load.number ≡ Some node → (old : Coming) × Stay node.kind old
+  node-stays node there = (coming_of stays.earlier lists.visits, subst (λ (k : Kind). Stay k (coming_of stays.earlier lists.visits)) (node-kind node there) (kept-of, stay))
 
--- A fork-join.
-pub forkjoin-stays : AlikeIsFirst → (load : Load) (branches : List (List Demand)) (first : ℕ) (lists : NodeLists) → IsTailStaying load (ForkJoin branches) first lists → (block : ℕ) (carries : List (List ℕ)) (fates : List Fate) → block ≡ load.block → carries ≡ forkjoin_carries lists.checkpoints → fates ≡ lists.visits.fate →
-    IsForkJoinStaying branches (coming_as load.rows.now load.arrivals.now) block first fates carries
-forkjoin-stays law load branches first lists stays block carries fates b c f =
-    subst (λ (p : ℕ × List Fate × List (List ℕ)). IsForkJoinStaying branches (coming_as load.rows.now load.arrivals.now) p.0 first p.1 p.2) (λ k. (sym b k, sym f k, sym c k))
-    (coming_of stays.earlier lists.visits, kept-of law load (ForkJoin branches) first lists stays, stay law load (ForkJoin branches) first lists stays)
-
-pub forkjoin-fates : AlikeIsFirst → (load : Load) (branches : List (List Demand)) (first : ℕ) (lists : NodeLists) → IsTailStaying load (ForkJoin branches) first lists → map (λ time. Departs time) (departures_in lists) ≡ lists.visits.fate
-forkjoin-fates law load branches first lists stays = sym (fates-back _ _ _ _ _ _ _ (kept-of law load (ForkJoin branches) first lists stays))
+  pub node-served : (node : Node) → slice_get load.plan.now.net.nodes load.number ≡ Some node → (departs times : List ℕ) → departs ≡ times → (points : Checkpoints) → AreServed load.rows.now node.kind load.arrivals.now (take (first * load.block) (departures_in lists) ++ times) →
+      IsKeptNode node.kind (coming_as load.rows.now load.arrivals.now) load.block (take (first * load.block) lists.visits.fate ++ map (λ time. Departs time) times) points → IsTailServed load kind first lists departs points
+  node-served node there departs times is points served kept = record {
+    stays = stays;
+    served = subst (λ (p : Kind × List ℕ). AreServed load.rows.now p.0 load.arrivals.now (take from (departures_in lists) ++ p.1)) (λ k. (sym (node-kind node there) k, sym is k)) served;
+    kept = subst (λ (p : Kind × List ℕ). IsKeptNode p.0 (coming_as load.rows.now load.arrivals.now) load.block (take from lists.visits.fate ++ map (λ time. Departs time) p.1) points) (λ k. (sym (node-kind node there) k, sym is k)) kept;
+  }
 
 -- What stays of a node, told of what comes to it as it is loaded.
 pub staying-load : (load : Load) (plan : Plan) (rows : Rows) (v block : ℕ) (arrivals : Stream) → load.plan.now ≡ plan → load.rows.now ≡ rows → load.number ≡ v → load.arrivals.now ≡ arrivals → load.block ≡ block → (node : Node) → slice_get plan.net.nodes v ≡ Some node → IsReadFor plan.net rows →

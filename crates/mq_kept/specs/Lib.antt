@@ -1,5 +1,6 @@
 pub mod Carries
 pub mod Formers
+pub mod InTurn
 pub mod Keeping
 pub mod KeptNodes
 pub mod NodeRuns

@@ -4,7 +4,6 @@ use Rattle.mq_alike.specs.Again.{alike}
 use Rattle.mq_core.specs.Theorems.{IsReadFor}
 use Rattle.mq_core.specs.declared.model.Fate.TheVariants.{Departs}
 use Rattle.mq_core.specs.declared.model.Kind.{Kind}
-use Rattle.mq_core.specs.declared.model.Kind.TheVariants.{Delay, Fork, ForkJoin, Join, Loss, Server, Source, Split, Tandem, Trunk}
 use Rattle.mq_core.specs.declared.model.Node.{Node}
 use Rattle.mq_core.specs.declared.model.Rows.{Rows}
 use Rattle.mq_exits.specs.Loads.{IsLoaded}
@@ -20,19 +19,6 @@ use Rattle.mq_kept.specs.declared.former.Former.TheVariants.{Tail}
 use Rattle.mq_kept.specs.declared.former.NodeLists.{NodeLists}
 use Rattle.mq_kept.specs.declared.nodes.NodeRun.{NodeRun}
 use Rattle.mq_kept.specs.declared.tails.FormerTail.{FormerTail}
-
--- jobs leave a node of this kind in the order in which they came, and its blocks are worked one after another
-abbrev pub HasTail : Kind → Type 0
-HasTail Source = ⊥
-HasTail (Server demand) = Unit {0}
-HasTail (Delay demand) = ⊥
-HasTail (Loss places demand) = ⊥
-HasTail (Tandem stages) = Unit {0}
-HasTail (ForkJoin branches) = Unit {0}
-HasTail (Split route) = ⊥
-HasTail (Fork outputs) = ⊥
-HasTail Join = ⊥
-HasTail (Trunk servers demand) = ⊥
 
 -- this is kept of a node of this kind in an earlier run, of which so many first blocks stay; no fewer jobs come now
 pub record IsTailStaying (load : Load) (kind : Kind) (first : ℕ) (lists : NodeLists) : Type 0 where

@@ -4,6 +4,7 @@
 mod again;
 mod checkpoints;
 mod former;
+mod in_turn;
 mod kept;
 mod nodes;
 mod source_runs;

@@ -1,7 +1,9 @@
 // One node of a run that is done again, when all that it reads is done.
 ghost use Rattle.std.specs.Borrow.{Bor};
-ghost use Rattle.std.specs.Prelude.{◌≡◌, ◌<◌, ◌≤◌, ◌+◌, ◌∷◌, ◌⊎◌, ◌==◌, ◌&&◌, ◌^◌, [], ℕ, false, true, if◌then◌else◌, length, slice_get, slice_index, Err, IfErr, IfOk, None, Ok, OnOk, Some};
+ghost use Rattle.std.specs.Prelude.{◌≡◌, ◌<◌, ◌≤◌, ◌+◌, ◌∷◌, ◌⊎◌, ◌==◌, ◌&&◌, ◌^◌, [], ℕ, false, true, if◌then◌else◌, length, slice_get, slice_index, Err, IfErr, IfOk, IfSome, None, Ok, OnOk, Some};
 ghost use Rattle.mq_alike.specs.Again.{alike, blocks_in, is_counted};
+ghost use Rattle.mq_core.specs.Came.{came_in};
+ghost use Rattle.mq_core.specs.Sequences.{sequence_fates};
 ghost use Rattle.mq_core.specs.declared.model.Input.{Input as Port};
 ghost use Rattle.mq_core.specs.declared.model.Kind.TheVariants.{Source};
 ghost use Rattle.mq_core.specs.declared.model.Node.{Node as TheNode};
@@ -9,12 +11,13 @@ ghost use Rattle.mq_edits.specs.declared.former.FormerRows.{FormerRows as TheFor
 ghost use Rattle.mq_engine.specs.Apart.{CanGather};
 ghost use Rattle.mq_engine.specs.Progress.{CanWork};
 ghost use Rattle.mq_engine.specs.Waves.{IsWave};
+ghost use Rattle.mq_exits.specs.Exits.{IsCompletion};
 ghost use Rattle.mq_exits.specs.Loads.{IsReadyLoad};
 ghost use Rattle.mq_exits.specs.Results.{IsWorkedOut};
 ghost use Rattle.mq_exits.specs.declared.working.Ending.TheVariants.{OnTime};
+ghost use Rattle.mq_kept.specs.InTurn.{HasTail};
 ghost use Rattle.mq_kept.specs.KeptNodes.{IsKeptNode, IsNodeOf, blocks_behind, coming_of};
 ghost use Rattle.mq_kept.specs.NodeRuns.{HaveStayed, IsFaultAt, IsFaultOf, IsNodeBefore, IsNodeKept, IsNodeRun, IsStayingAt, RowsFit, came_before, earlier_rows, kept_rows, worked_behind};
-ghost use Rattle.mq_kept.specs.TailRuns.{HasTail};
 ghost use Rattle.mq_kept.specs.declared.former.Former.TheVariants.{Same, Whole};
 ghost use Rattle.mq_merge.specs.Borrowed.{stream_in};
 ghost use Rattle.mq_redo.specs.Kept.{coming_as};
@@ -32,7 +35,7 @@ use mq_core::{Kind, Node, OverFault, Rows, Stream};
 use mq_crew::Open;
 use mq_edits::FormerRows;
 use mq_engine::{RunFault, Way, core_laws, wave_of, way_of};
-use mq_exits::{Emptied, Ending, Held, NodeResult, finished, station_results};
+use mq_exits::{Completion, Emptied, Ending, Held, NodeResult, finished, station_results};
 use mq_redo::counted;
 use mq_scan::cut;
 use std::alloc::Global;
@@ -218,7 +221,8 @@ fn apart_lists<R: Threads + Sync>(
     lists_by(the_only(results), Checkpoints::Nothing)
 }
 
-// What a station gives: a source by what its edited rows change, where a run is kept.
+// What a station gives: a source its lists edited in place, where a run is kept; they are made anew where few visits would stay,
+// or fewer come.
 fn station_run<R: Threads + Sync, L: Ledger>(
     rt: &R,
     alloc: Global,
@@ -245,46 +249,23 @@ fn station_run<R: Threads + Sync, L: Ledger>(
     ensures counted { OnOk result (steps.new ≡ steps.old + worked_behind arriving.now (came_before arriving.now.rows.now (earlier_rows arriving.now.rows.now past.now.earlier) lists) number) }
 {
     let kind = &arriving.plan.net.nodes.get(number as usize).kind;
-    match kind {
-        Kind::Source => edited_source(rt, alloc, arriving, past, number, lists, steps),
-        _ => whole_run(rt, alloc, arriving, past, number, lists, steps),
-    }
-}
-
-// What a source gives: its lists edited in place, or made anew where few visits would stay, or fewer come, or no run is kept.
-fn edited_source<R: Threads + Sync, L: Ledger>(
-    rt: &R,
-    alloc: Global,
-    arriving: &Arriving,
-    past: &Past,
-    number: u32,
-    lists: NodeLists,
-    steps: &mut Steps<L>,
-) -> Result<NodeRun, NodeRefusal>
-    requires wave { IsWave arriving.now }
-    requires one { arriving.now.ready.now ≡ number ∷ [] }
-    requires some { 1 ≤ arriving.now.workers }
-    requires most { arriving.now.workers ≤ 64 }
-    requires block { 64 ≤ arriving.now.block }
-    requires large { arriving.now.block ≤ 65536 }
-    requires fit { RowsFit arriving.now.rows.now past.now.earlier }
-    requires before { IsNodeBefore arriving.now.plan.now (earlier_rows arriving.now.rows.now past.now.earlier) arriving.now.block number lists }
-    requires source { IsNodeOf arriving.now.plan.now number Source }
-    requires can { CanWork arriving.now.plan.now arriving.now.rows.now arriving.now.outputs.now number }
-    ensures gives { IfOk result (IsNodeRun arriving.now (earlier_rows arriving.now.rows.now past.now.earlier) lists number) }
-    ensures cause { IfErr result (λ refusal. IsFaultAt arriving.now.plan.now arriving.now.rows.now number refusal.fault) }
-    ensures back { IfErr result (λ refusal. refusal.lists ≡ lists) }
-    ensures steps { steps.old ≤ steps.new }
-    ensures spent { steps.new ≤ steps.old + worked_behind arriving.now (came_before arriving.now.rows.now (earlier_rows arriving.now.rows.now past.now.earlier) lists) number }
-    ensures counted { OnOk result (steps.new ≡ steps.old + worked_behind arriving.now (came_before arriving.now.rows.now (earlier_rows arriving.now.rows.now past.now.earlier) lists) number) }
-{
-    let Some(former) = past.earlier else {
+    let Some(former) = edits_of_source(past, kind) else {
         return whole_run(rt, alloc, arriving, past, number, lists, steps);
     };
     match source_run(alloc, arriving, former, number, lists) {
         Ok(Edited::Done(gives)) => Ok(gives),
         Ok(Edited::AsBefore(same)) => whole_run(rt, alloc, arriving, past, number, same, steps),
         Err(refusal) => Err(refusal),
+    }
+}
+
+// How the rows come back to those of the kept run, where a run is kept and the node is a source.
+fn edits_of_source<'a>(past: &Past<'a>, kind: &Kind) -> Option<&'a FormerRows>
+    ensures { IfSome result (λ former. (kind.now ≡ Source) × (past.now.earlier ≡ Some former)) }
+{
+    match kind {
+        Kind::Source => past.earlier,
+        _ => None,
     }
 }
 
@@ -443,16 +424,61 @@ fn worked_lists<R: Threads + Sync, L: Ledger>(
     ensures spent { (node : TheNode) → slice_get held.entry.plan.now.net.nodes held.entry.number ≡ Some node → steps.new ≤ steps.old + blocks_behind held.entry.block node.kind (length (stream_in held.entry.arrivals).job) stays.now.blocks }
     ensures counted { OnOk result ((node : TheNode) → slice_get held.entry.plan.now.net.nodes held.entry.number ≡ Some node → steps.new ≡ steps.old + blocks_behind held.entry.block node.kind (length (stream_in held.entry.arrivals).job) stays.now.blocks) }
 {
-    core_laws();
     let load = held.load();
+    let Ok(reworked) = work_again(rt, alloc, workers, &load, stays, steps) else {
+        drop(held);
+        return Err(RunFault::Memory);
+    };
+    left_lists(rt, alloc, workers, held, reworked)
+}
+
+// The lists of a station when all its jobs have left.
+fn left_lists<R: Threads + Sync>(
+    rt: &R,
+    alloc: Global,
+    workers: u32,
+    held: Held,
+    reworked: Reworked,
+) -> Result<NodeLists, RunFault>
+    requires ready { IsReadyLoad held }
+    requires some { 1 ≤ workers }
+    requires most { workers ≤ 64 }
+    requires completion { IsCompletion held.plan.now held.rows.now held.number (stream_in held.arrivals) reworked.completion }
+    requires checkpoints { (node : TheNode) → slice_get held.plan.now.net.nodes held.number ≡ Some node → IsKeptNode node.kind (coming_as held.rows.now (stream_in held.arrivals)) held.block (sequence_fates held.rows.now node.kind (came_in (stream_in held.arrivals))) reworked.checkpoints }
+    ensures known { IfOk result (λ lists. IsWorkedOut held.entry.plan.now held.entry.rows.now (record { number = held.entry.number; ending = OnTime lists.visits lists.streams })) }
+    ensures checkpoints { IfOk result (λ lists. (node : TheNode) → slice_get held.entry.plan.now.net.nodes held.entry.number ≡ Some node → IsKeptNode node.kind (coming_of held.entry.rows.now lists.visits) held.entry.block lists.visits.fate lists.checkpoints) }
+    ensures cause { IfErr result (IsFaultAt held.entry.plan.now held.entry.rows.now held.entry.number) }
+{
+    core_laws();
     let Reworked {
         completion,
         checkpoints,
-    } = work_again(rt, alloc, workers, &load, stays, steps)?;
+    } = reworked;
+    let Ok(node_result) = result_of(rt, alloc, workers, held, completion) else {
+        drop(checkpoints);
+        return Err(RunFault::Memory);
+    };
+    lists_by(node_result, checkpoints)
+}
+
+// How a station ended when all its jobs have left.
+fn result_of<R: Threads + Sync>(
+    rt: &R,
+    alloc: Global,
+    workers: u32,
+    held: Held,
+    completion: Completion,
+) -> Result<NodeResult, OutOfMemory>
+    requires ready { IsReadyLoad held }
+    requires some { 1 ≤ workers }
+    requires most { workers ≤ 64 }
+    requires completion { IsCompletion held.plan.now held.rows.now held.number (stream_in held.arrivals) completion }
+    ensures { IfOk result (λ r. IsWorkedOut held.entry.plan.now held.entry.rows.now (record { number = held.entry.number; ending = r.ending })) }
+{
     let mut emptied = List::new(alloc);
     emptied.push(Emptied { held, completion })?;
     let results = station_results(rt, alloc, workers, emptied, &Open)?;
-    lists_by(the_only(results), checkpoints)
+    Ok(the_only(results))
 }
 
 // The result of the only node.

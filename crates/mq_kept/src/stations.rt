@@ -4,23 +4,23 @@ ghost use Rattle.std.specs.Prelude.{◌≡◌, ◌+◌, ◌≤◌, Some, length,
 ghost use Rattle.mq_alike.specs.Again.{Coming as TheComing, blocks_in};
 ghost use Rattle.mq_core.specs.Came.{came_in};
 ghost use Rattle.mq_core.specs.Sequences.{sequence_fates};
-ghost use Rattle.mq_core.specs.declared.model.Kind.TheVariants.{Delay, ForkJoin, Server, Split, Tandem};
+ghost use Rattle.mq_core.specs.declared.model.Kind.TheVariants.{Delay, Split};
 ghost use Rattle.mq_core.specs.declared.model.Node.{Node as TheNode};
 ghost use Rattle.mq_exits.specs.Afters.{IsWorkedAt};
 ghost use Rattle.mq_exits.specs.Exits.{IsCompletion};
 ghost use Rattle.mq_exits.specs.Loads.{IsLoaded};
 ghost use Rattle.mq_exits.specs.declared.working.Worked.TheVariants.{Departed};
+ghost use Rattle.mq_kept.specs.InTurn.{HasTail};
 ghost use Rattle.mq_kept.specs.KeptNodes.{IsKeptNode, IsNodeOf, IsStayingNode, blocks_behind};
 ghost use Rattle.mq_redo.specs.Kept.{coming_as};
 
 use crate::checkpoints::Checkpoints;
+use crate::in_turn::{Behind, behind_first};
 use mq_alike::alike_is_first;
 use mq_base::{List, OutOfMemory, Steps};
-use mq_core::{Demand, Fates, Kind, Route, Stage};
+use mq_core::{Demand, Fates, Kind, Route};
 use mq_exits::{Completion, Load, Worked, left_by, station_whole};
-use mq_redo::{
-    blocks_hold, branched_again, delayed_again, routed_again, served_again, staged_again,
-};
+use mq_redo::{all_departures, blocks_hold, delayed_again, routed_again};
 use mq_scan::cut;
 use std::alloc::Global;
 use std::sync::ledger::Ledger;
@@ -65,12 +65,10 @@ pub fn work_again<R: Threads + Sync, L: Ledger>(
     ensures counted { OnOk result ((node : TheNode) → slice_get load.now.plan.now.net.nodes load.now.number ≡ Some node → steps.new ≡ steps.old + blocks_behind load.now.block node.kind (length load.now.arrivals.now.job) stays.now.blocks) }
 {
     match &load.plan.net.nodes.get(load.number as usize).kind {
-        Kind::Server(demand) => server_again(rt, alloc, workers, load, demand, stays, steps),
-        Kind::Delay(demand) => delay_again(rt, alloc, workers, load, demand, stays, steps),
-        Kind::Tandem(stages) => tandem_again(rt, alloc, workers, load, stages, stays, steps),
-        Kind::ForkJoin(branches) => {
-            forkjoin_again(rt, alloc, workers, load, branches, stays, steps)
+        Kind::Server(_) | Kind::Tandem(_) | Kind::ForkJoin(_) => {
+            in_turn_again(rt, alloc, workers, load, stays, steps)
         }
+        Kind::Delay(demand) => delay_again(rt, alloc, workers, load, demand, stays, steps),
         Kind::Split(route) => split_again(alloc, load, route, stays, steps),
         Kind::Source | Kind::Loss { .. } | Kind::Trunk { .. } | Kind::Fork { .. } | Kind::Join => {
             worked_anew(rt, alloc, workers, load)
@@ -78,45 +76,35 @@ pub fn work_again<R: Threads + Sync, L: Ledger>(
     }
 }
 
-// A server.
-fn server_again<R: Threads + Sync, L: Ledger>(
+// A server, a tandem or a fork-join.
+fn in_turn_again<R: Threads + Sync, L: Ledger>(
     rt: &R,
     alloc: Global,
     workers: u32,
     load: &Load,
-    demand: &Demand,
     stays: &Stays,
     steps: &mut Steps<L>,
 ) -> Result<Reworked, OutOfMemory>
     requires loaded { IsLoaded load.now.plan.now load.now.rows.now load.now.number load.now.arrivals.now }
     requires some { 1 ≤ load.now.block }
     requires large { load.now.block ≤ 65536 }
-    requires node { IsNodeOf load.now.plan.now load.now.number (Server demand.now) }
-    requires stays { (old : TheComing) × IsStayingNode (Server demand.now) old (coming_as load.now.rows.now load.now.arrivals.now) load.now.block stays.now }
+    requires tail { (node : TheNode) → slice_get load.now.plan.now.net.nodes load.now.number ≡ Some node → HasTail node.kind }
+    requires stays { (node : TheNode) → slice_get load.now.plan.now.net.nodes load.now.number ≡ Some node → (old : TheComing) × IsStayingNode node.kind old (coming_as load.now.rows.now load.now.arrivals.now) load.now.block stays.now }
     ensures completion { IfOk result (λ r. IsCompletion load.now.plan.now load.now.rows.now load.now.number load.now.arrivals.now r.completion) }
-    ensures checkpoints { IfOk result (λ r. IsKeptNode (Server demand.now) (coming_as load.now.rows.now load.now.arrivals.now) load.now.block (sequence_fates load.now.rows.now (Server demand.now) (came_in load.now.arrivals.now)) r.checkpoints) }
+    ensures checkpoints { IfOk result (λ r. (node : TheNode) → slice_get load.now.plan.now.net.nodes load.now.number ≡ Some node → IsKeptNode node.kind (coming_as load.now.rows.now load.now.arrivals.now) load.now.block (sequence_fates load.now.rows.now node.kind (came_in load.now.arrivals.now)) r.checkpoints) }
     ensures steps { steps.old ≤ steps.new }
     ensures spent { steps.new + stays.now.blocks ≤ steps.old + blocks_in load.now.block (length load.now.arrivals.now.job) }
     ensures counted { OnOk result (steps.new + stays.now.blocks ≡ steps.old + blocks_in load.now.block (length load.now.arrivals.now.job)) }
 {
     alike_is_first();
-    let blocks = cut(load.arrivals.time.len() as u32, load.block);
-    blocks_hold(&blocks);
-    let (carries, first) = (stays.checkpoints.server(), stays.blocks);
-    let done = served_again(
-        alloc,
-        load.rows,
-        demand,
-        load.arrivals,
-        &blocks,
-        stays.fates,
-        carries,
-        first,
-        steps,
-    )?;
-    let checkpoints = Checkpoints::Server(List::from_vec(done.carries));
-    let reworked = departed(rt, alloc, workers, load, done.times, checkpoints)?;
-    Ok(reworked)
+    let Behind { times, checkpoints } = behind_first(alloc, load, stays, steps)?;
+    match all_departures(alloc, stays.fates, stays.blocks * load.block, times) {
+        Ok(times) => departed(rt, alloc, workers, load, times, checkpoints),
+        Err(fault) => {
+            drop(checkpoints);
+            Err(fault)
+        }
+    }
 }
 
 // A delay.
@@ -156,90 +144,7 @@ fn delay_again<R: Threads + Sync, L: Ledger>(
         steps,
     )?;
     let checkpoints = Checkpoints::Delay(List::from_vec(done.carries));
-    let reworked = departed(rt, alloc, workers, load, done.times, checkpoints)?;
-    Ok(reworked)
-}
-
-// A tandem.
-fn tandem_again<R: Threads + Sync, L: Ledger>(
-    rt: &R,
-    alloc: Global,
-    workers: u32,
-    load: &Load,
-    stages: &List<Stage>,
-    stays: &Stays,
-    steps: &mut Steps<L>,
-) -> Result<Reworked, OutOfMemory>
-    requires loaded { IsLoaded load.now.plan.now load.now.rows.now load.now.number load.now.arrivals.now }
-    requires some { 1 ≤ load.now.block }
-    requires large { load.now.block ≤ 65536 }
-    requires node { IsNodeOf load.now.plan.now load.now.number (Tandem stages.now) }
-    requires stays { (old : TheComing) × IsStayingNode (Tandem stages.now) old (coming_as load.now.rows.now load.now.arrivals.now) load.now.block stays.now }
-    ensures completion { IfOk result (λ r. IsCompletion load.now.plan.now load.now.rows.now load.now.number load.now.arrivals.now r.completion) }
-    ensures checkpoints { IfOk result (λ r. IsKeptNode (Tandem stages.now) (coming_as load.now.rows.now load.now.arrivals.now) load.now.block (sequence_fates load.now.rows.now (Tandem stages.now) (came_in load.now.arrivals.now)) r.checkpoints) }
-    ensures steps { steps.old ≤ steps.new }
-    ensures spent { steps.new + stays.now.blocks ≤ steps.old + blocks_in load.now.block (length load.now.arrivals.now.job) }
-    ensures counted { OnOk result (steps.new + stays.now.blocks ≡ steps.old + blocks_in load.now.block (length load.now.arrivals.now.job)) }
-{
-    alike_is_first();
-    let blocks = cut(load.arrivals.time.len() as u32, load.block);
-    blocks_hold(&blocks);
-    let (carries, first) = (stays.checkpoints.tandem(), stays.blocks);
-    let done = staged_again(
-        alloc,
-        load.rows,
-        stages,
-        load.arrivals,
-        &blocks,
-        stays.fates,
-        carries,
-        first,
-        steps,
-    )?;
-    let checkpoints = Checkpoints::Tandem(List::from_vec(done.carries));
-    let reworked = departed(rt, alloc, workers, load, done.times, checkpoints)?;
-    Ok(reworked)
-}
-
-// A fork-join.
-fn forkjoin_again<R: Threads + Sync, L: Ledger>(
-    rt: &R,
-    alloc: Global,
-    workers: u32,
-    load: &Load,
-    branches: &List<List<Demand>>,
-    stays: &Stays,
-    steps: &mut Steps<L>,
-) -> Result<Reworked, OutOfMemory>
-    requires loaded { IsLoaded load.now.plan.now load.now.rows.now load.now.number load.now.arrivals.now }
-    requires some { 1 ≤ load.now.block }
-    requires large { load.now.block ≤ 65536 }
-    requires node { IsNodeOf load.now.plan.now load.now.number (ForkJoin branches.now) }
-    requires stays { (old : TheComing) × IsStayingNode (ForkJoin branches.now) old (coming_as load.now.rows.now load.now.arrivals.now) load.now.block stays.now }
-    ensures completion { IfOk result (λ r. IsCompletion load.now.plan.now load.now.rows.now load.now.number load.now.arrivals.now r.completion) }
-    ensures checkpoints { IfOk result (λ r. IsKeptNode (ForkJoin branches.now) (coming_as load.now.rows.now load.now.arrivals.now) load.now.block (sequence_fates load.now.rows.now (ForkJoin branches.now) (came_in load.now.arrivals.now)) r.checkpoints) }
-    ensures steps { steps.old ≤ steps.new }
-    ensures spent { steps.new + stays.now.blocks ≤ steps.old + blocks_in load.now.block (length load.now.arrivals.now.job) }
-    ensures counted { OnOk result (steps.new + stays.now.blocks ≡ steps.old + blocks_in load.now.block (length load.now.arrivals.now.job)) }
-{
-    alike_is_first();
-    let blocks = cut(load.arrivals.time.len() as u32, load.block);
-    blocks_hold(&blocks);
-    let (carries, first) = (stays.checkpoints.forkjoin(), stays.blocks);
-    let done = branched_again(
-        alloc,
-        load.rows,
-        branches,
-        load.arrivals,
-        &blocks,
-        stays.fates,
-        carries,
-        first,
-        steps,
-    )?;
-    let checkpoints = Checkpoints::ForkJoin(List::from_vec(done.carries));
-    let reworked = departed(rt, alloc, workers, load, done.times, checkpoints)?;
-    Ok(reworked)
+    departed(rt, alloc, workers, load, done.times, checkpoints)
 }
 
 // What is known of a station whose jobs depart at these times, in ticks, with its checkpoints.

@@ -1,24 +1,24 @@
 // A server, a tandem or a fork-join of which the first blocks stay: its last visits are edited in place.
-ghost use Rattle.std.specs.Prelude.{◌≡◌, ◌+◌, ◌++◌, ◌≤◌, length, take, true, IfErr, IfOk, OnErr, OnOk};
+ghost use Rattle.std.specs.Prelude.{◌≡◌, ◌+◌, ◌≤◌, length, true, IfErr, IfOk, OnErr, OnOk};
 ghost use Rattle.mq_alike.specs.Again.{blocks_in};
-ghost use Rattle.mq_core.specs.declared.model.Kind.TheVariants.{ForkJoin, Server, Tandem};
 ghost use Rattle.mq_core.specs.declared.model.Kind.{Kind as TheKind};
+ghost use Rattle.mq_kept.specs.InTurn.{HasTail};
 ghost use Rattle.mq_kept.specs.Formers.{with_checkpoints};
 ghost use Rattle.mq_kept.specs.NodeRuns.{IsFaultAt, IsNodeKept};
-ghost use Rattle.mq_kept.specs.TailRuns.{HasTail, IsTailRun, IsTailServed, IsTailStaying};
+ghost use Rattle.mq_kept.specs.TailRuns.{IsTailRun, IsTailServed, IsTailStaying};
 ghost use Rattle.mq_kept.specs.Tails.{IsTailOf, tail_before};
 
 use crate::checkpoints::Checkpoints;
 use crate::former::{Former, NodeLists};
+use crate::in_turn::{Behind, behind_first};
 use crate::nodes::{NodeRefusal, NodeRun};
+use crate::stations::Stays;
 use crate::tails::{FormerTail, edit_tail};
 use mq_alike::alike_is_first;
-use mq_base::{List, OutOfMemory, Steps};
-use mq_core::{Demand, Kind, Stage, fates_are_in_time, orders_keep_items, sequences_go_by_fates};
+use mq_base::Steps;
+use mq_core::{Kind, fates_are_in_time, orders_keep_items, sequences_go_by_fates};
 use mq_engine::{RunFault, core_laws};
 use mq_exits::Load;
-use mq_redo::{blocks_hold, branched_behind, served_behind, staged_behind};
-use mq_scan::cut;
 use std::alloc::Global;
 use std::mem::replace;
 use std::sync::ledger::Ledger;
@@ -87,154 +87,16 @@ fn tail_again<L: Ledger>(
     ensures spent { steps.new + first ≤ steps.old + blocks_in load.now.block (length load.now.arrivals.now.job) }
     ensures counted { OnOk result (steps.new + first ≡ steps.old + blocks_in load.now.block (length load.now.arrivals.now.job)) }
 {
-    match &load.plan.net.nodes.get(load.number as usize).kind {
-        Kind::Server(demand) => server_tail(alloc, load, demand, lists, first, steps),
-        Kind::Tandem(stages) => tandem_tail(alloc, load, stages, lists, first, steps),
-        Kind::ForkJoin(branches) => forkjoin_tail(alloc, load, branches, lists, first, steps),
-        Kind::Source | Kind::Delay(_) | Kind::Loss { .. } | Kind::Split(_) => unreachable!(),
-        Kind::Fork { .. } | Kind::Join | Kind::Trunk { .. } => unreachable!(),
-    }
-}
-
-// A server.
-fn server_tail<L: Ledger>(
-    alloc: Global,
-    load: &Load,
-    demand: &Demand,
-    lists: &mut NodeLists,
-    first: u32,
-    steps: &mut Steps<L>,
-) -> Result<(FormerTail, Checkpoints), RunFault>
-    requires some { 1 ≤ load.now.block }
-    requires large { load.now.block ≤ 65536 }
-    requires stays { IsTailStaying load.now (Server demand.now) first lists.old }
-    ensures kept { OnOk result (IsNodeKept load.now.plan.now load.now.rows.now load.now.block load.now.number lists.new) }
-    ensures fits { IfOk result (λ former. IsTailOf former.0 lists.new) }
-    ensures before { IfOk result (λ former. with_checkpoints former.1 (tail_before former.0 lists.new) ≡ lists.old) }
-    ensures err { OnErr result (lists.new ≡ lists.old) }
-    ensures cause { IfErr result (IsFaultAt load.now.plan.now load.now.rows.now load.now.number) }
-    ensures steps { steps.old ≤ steps.new }
-    ensures spent { steps.new + first ≤ steps.old + blocks_in load.now.block (length load.now.arrivals.now.job) }
-    ensures counted { OnOk result (steps.new + first ≡ steps.old + blocks_in load.now.block (length load.now.arrivals.now.job)) }
-{
     alike_is_first();
-    let blocks = cut(load.arrivals.time.len() as u32, load.block);
-    blocks_hold(&blocks);
-    let kept = lists.checkpoints.server();
-    let done = served_behind(
-        alloc,
-        load.rows,
-        demand,
-        load.arrivals,
-        &blocks,
-        kept,
-        first,
-        steps,
-    )?;
-    let carries = first_and_last(alloc, kept, first, done.carries.as_slice())?;
-    let checkpoints = Checkpoints::Server(carries);
-    tail_put(
-        alloc,
-        load,
-        lists,
-        first,
-        done.times.as_slice(),
-        checkpoints,
-    )
-}
-
-// A tandem.
-fn tandem_tail<L: Ledger>(
-    alloc: Global,
-    load: &Load,
-    stages: &List<Stage>,
-    lists: &mut NodeLists,
-    first: u32,
-    steps: &mut Steps<L>,
-) -> Result<(FormerTail, Checkpoints), RunFault>
-    requires some { 1 ≤ load.now.block }
-    requires large { load.now.block ≤ 65536 }
-    requires stays { IsTailStaying load.now (Tandem stages.now) first lists.old }
-    ensures kept { OnOk result (IsNodeKept load.now.plan.now load.now.rows.now load.now.block load.now.number lists.new) }
-    ensures fits { IfOk result (λ former. IsTailOf former.0 lists.new) }
-    ensures before { IfOk result (λ former. with_checkpoints former.1 (tail_before former.0 lists.new) ≡ lists.old) }
-    ensures err { OnErr result (lists.new ≡ lists.old) }
-    ensures cause { IfErr result (IsFaultAt load.now.plan.now load.now.rows.now load.now.number) }
-    ensures steps { steps.old ≤ steps.new }
-    ensures spent { steps.new + first ≤ steps.old + blocks_in load.now.block (length load.now.arrivals.now.job) }
-    ensures counted { OnOk result (steps.new + first ≡ steps.old + blocks_in load.now.block (length load.now.arrivals.now.job)) }
-{
-    alike_is_first();
-    let blocks = cut(load.arrivals.time.len() as u32, load.block);
-    blocks_hold(&blocks);
-    let kept = lists.checkpoints.tandem();
-    let done = staged_behind(
-        alloc,
-        load.rows,
-        stages,
-        load.arrivals,
-        &blocks,
-        kept,
-        first,
-        steps,
-    )?;
-    let carries = first_and_last(alloc, kept, first, done.carries.as_slice())?;
-    let checkpoints = Checkpoints::Tandem(carries);
-    tail_put(
-        alloc,
-        load,
-        lists,
-        first,
-        done.times.as_slice(),
-        checkpoints,
-    )
-}
-
-// A fork-join.
-fn forkjoin_tail<L: Ledger>(
-    alloc: Global,
-    load: &Load,
-    branches: &List<List<Demand>>,
-    lists: &mut NodeLists,
-    first: u32,
-    steps: &mut Steps<L>,
-) -> Result<(FormerTail, Checkpoints), RunFault>
-    requires some { 1 ≤ load.now.block }
-    requires large { load.now.block ≤ 65536 }
-    requires stays { IsTailStaying load.now (ForkJoin branches.now) first lists.old }
-    ensures kept { OnOk result (IsNodeKept load.now.plan.now load.now.rows.now load.now.block load.now.number lists.new) }
-    ensures fits { IfOk result (λ former. IsTailOf former.0 lists.new) }
-    ensures before { IfOk result (λ former. with_checkpoints former.1 (tail_before former.0 lists.new) ≡ lists.old) }
-    ensures err { OnErr result (lists.new ≡ lists.old) }
-    ensures cause { IfErr result (IsFaultAt load.now.plan.now load.now.rows.now load.now.number) }
-    ensures steps { steps.old ≤ steps.new }
-    ensures spent { steps.new + first ≤ steps.old + blocks_in load.now.block (length load.now.arrivals.now.job) }
-    ensures counted { OnOk result (steps.new + first ≡ steps.old + blocks_in load.now.block (length load.now.arrivals.now.job)) }
-{
-    alike_is_first();
-    let blocks = cut(load.arrivals.time.len() as u32, load.block);
-    blocks_hold(&blocks);
-    let kept = lists.checkpoints.forkjoin();
-    let done = branched_behind(
-        alloc,
-        load.rows,
-        branches,
-        load.arrivals,
-        &blocks,
-        kept,
-        first,
-        steps,
-    )?;
-    let carries = first_and_last(alloc, kept, first, done.carries.as_slice())?;
-    let checkpoints = Checkpoints::ForkJoin(carries);
-    tail_put(
-        alloc,
-        load,
-        lists,
-        first,
-        done.times.as_slice(),
-        checkpoints,
-    )
+    let stays = Stays {
+        fates: &lists.visits.fate,
+        checkpoints: &lists.checkpoints,
+        blocks: first,
+    };
+    let Behind { times, checkpoints } = behind_first(alloc, load, &stays, steps)?;
+    let put = tail_put(alloc, load, lists, first, times.as_slice(), checkpoints);
+    drop(times);
+    put
 }
 
 // Puts the departures behind so many first blocks in a node that keeps its order, and these checkpoints, and gives what it had
@@ -280,19 +142,4 @@ fn tail_put(
             Err(fault)
         }
     }
-}
-
-// The first carries of these, and others behind them.
-fn first_and_last<C: Copy + Drop>(
-    alloc: Global,
-    kept: &[C],
-    first: u32,
-    last: &[C],
-) -> Result<List<C>, OutOfMemory>
-    ensures { IfOk result (λ carries. carries ≡ take first kept.now ++ last.now) }
-{
-    let mut carries = Vec::from_slice(alloc, kept)?;
-    carries.truncate(first as usize);
-    carries.extend_from_slice(last)?;
-    Ok(List::from_vec(carries))
 }

@@ -31,7 +31,7 @@ use Rattle.mq_redo.specs.Staying.{IsKeptScan}
 use Rattle.mq_redo.proofs.Begins.{begins-long, begins-map, flat-map, some-server}
 use Rattle.mq_redo.proofs.Last.{forkjoin-acts, runs-fold, servers-last}
 use Rattle.mq_redo.proofs.Same.{forkjoin-same}
-use Rattle.mq_redo.proofs.Staying.{kept-many, kept-times}
+use Rattle.mq_redo.proofs.Staying.{kept-times}
 use Rattle.mq_redo.proofs.Tails.{carry-is, fates-behind, first-few, scan-behind, times-told}
 
 -- a fork-join can work on all that comes
@@ -70,9 +70,6 @@ module _ (law : AlikeIsFirst) (rows : Rows) (branches : List (List Demand)) (arr
 
     same : (k : ℕ) → k < first * block → (last : List ℕ) → forkjoin_does branches stays.0 k last ≡ forkjoin_does branches new k last
     same k l last = let all = stays.2.same in forkjoin-same law stays.0 new k branches last (omega arith)
-
-    pub many-kept : first * block ≤ length stays.1.times
-    many-kept = let many = kept-many (fold max 0) (forkjoin_does branches stays.0) none (length stays.0.arrive) block stays.1.times carries stays.1.scan in let all = within in omega arith
 
     pub few-kept : first ≤ length carries
     few-kept = first-few (fold max 0) (forkjoin_does branches stays.0) (forkjoin_does branches new) none (length stays.0.arrive) block stays.1.times carries stays.1.scan first within same

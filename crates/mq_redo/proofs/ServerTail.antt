@@ -26,7 +26,7 @@ use Rattle.mq_redo.specs.Staying.{IsKeptScan}
 use Rattle.mq_redo.proofs.Doing.{carries-same}
 use Rattle.mq_redo.proofs.Last.{acts-last, server-last}
 use Rattle.mq_redo.proofs.Same.{server-same}
-use Rattle.mq_redo.proofs.Staying.{kept-many, kept-times}
+use Rattle.mq_redo.proofs.Staying.{kept-times}
 use Rattle.mq_redo.proofs.Tails.{carry-is, fates-behind, first-few, scan-behind, times-told}
 
 module _ (law : AlikeIsFirst) (rows : Rows) (demand : Demand) (arrivals : Stream) (load : IsLoad rows (Server demand) arrivals) (block first : ℕ) (carries : List Mp) (inside : first * block ≤ length arrivals.time) where
@@ -46,9 +46,6 @@ module _ (law : AlikeIsFirst) (rows : Rows) (demand : Demand) (arrivals : Stream
 
     same : (k : ℕ) → k < first * block → (last : Mp) → server_does demand stays.0 k last ≡ server_does demand new k last
     same k l last = let all = stays.2.same in server-same law stays.0 new k demand last (omega arith)
-
-    pub many-kept : first * block ≤ length stays.1.times
-    many-kept = let many = kept-many mp_or_zero (server_does demand stays.0) Void (length stays.0.arrive) block stays.1.times carries stays.1.scan in let all = within in omega arith
 
     pub few-kept : first ≤ length carries
     few-kept = first-few mp_or_zero (server_does demand stays.0) (server_does demand new) Void (length stays.0.arrive) block stays.1.times carries stays.1.scan first within same

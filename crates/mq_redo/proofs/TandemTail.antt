@@ -27,7 +27,7 @@ use Rattle.mq_redo.specs.Staying.{IsKeptScan}
 use Rattle.mq_redo.proofs.Doing.{carries-same}
 use Rattle.mq_redo.proofs.Last.{acts-last, fold-last, tandem-last}
 use Rattle.mq_redo.proofs.Same.{tandem-same}
-use Rattle.mq_redo.proofs.Staying.{kept-many, kept-times}
+use Rattle.mq_redo.proofs.Staying.{kept-times}
 use Rattle.mq_redo.proofs.Tails.{carry-is, fates-behind, first-few, scan-behind, times-told}
 
 -- a tandem can work on all that comes
@@ -59,9 +59,6 @@ module _ (law : AlikeIsFirst) (rows : Rows) (stages : List Stage) (arrivals : St
 
     same : (k : ℕ) → k < first * block → (last : List Mp) → tandem_does stages stays.0 k last ≡ tandem_does stages new k last
     same k l last = let all = stays.2.same in tandem-same law stays.0 new k stages last (omega arith)
-
-    pub many-kept : first * block ≤ length stays.1.times
-    many-kept = let many = kept-many (last_departure places) (tandem_does stages stays.0) (none_kept places) (length stays.0.arrive) block stays.1.times carries stays.1.scan in let all = within in omega arith
 
     pub few-kept : first ≤ length carries
     few-kept = first-few (last_departure places) (tandem_does stages stays.0) (tandem_does stages new) (none_kept places) (length stays.0.arrive) block stays.1.times carries stays.1.scan first within same

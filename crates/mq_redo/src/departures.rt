@@ -59,33 +59,64 @@ pub fn departures_behind<P: Timed, L: Ledger>(
     redone_behind(alloc, step, blocks, times, carries, first, steps)
 }
 
-/// When all jobs of a station depart, in ticks, and the carry behind each block of them: of so many first blocks as they were
-/// kept, with these fates and carries, and behind them as they were done again. It refuses for want of memory alone.
-pub fn with_first<C: Copy>(
+/// When all jobs of a station depart, in ticks: so many first ones as the fates of their visits tell, and those behind them at
+/// these times. It refuses for want of memory alone.
+pub fn all_departures(
     alloc: Global,
     fates: &Fates,
-    carries: &[C],
-    block: u32,
+    count: u32,
+    times: Vec<u64>,
+) -> Result<Vec<u64>, OutOfMemory>
+    requires { (first : Items ℕ) × (fates.now ≡ map (λ time. Departs time) first) × (count ≤ length first) }
+    ensures { IfOk result (λ all. (first : Items ℕ) → fates.now ≡ map (λ time. Departs time) first → all.items ≡ take count first ++ times.items) }
+{
+    if count == 0 {
+        return Ok(times);
+    }
+    let mut all = first_departures(alloc, fates, count, count)?;
+    all.extend_from_slice(&times)?;
+    Ok(all)
+}
+
+/// The carry behind each block of a station: of so many first ones as they were kept, and of those behind them as they were done
+/// again. The times stay those behind. It refuses for want of memory alone.
+pub fn all_carries<C: Copy + Drop>(
+    alloc: Global,
+    kept: &[C],
     first: u32,
     done: Done<C>,
 ) -> Result<Done<C>, OutOfMemory>
-    requires fates { (times : Items ℕ) × (fates.now ≡ map (λ time. Departs time) times) × (first * block ≤ length times) }
-    requires few { first * block < 2 ^ 32 }
-    requires carries { first ≤ length carries.now }
-    ensures times { IfOk result (λ all. (times : Items ℕ) → fates.now ≡ map (λ time. Departs time) times → all.times.items ≡ take (first * block) times ++ done.times.items) }
-    ensures carries { IfOk result (λ all. all.carries.items ≡ take first carries.now ++ done.carries.items) }
+    ensures times { IfOk result (λ all. all.times.items ≡ done.times.items) }
+    ensures carries { IfOk result (λ all. all.carries.items ≡ take first kept.now ++ done.carries.items) }
 {
-    if first == 0 {
-        return Ok(done);
-    }
-    let count = first * block;
-    let mut times = first_departures(alloc, fates, count, count)?;
-    times.extend_from_slice(&done.times)?;
-    let mut all = Vec::new(alloc);
-    all.extend_from_slice(&carries[..first as usize])?;
-    all.extend_from_slice(&done.carries)?;
-    Ok(Done {
+    let Done {
         times,
-        carries: all,
-    })
+        carries: last,
+    } = done;
+    match first_and_last(alloc, kept, first, &last) {
+        Ok(carries) => {
+            drop(last);
+            Ok(Done { times, carries })
+        }
+        Err(fault) => {
+            drop(last);
+            drop(times);
+            Err(fault)
+        }
+    }
+}
+
+// The first carries of these, and others behind them.
+fn first_and_last<C: Copy + Drop>(
+    alloc: Global,
+    kept: &[C],
+    first: u32,
+    last: &[C],
+) -> Result<Vec<C>, OutOfMemory>
+    ensures { IfOk result (λ carries. carries.items ≡ take first kept.now ++ last.now) }
+{
+    let mut carries = Vec::from_slice(alloc, kept)?;
+    carries.truncate(first as usize);
+    carries.extend_from_slice(last)?;
+    Ok(carries)
 }

@@ -1,6 +1,5 @@
 // A fork-join, behind the blocks that stay.
 ghost use Rattle.std.specs.Prelude.{◌≡◌, ◌+◌, ◌*◌, ◌≤◌, ◌++◌, ℕ, List as Items, length, map, take, IfOk, OnOk};
-ghost use Rattle.mq_alike.specs.Again.{Coming as TheComing};
 ghost use Rattle.std.specs.List.{flat_map};
 ghost use Rattle.mq_core.specs.Handling.{demand_of_job};
 ghost use Rattle.mq_core.specs.declared.model.Fate.{Fate as TheFate};
@@ -9,53 +8,20 @@ ghost use Rattle.mq_core.specs.declared.model.Kind.TheVariants.{ForkJoin};
 ghost use Rattle.mq_forkjoin.specs.Servers.{begins_of};
 ghost use Rattle.mq_redo.specs.Branches.{begins_with};
 ghost use Rattle.mq_redo.specs.Behind.{stream_behind};
-ghost use Rattle.mq_redo.specs.Kept.{IsForkJoinStaying, IsKeptForkJoin, IsStaying, coming_as};
+ghost use Rattle.mq_redo.specs.Kept.{IsForkJoinStaying, IsKeptForkJoin, coming_as};
 ghost use Rattle.mq_stations.specs.Leaving.{AreServed, IsLoad};
 
 use crate::behind::{carry_before, last_of};
 use crate::blocks::{Done, redone_last};
-use crate::departures::with_first;
 use mq_alike::alike_is_first;
 use mq_asked::{Asked, all_asked_of};
 use mq_base::{List, OutOfMemory, Steps};
-use mq_core::{Demand, Fates, Rows, Stream};
+use mq_core::{Demand, Rows, Stream};
 use mq_forkjoin::ForkJoinStep;
 use mq_scan::{Blocks, Step, cut};
 use mq_stations::branch_demands;
 use std::alloc::Global;
 use std::sync::ledger::Ledger;
-
-/// When all jobs depart from a fork-join, in ticks, and the latest departure from each of its servers behind each block
-/// of them, where so many first blocks of an earlier run stay, of which these are the fates and the latest departures.
-pub fn branched_again<L: Ledger>(
-    alloc: Global,
-    rows: &Rows,
-    branches: &List<List<Demand>>,
-    arrivals: &Stream,
-    blocks: &Blocks,
-    fates: &Fates,
-    carries: &[[u64; 8]],
-    first: u32,
-    steps: &mut Steps<L>,
-) -> Result<Done<[u64; 8]>, OutOfMemory>
-    requires load { IsLoad rows.now (ForkJoin branches.now) arrivals.now }
-    requires all { blocks.now.n ≡ length arrivals.now.time }
-    requires few { blocks.now.block ≤ 65536 }
-    requires inside { first * blocks.now.block ≤ blocks.now.n }
-    requires kept { (old : TheComing) × IsKeptForkJoin branches.now old blocks.now.block fates.now carries.now × IsStaying (ForkJoin branches.now) old (coming_as rows.now arrivals.now) blocks.now.block first }
-    ensures served { IfOk result (λ done. AreServed rows.now (ForkJoin branches.now) arrivals.now done.times.items) }
-    ensures kept { IfOk result (λ done. IsKeptForkJoin branches.now (coming_as rows.now arrivals.now) blocks.now.block (map (λ time. Departs time) done.times.items) done.carries.items) }
-    ensures steps { steps.old ≤ steps.new }
-    ensures spent { steps.new + first ≤ steps.old + blocks.now.blocks }
-    ensures counted { OnOk result (steps.new + first ≡ steps.old + blocks.now.blocks) }
-{
-    alike_is_first();
-    let done = branched_behind(
-        alloc, rows, branches, arrivals, blocks, carries, first, steps,
-    )?;
-    let all = with_first(alloc, fates, carries, blocks.block, first, done)?;
-    Ok(all)
-}
 
 /// When the jobs behind so many first blocks depart from a fork-join, in ticks, and the latest departure from each of its
 /// servers behind each of their blocks, where those first blocks of an earlier run stay, of which these are the latest

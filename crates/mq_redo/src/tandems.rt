@@ -1,56 +1,24 @@
 // A tandem, behind the blocks that stay.
 ghost use Rattle.std.specs.Prelude.{◌≡◌, ◌+◌, ◌*◌, ◌≤◌, ◌++◌, ℕ, List as Items, length, map, take, IfOk, OnOk};
-ghost use Rattle.mq_alike.specs.Again.{Coming as TheComing};
 ghost use Rattle.mq_core.specs.Handling.{demand_of_job};
 ghost use Rattle.mq_core.specs.declared.model.Fate.{Fate as TheFate};
 ghost use Rattle.mq_core.specs.declared.model.Fate.TheVariants.{Departs};
 ghost use Rattle.mq_core.specs.declared.model.Kind.TheVariants.{Tandem};
 ghost use Rattle.mq_redo.specs.Behind.{stream_behind};
-ghost use Rattle.mq_redo.specs.Kept.{IsKeptTandem, IsStaying, IsTandemStaying, coming_as};
+ghost use Rattle.mq_redo.specs.Kept.{IsKeptTandem, IsTandemStaying, coming_as};
 ghost use Rattle.mq_redo.specs.Stages.{places_of};
 ghost use Rattle.mq_stations.specs.Leaving.{AreServed, IsLoad};
 
 use crate::behind::{carry_before, last_of};
 use crate::blocks::{Done, redone_last};
-use crate::departures::with_first;
 use mq_alike::alike_is_first;
 use mq_asked::{Asked, all_asked_of};
 use mq_base::{List, OutOfMemory, Steps};
-use mq_core::{Demand, Fates, Rows, Stage, Stream};
+use mq_core::{Demand, Rows, Stage, Stream};
 use mq_scan::{Blocks, Step, cut};
 use mq_tandem::{Latest, TandemStep};
 use std::alloc::Global;
 use std::sync::ledger::Ledger;
-
-/// When all jobs depart from a tandem, in ticks, and the latest departures from its stages behind each block of them,
-/// where so many first blocks of an earlier run stay, of which these are the fates and the latest departures.
-pub fn staged_again<L: Ledger>(
-    alloc: Global,
-    rows: &Rows,
-    stages: &List<Stage>,
-    arrivals: &Stream,
-    blocks: &Blocks,
-    fates: &Fates,
-    carries: &[Latest],
-    first: u32,
-    steps: &mut Steps<L>,
-) -> Result<Done<Latest>, OutOfMemory>
-    requires load { IsLoad rows.now (Tandem stages.now) arrivals.now }
-    requires all { blocks.now.n ≡ length arrivals.now.time }
-    requires few { blocks.now.block ≤ 65536 }
-    requires inside { first * blocks.now.block ≤ blocks.now.n }
-    requires kept { (old : TheComing) × IsKeptTandem stages.now old blocks.now.block fates.now carries.now × IsStaying (Tandem stages.now) old (coming_as rows.now arrivals.now) blocks.now.block first }
-    ensures served { IfOk result (λ done. AreServed rows.now (Tandem stages.now) arrivals.now done.times.items) }
-    ensures kept { IfOk result (λ done. IsKeptTandem stages.now (coming_as rows.now arrivals.now) blocks.now.block (map (λ time. Departs time) done.times.items) done.carries.items) }
-    ensures steps { steps.old ≤ steps.new }
-    ensures spent { steps.new + first ≤ steps.old + blocks.now.blocks }
-    ensures counted { OnOk result (steps.new + first ≡ steps.old + blocks.now.blocks) }
-{
-    alike_is_first();
-    let done = staged_behind(alloc, rows, stages, arrivals, blocks, carries, first, steps)?;
-    let all = with_first(alloc, fates, carries, blocks.block, first, done)?;
-    Ok(all)
-}
 
 /// When the jobs behind so many first blocks depart from a tandem, in ticks, and the latest departures from its stages behind
 /// each of their blocks, where those first blocks of an earlier run stay, of which these are the latest departures. Of the

@@ -1,9 +1,21 @@
-use Rattle.std.proofs.Common.{◌≡◌, ◌+◌, get_or, arith}
+use Rattle.std.proofs.Common.{◌≡◌, ◌+◌, ◌∷◌, ℕ, List, [], get_or, length, refl, arith}
 use Rattle.std.proofs.lemmas.Result.{IfOk-weaker}
 use Rattle.mq_kept.specs.NodeRuns.{IsNodeRun, came_before, earlier_rows, worked_behind}
 use Rattle.mq_kept.proofs.Ended.{crowded-at, ready-all}
 use Rattle.mq_kept.proofs.Numbers.{apart-worked}
 use Rattle.mq_kept.proofs.nodes.node_run.Goals as goal
+
+-- the one node that is ready
+only-one : (xs : List ℕ) → length xs ≡ 1 → xs ≡ get_or xs 0 0 ∷ []
+only-one [] one = absurd (omega arith)
+only-one (x ∷ []) one = refl
+only-one (x ∷ y ∷ xs) one = absurd (omega arith)
+
+pub apart_run-requires-clause-one : goal.apart_run-requires-clause-one
+apart_run-requires-clause-one g c κs within = only-one c.args.arriving.now.ready.now c.requires.one
+
+pub station_run-requires-clause-one : goal.station_run-requires-clause-one
+station_run-requires-clause-one g c κs within = only-one c.args.arriving.now.ready.now c.requires.one
 
 pub returns-in-Crowded-clause-cause : goal.returns-in-Crowded-clause-cause
 returns-in-Crowded-clause-cause g c =

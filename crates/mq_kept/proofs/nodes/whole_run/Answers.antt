@@ -1,10 +1,10 @@
 use Rattle.std.proofs.Common.{◌≡◌, ◌+◌, ◌*◌, ◌/◌, ◌≤◌, ◌∙◌, ℕ, length, Some, ap, sym, refl, subst, arith}
 use Rattle.std.specs.Borrow.{Bor}
 use Rattle.std.specs.Prelude.{IfErr, IfOk, OnOk, Option, slice_get}
-use Rattle.mq_alike.specs.Again.{alike}
+use Rattle.mq_alike.specs.Again.{alike, blocks_in}
 use Rattle.mq_edits.specs.Former.{rows_before}
 use Rattle.mq_edits.specs.declared.former.FormerRows.{FormerRows}
-use Rattle.std.proofs.lemmas.Result.{on_ok_weaker}
+use Rattle.std.proofs.lemmas.Result.{IfOk-weaker, on_ok_weaker}
 use Rattle.mq_core.specs.declared.model.Node.{Node}
 use Rattle.mq_core.specs.declared.model.Plan.{Plan}
 use Rattle.mq_core.specs.declared.model.Rows.{Rows}
@@ -15,8 +15,8 @@ use Rattle.mq_kept.specs.KeptNodes.{IsKeptNode, blocks_behind, coming_of}
 use Rattle.mq_kept.specs.NodeRuns.{IsFaultAt, IsNodeBefore, IsNodeRun, came_before, earlier_rows}
 use Rattle.mq_kept.specs.declared.former.NodeLists.{NodeLists}
 use Rattle.mq_kept.proofs.CameBefore.{before-even, before-few, before-told, none-before, none-or-differs, staying-at, staying-by}
-use Rattle.mq_kept.proofs.Ended.{changed-cause, changed-ok, changed-run, kept-lists, loaded-at}
-use Rattle.mq_kept.proofs.Numbers.{none-worked, station-again, station-all, station-worked}
+use Rattle.mq_kept.proofs.Ended.{changed-cause, changed-ok, changed-run, kept-lists, loaded-at, tail-gives}
+use Rattle.mq_kept.proofs.Numbers.{none-worked, station-again, station-all, station-worked, tail-blocks}
 use Rattle.mq_kept.proofs.TailRuns.{staying-load}
 use Rattle.mq_kept.proofs.Unchanged.{station-run}
 use Rattle.mq_redo.specs.Kept.{coming_as}
@@ -166,3 +166,51 @@ tail_run-gives-requires-clause-stays g c =
           ((λ k. (told k).0) ∙ h.plan) ((λ k. (told k).1) ∙ h.rows) ((λ k. (told k).2) ∙ h.number) ((λ k. (told k).3) ∙ sym c.stream-arrivals.ensures) (c.load-load.ensures.block ∙ h.block)
           node c.get.ensures c.requires.wave.read loaded (rows_before yes.0.0.now s.rows.now) before.0 lists before.1 first same longer,
     )
+
+pub returns-then-can_redo_tail-clause-gives : goal.returns-then-can_redo_tail-clause-gives
+returns-then-can_redo_tail-clause-gives g c =
+    let s = c.args.arriving.now in
+    let old = earlier_rows s.rows.now c.args.past.now.earlier in
+    let came = came_before s.rows.now old c.args.lists in
+    let held = c.in-Ok.ensures in
+    let told = c.load-load.ensures.told in
+    let loaded = loaded-at c.in-Ok.held s.plan.now s.rows.now c.args.number c.stream-arrivals.result.now held.ready held.plan held.rows held.number c.stream-arrivals.ensures in
+    let again = station-again s came c.args.number c.get.result.now c.stream-arrivals.result.now c.get.ensures loaded c.alike_at-same.result c.len-visits.result c.cut.result.n c.cut.result.block c.counted-again.result.0
+    c.alike_at-same.ensures c.len-visits.ensures (c.cut.ensures.0 ∙ c.len-count.ensures) c.cut.ensures.1 c.counted-again.ensures.again in
+    let all = station-all s came c.args.number c.get.result.now c.stream-arrivals.result.now c.get.ensures loaded c.cut.result.n c.cut.result.block c.counted-again.result.1 (c.cut.ensures.0 ∙ c.len-count.ensures) c.cut.ensures.1 c.counted-again.ensures.all in
+    IfOk-weaker c.tail_run-gives.result _ _
+    (tail-gives s old c.args.lists c.args.number c.counted-again.result.0 c.counted-again.result.1 c.load-load.result
+    ((λ k. (told k).0) ∙ held.plan) ((λ k. (told k).1) ∙ held.rows) (c.load-load.ensures.block ∙ held.block) ((λ k. (told k).2) ∙ held.number) again all (omega arith) (omega arith))
+    c.tail_run-gives.ensures.gives
+
+pub returns-then-can_redo_tail-clause-spent : goal.returns-then-can_redo_tail-clause-spent
+returns-then-can_redo_tail-clause-spent g c =
+    let s = c.args.arriving.now in
+    let past = c.args.past.now in
+    let came = came_before s.rows.now (earlier_rows s.rows.now past.earlier) c.args.lists in
+    let held = c.in-Ok.ensures in
+    let arrivals = c.stream-arrivals.result.now in
+    let blocks = c.alike_at-same.result / s.block in
+    let loaded = loaded-at c.in-Ok.held s.plan.now s.rows.now c.args.number arrivals held.ready held.plan held.rows held.number c.stream-arrivals.ensures in
+    let worked = station-worked s came c.args.number c.get.result.now arrivals c.get.ensures loaded c.alike_at-same.result c.len-visits.result c.len-count.result blocks
+    c.requires.wave.block c.alike_at-same.ensures c.len-visits.ensures c.len-count.ensures (none-or-differs s past.earlier c.args.number c.args.lists c.requires.before c.alike_at-same.result c.len-visits.result c.len-count.result (c.is_unchanged.ensures.no c.if-is_unchanged.false)) refl in
+    let is = sym (tail-blocks c.get.result.now.kind (c.can_redo_tail.ensures c.if-can_redo_tail.true).1 s.block (length arrivals.job) blocks) ∙ worked in
+    let spent = subst (λ (t : ℕ × Stream). c.tail_run-gives.new.steps + blocks ≤ c.args.steps.now + blocks_in t.0 (length t.1.job)) (λ i. ((c.load-load.ensures.block ∙ held.block) i, ((λ k. (c.load-load.ensures.told k).3) ∙ sym c.stream-arrivals.ensures) i)) c.tail_run-gives.ensures.spent in
+    let rises = c.tail_run-gives.ensures.steps in
+    omega arith
+
+pub returns-then-can_redo_tail-clause-counted : goal.returns-then-can_redo_tail-clause-counted
+returns-then-can_redo_tail-clause-counted g c =
+    let s = c.args.arriving.now in
+    let past = c.args.past.now in
+    let came = came_before s.rows.now (earlier_rows s.rows.now past.earlier) c.args.lists in
+    let held = c.in-Ok.ensures in
+    let arrivals = c.stream-arrivals.result.now in
+    let blocks = c.alike_at-same.result / s.block in
+    let loaded = loaded-at c.in-Ok.held s.plan.now s.rows.now c.args.number arrivals held.ready held.plan held.rows held.number c.stream-arrivals.ensures in
+    let worked = station-worked s came c.args.number c.get.result.now arrivals c.get.ensures loaded c.alike_at-same.result c.len-visits.result c.len-count.result blocks
+    c.requires.wave.block c.alike_at-same.ensures c.len-visits.ensures c.len-count.ensures (none-or-differs s past.earlier c.args.number c.args.lists c.requires.before c.alike_at-same.result c.len-visits.result c.len-count.result (c.is_unchanged.ensures.no c.if-is_unchanged.false)) refl in
+    let is = sym (tail-blocks c.get.result.now.kind (c.can_redo_tail.ensures c.if-can_redo_tail.true).1 s.block (length arrivals.job) blocks) ∙ worked in
+    let counted = subst (λ (t : ℕ × Stream). OnOk c.tail_run-gives.result (c.tail_run-gives.new.steps + blocks ≡ c.args.steps.now + blocks_in t.0 (length t.1.job))) (λ i. ((c.load-load.ensures.block ∙ held.block) i, ((λ k. (c.load-load.ensures.told k).3) ∙ sym c.stream-arrivals.ensures) i)) c.tail_run-gives.ensures.counted in
+    let rises = c.tail_run-gives.ensures.steps in
+    on_ok_weaker c.tail_run-gives.result (λ e. omega arith) counted

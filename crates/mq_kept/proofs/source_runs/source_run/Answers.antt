@@ -1,11 +1,13 @@
-use Rattle.std.proofs.Common.{◌≡◌, ◌∙◌, ap, length-append, subst, sym, take, arith}
+use Rattle.std.proofs.Common.{◌≡◌, ◌≤◌, ◌∙◌, ap, length-append, subst, sym, take, arith}
 use Rattle.std.proofs.lemmas.List.{length-take-le}
 use Rattle.std.proofs.lemmas.Option.{slice_get_within}
 use Rattle.mq_alike.specs.Again.{alike}
 use Rattle.mq_base.proofs.lemmas.Lists.{some_inj}
+use Rattle.mq_core.specs.Laws.{Rises}
 use Rattle.mq_core.specs.SequenceLaws.{sends_once}
 use Rattle.mq_core.specs.declared.model.Node.{Node}
 use Rattle.mq_edits.specs.Former.{rows_before}
+use Rattle.mq_kept.proofs.SourceLoads.{former-even, visits-rise}
 use Rattle.mq_kept.proofs.Unchanged.{station-unchanged}
 use Rattle.mq_kept.specs.KeptNodes.{coming_of}
 use Rattle.mq_kept.specs.SourceTails.{ComeBefore, IsKeptSource}
@@ -15,6 +17,13 @@ use Rattle.mq_kept.proofs.source_runs.source_run.Goals as goal
 
 pub source_tail-requires-clause-kept : goal.source_tail-requires-clause-kept
 source_tail-requires-clause-kept c = (c.args.arriving.now.plan.now, record { source = c.requires.source; read = c.requires.read; earlier = c.requires.earlier; known = c.requires.kept.known })
+
+pub before_changes-first-requires-clause-was : goal.before_changes-first-requires-clause-was
+before_changes-first-requires-clause-was c = former-even c.core_laws.ensures c.args.arriving.now.plan.now c.args.former.now c.args.arriving.now.rows.now c.args.number c.args.lists c.requires.former (record { source = c.requires.source; read = c.requires.read; earlier = c.requires.earlier; known = c.requires.kept.known })
+
+pub before_changes-first-requires-clause-rising : goal.before_changes-first-requires-clause-rising
+before_changes-first-requires-clause-rising c =
+    subst (Rises (λ a b. a ≤ b)) (sym c.as_slice.ensures) (visits-rise c.core_laws.ensures c.args.arriving.now.plan.now c.args.former.now c.args.arriving.now.rows.now c.args.number c.args.lists c.requires.former (record { source = c.requires.source; read = c.requires.read; earlier = c.requires.earlier; known = c.requires.kept.known }))
 
 pub source_tail-requires-clause-first : goal.source_tail-requires-clause-first
 source_tail-requires-clause-first c = subst (λ l. ComeBefore c.args.number c.args.former.now c.args.arriving.now.rows.now l c.before_changes-first.result) c.as_slice.ensures c.before_changes-first.ensures
