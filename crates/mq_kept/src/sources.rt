@@ -131,9 +131,14 @@ fn arrivals_from(
     ensures items { IfOk result (λ arrivals. pairs_of arrivals ≡ by_first (staying_behind first row visits.now ++ by_first (rows_at number row (drop row rows.now.source) (drop row rows.now.time)))) }
 {
     let staying = staying_behind(alloc, row, visits, first)?;
-    let edited = rows_by_time(alloc, number, &rows.source, &rows.time, row as usize)?;
-    let arrivals = merge_two(alloc, &staying, &edited)?;
-    Ok(arrivals)
+    let Ok(edited) = rows_by_time(alloc, number, &rows.source, &rows.time, row as usize) else {
+        drop(staying);
+        return Err(OutOfMemory);
+    };
+    let arrivals = merge_two(alloc, &staying, &edited);
+    drop(staying);
+    drop(edited);
+    arrivals
 }
 
 // The visits behind the first whose jobs are rows before this one.

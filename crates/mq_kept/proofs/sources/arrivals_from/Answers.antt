@@ -6,8 +6,8 @@ use Rattle.mq_kept.proofs.SourceRows.{stay-sorted}
 use Rattle.mq_merge.proofs.Sorted.{rising-stream}
 use Rattle.mq_kept.proofs.sources.arrivals_from.Goals as goal
 
-pub merge_two-requires-clause-a : goal.merge_two-requires-clause-a
-merge_two-requires-clause-a c =
+pub merge_two-arrivals-requires-clause-a : goal.merge_two-arrivals-requires-clause-a
+merge_two-arrivals-requires-clause-a c =
     let stream = c.in_ok-staying.staying in
     let even = c.in_ok-staying.ensures.even in
     let visits = c.args.visits.now in
