@@ -104,7 +104,10 @@ impl<'p> Kept<'p> {
         runs_have_sequences();
         again_is_bounded();
         let formers = all_same(alloc, self.plan.net.nodes.len())?;
-        let former = edit_rows(alloc, &mut self.rows, edits)?;
+        let Ok(former) = edit_rows(alloc, &mut self.rows, edits) else {
+            drop(formers);
+            return Err(RunFault::Memory);
+        };
         let nodes = taken(alloc, &mut self.run, &mut self.checkpoints);
         let result = run_again(
             rt,
@@ -197,7 +200,10 @@ fn begun<R: Threads + Sync, L: Ledger>(
 {
     let count = plan.net.nodes.len();
     let formers = all_same(alloc, count)?;
-    let nodes = no_nodes(alloc, count)?;
+    let Ok(nodes) = no_nodes(alloc, count) else {
+        drop(formers);
+        return Err(RunFault::Memory);
+    };
     let mut steps = Steps::<L>::new(blank);
     match run_again(
         rt, alloc, plan, rows, None, nodes, formers, workers, block, &mut steps,

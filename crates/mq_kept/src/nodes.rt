@@ -476,7 +476,10 @@ fn result_of<R: Threads + Sync>(
     ensures { IfOk result (λ r. IsWorkedOut held.entry.plan.now held.entry.rows.now (record { number = held.entry.number; ending = r.ending })) }
 {
     let mut emptied = List::new(alloc);
-    emptied.push(Emptied { held, completion })?;
+    let Ok(()) = emptied.push(Emptied { held, completion }) else {
+        drop(emptied);
+        return Err(OutOfMemory);
+    };
     let results = station_results(rt, alloc, workers, emptied, &Open)?;
     Ok(the_only(results))
 }

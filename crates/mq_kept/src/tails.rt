@@ -108,9 +108,21 @@ fn former_tail(alloc: Global, lists: &NodeLists, from: usize) -> Result<FormerTa
     ensures departs { IfOk result (λ former. former.departs ≡ drop from (departures_in lists.now)) }
 {
     let job = behind(alloc, &lists.visits.job, from)?;
-    let arrive = behind(alloc, &lists.visits.arrive, from)?;
-    let found = behind(alloc, &lists.visits.found, from)?;
-    let departs = behind(alloc, &lists.streams.get(0).time, from)?;
+    let Ok(arrive) = behind(alloc, &lists.visits.arrive, from) else {
+        drop(job);
+        return Err(OutOfMemory);
+    };
+    let Ok(found) = behind(alloc, &lists.visits.found, from) else {
+        drop(job);
+        drop(arrive);
+        return Err(OutOfMemory);
+    };
+    let Ok(departs) = behind(alloc, &lists.streams.get(0).time, from) else {
+        drop(job);
+        drop(arrive);
+        drop(found);
+        return Err(OutOfMemory);
+    };
     Ok(FormerTail {
         from,
         job,
