@@ -1,4 +1,4 @@
-use Rattle.std.proofs.Common.{◌*◌, ◌≤◌, length, arith}
+use Rattle.std.proofs.Common.{arith}
 use Rattle.std.proofs.lemmas.Result.{IfOk-weaker}
 use Rattle.mq_redo.specs.Kept.{coming_as}
 use Rattle.mq_kept.proofs.Stays.{all-depart, all-kept, first-times}
