@@ -29,7 +29,7 @@ use Rattle.mq_stats.specs.Departures.{departures_from, stays}
 use Rattle.mq_stats.specs.declared.pieces.AheadTable.{AheadTable}
 
 -- it has departed by this time
-abbrev departs_by : ℕ → Fate → Bool
+abbrev pub departs_by : ℕ → Fate → Bool
 departs_by time (Departs departure) = nat_le departure time
 departs_by time Lost = false
 departs_by time Held = false
@@ -41,7 +41,8 @@ once p = leaves_at_once p.0 p.1
 by-or-after : (time d : ℕ) → cond (nat_lt time d) 1 0 + cond (nat_le d time) 1 0 ≡ 1
 by-or-after time d = grind (arith, nat_tests)
 
-there : (time : ℕ) (fates : List Fate) → count_by (departs_after time) fates + count_by (departs_by time) fates ≡ count_by stays fates
+-- of visits that aren't lost those that depart after a time and those that have departed by it are all
+pub there : (time : ℕ) (fates : List Fate) → count_by (departs_after time) fates + count_by (departs_by time) fates ≡ count_by stays fates
 there time [] = refl
 there time (Lost ∷ fates) =
     let rest = there time fates in
@@ -63,7 +64,7 @@ there time (Departs d ∷ fates) =
     let all = count-cons stays (Departs d) fates in
     omega arith
 
-count-departures : (time : ℕ) (fates : List Fate) → up_to time (departure_times fates) ≡ count_by (departs_by time) fates
+pub count-departures : (time : ℕ) (fates : List Fate) → up_to time (departure_times fates) ≡ count_by (departs_by time) fates
 count-departures time [] = refl
 count-departures time (Lost ∷ fates) = let rest = count-departures time fates in let b = count-cons (departs_by time) Lost fates in omega arith
 count-departures time (Held ∷ fates) = let rest = count-departures time fates in let b = count-cons (departs_by time) Held fates in omega arith

@@ -1,6 +1,5 @@
 -- Departures in order, by which the jobs that are gone are counted.
-use Rattle.std.specs.Prelude.{◌≡◌, ℕ, suc, ◌≤◌, ◌==◌, ◌&&◌, ◌||◌, nat_le, nat_lt, Bool, true, false, List, [], ◌∷◌, Option, Some, None}
-use Rattle.mq_core.specs.OnceOut.{departs_after}
+use Rattle.std.specs.Prelude.{◌≡◌, ℕ, suc, ◌≤◌, ◌==◌, ◌&&◌, ◌||◌, nat_le, nat_lt, Bool, true, false, List, [], ◌∷◌}
 use Rattle.mq_core.specs.Laws.{Rises}
 use Rattle.mq_core.specs.declared.model.Fate.{Fate}
 use Rattle.mq_core.specs.declared.model.Fate.TheVariants.{Departs, Held, Lost}
@@ -36,8 +35,3 @@ departures_rise latest [] = true
 departures_rise latest (Departs time ∷ fates) = nat_le latest time && departures_rise time fates
 departures_rise latest (Lost ∷ fates) = departures_rise latest fates
 departures_rise latest (Held ∷ fates) = false
-
--- there is a visit, and it departs after this time, if ever
-abbrev pub stays_at : ℕ → Option Fate → Bool
-stays_at time None = false
-stays_at time (Some fate) = departs_after time fate

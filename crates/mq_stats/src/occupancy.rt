@@ -7,7 +7,7 @@ ghost use Rattle.mq_core.specs.Streams.{by_first};
 ghost use Rattle.mq_core.specs.Laws.{Rises};
 ghost use Rattle.mq_stats.specs.Departures.{Ascends, departures_from, is_gone, stays};
 
-use crate::in_order::{found_in_order, leave_in_order};
+use crate::in_order::found_in_order;
 use mq_base::{List, OutOfMemory};
 use mq_core::{Fate, Fates};
 use mq_merge::sort_by_first;
@@ -84,8 +84,8 @@ pub fn found(alloc: Global, arrive: &List<u64>, fate: &Fates) -> Result<List<u32
     requires fate { AllByRecursion (λ p. LeavesFrom p.0 p.1) (zip arrive.now fate.now) }
     ensures { IfOk result (λ found. found ≡ founds_of arrive.now fate.now) }
 {
-    if leave_in_order(fate) {
-        return found_in_order(alloc, arrive, fate);
+    if let Some(found) = found_in_order(alloc, arrive, fate)? {
+        return Ok(found);
     }
     let departures = departures_in_order(alloc, fate)?;
     let mut found = Vec::with_capacity(alloc, arrive.len())?;

@@ -45,6 +45,7 @@ const NEAR: usize = 8;
 
 /// How many of these times are at most this one, where at least `least` are. It is quick where few
 /// more are, and takes few steps where many are.
+#[inline]
 pub fn passed_by(times: &[u64], least: usize, time: u64) -> usize
     requires order { Rises (λ a b. a ≤ b) times.now }
     requires least { least ≤ count_by (λ t. nat_le t time) times.now }
