@@ -9,6 +9,21 @@ use Rattle.mq_redo.proofs.blocks.redone.Goals as goal
 pub overflow_cast-first : goal.overflow_cast-first
 overflow_cast-first g c = let few = kept-few c.args.blocks.now (length c.args.kept.carries.items) c.requires.inside in omega arith
 
+pub overflow_sub-to : goal.overflow_sub-to
+overflow_sub-to g c = let some = block-some c.args.blocks.now c.parts.b c.range-from.result.0 c.range-from.result.1 c.parts-test.true c.range-from.ensures.0 c.range-from.ensures.1 in omega arith
+
+pub overflow_sub-to-in-parts : goal.overflow_sub-to-in-parts
+overflow_sub-to-in-parts g c = let some = block-some c.args.blocks.now c.parts.b c.range-from.result.0 c.range-from.result.1 c.parts-test.true c.range-from.ensures.0 c.range-from.ensures.1 in omega arith
+
+pub redo_block-requires-clause-some : goal.redo_block-requires-clause-some
+redo_block-requires-clause-some g c = let some = block-some c.args.blocks.now c.parts.b c.range-from.result.0 c.range-from.result.1 c.parts-test.true c.range-from.ensures.0 c.range-from.ensures.1 in omega arith
+
+pub redo_block-requires-clause-before : goal.redo_block-requires-clause-before
+redo_block-requires-clause-before g c =
+    let step = c.args.step.now in
+    let range = block-range c.args.blocks.now c.parts.b c.range-from.result.0 c.range-from.result.1 c.parts-test.true c.range-from.ensures.0 c.range-from.ensures.1 in
+    c.parts.invariant.carry ∙ ap (fold_to g.P.Step.acted (g.P.Step.start step) (g.P.Step.part step)) (sym range.0)
+
 pub push_read-requires : goal.push_read-requires
 push_read-requires g c =
     let step = c.args.step.now in

@@ -18,6 +18,15 @@ through_block-requires-clause-acts g c = λ n l.
     let carry = c.parts.invariant.carry ∙ ap (fold_to g.P.Step.acted c.args.before (g.P.Step.part step)) (sym begins) in
     subst (λ (carry : g.row.P-Carry.Denot). g.P.Step.can_act (g.P.Step.part step (from + n)) carry) (sym (fold-on g.P.Step.acted c.args.before (g.P.Step.part step) from c.parts.carry carry n)) (c.requires.acts (from + n) (omega arith))
 
+pub overflow_sub-to : goal.overflow_sub-to
+overflow_sub-to g c = let some = block-some c.args.blocks.now c.parts.b c.range-from.result.0 c.range-from.result.1 c.parts-test.true c.range-from.ensures.0 c.range-from.ensures.1 in omega arith
+
+pub overflow_sub-to-in-parts : goal.overflow_sub-to-in-parts
+overflow_sub-to-in-parts g c = let some = block-some c.args.blocks.now c.parts.b c.range-from.result.0 c.range-from.result.1 c.parts-test.true c.range-from.ensures.0 c.range-from.ensures.1 in omega arith
+
+pub through_block-requires-clause-order : goal.through_block-requires-clause-order
+through_block-requires-clause-order g c = let some = block-some c.args.blocks.now c.parts.b c.range-from.result.0 c.range-from.result.1 c.parts-test.true c.range-from.ensures.0 c.range-from.ensures.1 in omega arith
+
 pub push_read-requires : goal.push_read-requires
 push_read-requires g c =
     let step = c.args.step.now in
