@@ -3,7 +3,6 @@ use Rattle.std.proofs.Common.{◌≡◌, ℕ, suc, ◌≤◌, Bool, true, false,
 use Rattle.std.specs.List.{AllByRecursion as Each, zip}
 use Rattle.std.proofs.lemmas.List.{length-map}
 use Rattle.mq_core.proofs.lemmas.Orders.{is-sorted}
-use Rattle.mq_core.proofs.lemmas.Rising.{Rises-in_order_of, filter-in_order_of, same_by_key}
 use Rattle.mq_core.specs.Laws.{Rises}
 use Rattle.mq_core.specs.OnceOut.{leaving_times, out_of_fate}
 use Rattle.mq_core.specs.Recurrences.{trunk_fates}
@@ -12,6 +11,7 @@ use Rattle.mq_core.specs.Streams.{by_first, pairs_of, picked, sorted}
 use Rattle.mq_core.specs.declared.model.Fate.{Fate}
 use Rattle.mq_core.specs.declared.model.Fate.TheVariants.{Departs, Held, Lost}
 use Rattle.mq_core.specs.declared.model.Stream.{Stream}
+use Rattle.mq_merge.proofs.Merging.{by_first-rises}
 use Rattle.mq_trunk.specs.Parts.{AreAdmitted, lost_of, of_admitted, of_lost, trunk_stream}
 use Rattle.mq_trunk.proofs.Fates.{trunk-each, trunk-over}
 use Rattle.mq_rounds.specs.Rounds.{admits, departures_in}
@@ -56,21 +56,9 @@ lost-even (false ∷ admitted) (job ∷ jobs) (time ∷ times) e = ap suc (lost-
 pub lost-stream : (arrivals : Stream) (admitted : List Bool) → IsStream arrivals → IsStream (lost_of arrivals admitted)
 lost-stream arrivals admitted s = record { even = lost-even admitted arrivals.job arrivals.time s.even; rising = lost-rises admitted arrivals.time s.rising }
 
--- A stream that is by time already stays.
-pairs-later : (time : ℕ) (times jobs : List ℕ) → Each (λ other. time ≤ other) times → Each (λ (p : ℕ × ℕ). time ≤ p.0) (zip times jobs)
-pairs-later time [] jobs h = tt
-pairs-later time (other ∷ times) [] h = tt
-pairs-later time (other ∷ times) (job ∷ jobs) h = (h.0, pairs-later time times jobs h.1)
-
-pairs-rise : (times jobs : List ℕ) → Rises (λ a b. a ≤ b) times → Rises (λ (p q : ℕ × ℕ). p.0 ≤ q.0) (zip times jobs)
-pairs-rise [] jobs h = tt
-pairs-rise (time ∷ times) [] h = tt
-pairs-rise (time ∷ times) (job ∷ jobs) h = (pairs-later time times jobs h.0, pairs-rise times jobs h.1)
-
+-- a stream that is by time already stays
 stays-sorted : (stream : Stream) → IsStream stream → stream ≡ sorted stream
-stays-sorted stream s =
-    let pairs = pairs_of stream in
-    is-sorted stream stream s (sym (same_by_key (λ (p : ℕ × ℕ). p.0) (by_first pairs) pairs (Rises-in_order_of (λ (p : ℕ × ℕ). p.0) pairs) (pairs-rise stream.time stream.job s.rising) (λ k. filter-in_order_of (λ (p : ℕ × ℕ). p.0) k pairs)))
+stays-sorted stream s = is-sorted stream stream s (sym (by_first-rises stream.time stream.job s.rising))
 
 -- the jobs that are admitted, by departure, are what leaves by output 0
 pub leaves-first : (servers : ℕ) (arrivals leaving : Stream) (demands : List ℕ) (admitted : List Bool) (departs : List ℕ) → length demands ≡ length arrivals.time → IsStream leaving →
