@@ -7,7 +7,7 @@ use Rattle.mq_loss.specs.Rounds.{departure_behind, loss_rule}
 use Rattle.mq_loss.proofs.Departing.{IsEarly, early-next, early-same}
 use Rattle.mq_rounds.specs.Rounds.{all_admitted, departures_from, left_behind, round_from}
 use Rattle.mq_rounds.proofs.lemmas.Departing.{departures-none, round-none}
-use Rattle.mq_rounds.proofs.lemmas.Looping.{IsItem}
+use Rattle.mq_rounds.proofs.lemmas.Looping.{IsItem, window-ends}
 
 pub left-early : (left : List ℕ) (admit : Bool) (at arrive demand : ℕ) → IsItem arrive demand → IsEarly left at → IsEarly (left_behind departure_behind admit left arrive demand) (at + 1)
 left-early left true at arrive demand i h = record { limit = early-next left at arrive demand i.early i.small h }
@@ -40,12 +40,8 @@ departures-all i done all left times demands guess l h =
 -- nor at the end of a window
 pub window-all : (places rest : ℕ) (done all : List Bool) (left times demands : List ℕ) → rest ≡ 0 →
     done ++ round_from (loss_rule places) left times demands (all_admitted rest) ≡ all → done ≡ all
-window-all places rest done all left times demands e h =
-    sym (append-nil done)
-    ∙ (ap (λ xs. done ++ xs) (sym (round-none (loss_rule places) left times demands)) ∙ (ap (λ (n : ℕ). done ++ round_from (loss_rule places) left times demands (all_admitted n)) (sym e) ∙ h))
+window-all places rest done all left times demands e h = window-ends (round_from (loss_rule places) left times demands) rest done all (round-none (loss_rule places) left times demands) e h
 
 pub departs-all : (rest : ℕ) (done all left times demands : List ℕ) → rest ≡ 0 →
     done ++ departures_from departure_behind left times demands (all_admitted rest) ≡ all → done ≡ all
-departs-all rest done all left times demands e h =
-    sym (append-nil done)
-    ∙ (ap (λ xs. done ++ xs) (sym (departures-none departure_behind left times demands)) ∙ (ap (λ (n : ℕ). done ++ departures_from departure_behind left times demands (all_admitted n)) (sym e) ∙ h))
+departs-all rest done all left times demands e h = window-ends (departures_from departure_behind left times demands) rest done all (departures-none departure_behind left times demands) e h

@@ -1,7 +1,6 @@
 -- One item further in the loops over arrivals.
 use Rattle.std.proofs.Common.{◌≡◌, ℕ, suc, ◌+◌, Bool, true, false, List, [], ◌∷◌, ◌++◌, drop, Some, sym, ap, ◌∙◌, subst, append_assoc}
 use Rattle.std.specs.Prelude.{slice_get, if◌then◌else◌}
-use Rattle.std.proofs.lemmas.List.{append-nil}
 use Rattle.mq_core.specs.Recurrences.{finds_server}
 use Rattle.mq_trunk.specs.Kept.{IsKept, take_place}
 use Rattle.mq_trunk.specs.Rounds.{departure_at_once, trunk_rule}
@@ -9,7 +8,7 @@ use Rattle.mq_trunk.proofs.Keeping.{kept-next}
 use Rattle.mq_rounds.specs.Rounds.{all_admitted, left_behind, round_from}
 use Rattle.mq_rounds.specs.Windows.{settled_part}
 use Rattle.mq_rounds.proofs.lemmas.Departing.{round-none}
-use Rattle.mq_rounds.proofs.lemmas.Looping.{round-first}
+use Rattle.mq_rounds.proofs.lemmas.Looping.{round-first, window-ends}
 
 -- the latest departures behind one more job
 pub kept-behind : (servers : ℕ) (latest latest' left : List ℕ) (admit : Bool) (arrive demand : ℕ) → IsKept servers latest left →
@@ -43,6 +42,4 @@ window-lost servers done done' all left times demands at count rest arrive deman
 pub window-all : (servers rest : ℕ) (done all : List Bool) (left times demands : List ℕ) → rest ≡ 0 →
     done ++ settled_part (round_from (trunk_rule servers) left times demands (all_admitted rest)) ≡ all → done ≡ all
 window-all servers rest done all left times demands e h =
-    sym (append-nil done)
-    ∙ (ap (λ (os : List Bool). done ++ settled_part os) (sym (round-none (trunk_rule servers) left times demands))
-    ∙ (ap (λ (n : ℕ). done ++ settled_part (round_from (trunk_rule servers) left times demands (all_admitted n))) (sym e) ∙ h))
+    window-ends (λ (guess : List Bool). settled_part (round_from (trunk_rule servers) left times demands guess)) rest done all (ap settled_part (round-none (trunk_rule servers) left times demands)) e h

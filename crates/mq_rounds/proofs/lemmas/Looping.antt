@@ -6,7 +6,7 @@ use Rattle.std.proofs.lemmas.List.{append-nil, drop_all}
 use Rattle.std.proofs.lemmas.List.Elements.{All-get_or}
 use Rattle.mq_base.proofs.lemmas.Lists.{drop_at}
 use Rattle.mq_core.specs.Sequences.{IsSoundLoad}
-use Rattle.mq_rounds.specs.Rounds.{Rule, left_behind, round_from}
+use Rattle.mq_rounds.specs.Rounds.{Rule, all_admitted, left_behind, round_from}
 
 -- the limits of an arrival and its demand
 pub record IsItem (arrive demand : ℕ) : Type 0 where
@@ -46,3 +46,7 @@ pub round-all : (rule : Rule) (i : ℕ) (done all : List Bool) (left times deman
     done ++ round_from rule left (drop i times) demands guess ≡ all → done ≡ all
 round-all rule i done all left times demands guess l h =
     sym (append-nil done) ∙ (ap (λ (ts : List ℕ). done ++ round_from rule left ts demands guess) (sym (drop_all i times l)) ∙ h)
+
+-- nor at the end of a window, of what is made of its guess
+pub window-ends : {X : Type 0} (part : List Bool → List X) (rest : ℕ) (done all : List X) → part [] ≡ [] → rest ≡ 0 → done ++ part (all_admitted rest) ≡ all → done ≡ all
+window-ends part rest done all none e h = sym (append-nil done) ∙ (ap (λ xs. done ++ xs) (sym none) ∙ (ap (λ n. done ++ part (all_admitted n)) (sym e) ∙ h))
