@@ -3,3 +3,4 @@ pub mod Orders
 pub mod Plans
 pub mod Rising
 pub mod Matches
+pub mod Tandems

@@ -1,9 +1,9 @@
 -- The carries of a tandem's scan are the latest departures of its recurrence.
-use Rattle.std.proofs.Common.{◌≡◌, ℕ, zero, suc, ◌+◌, ◌<◌, List, [], ◌∷◌, length, get_or, drop, map, max, refl, sym, ap, ◌∙◌, arith}
+use Rattle.std.proofs.Common.{◌≡◌, ℕ, zero, suc, ◌+◌, ◌<◌, List, [], ◌∷◌, length, get_or, drop, map, refl, sym, ap, ◌∙◌, arith}
 use Rattle.std.proofs.lemmas.List.{drop_all, length-map}
 use Rattle.std.proofs.Math.Seq.{drop-cons}
-use Rattle.std.specs.Prelude.{slice_get}
-use Rattle.mq_core.specs.Recurrences.{time_or_none, room_in, stage_departs, each_before, last_time, firsts, tandem_departs}
+use Rattle.mq_core.proofs.lemmas.Tandems.{each_before-length, stage_departs-length}
+use Rattle.mq_core.specs.Recurrences.{stage_departs, each_before, last_time, firsts, tandem_departs}
 use Rattle.mq_maxplus.specs.declared.mp.Mp.{Mp}
 use Rattle.mq_maxplus.specs.declared.mp.Mp.TheVariants.{At}
 use Rattle.mq_maxplus.specs.Maxplus.{mp_or_zero, mp_plus}
@@ -19,18 +19,6 @@ use Rattle.mq_tandem.proofs.LatestRows.{latest, AreDeep, deep-before, deep-none,
 
 abbrev zeros : List ℕ
 zeros = 0 ∷ 0 ∷ 0 ∷ 0 ∷ []
-
-length-stages : (came : ℕ) (places demands : List ℕ) (left : List (List ℕ)) → length demands ≡ length places → length left ≡ length places → length (stage_departs came places demands left) ≡ length places
-length-stages came [] demands left a b = refl
-length-stages came (count ∷ more) [] left a b = absurd (omega arith)
-length-stages came (count ∷ more) (demand ∷ demands) [] a b = absurd (omega arith)
-length-stages came (count ∷ more) (demand ∷ demands) (times ∷ left) a b = ap suc (length-stages (max (max came (time_or_none (slice_get times 0)) + demand) (room_in more left)) more demands left (omega arith) (omega arith))
-
-length-before : (times : List ℕ) (left : List (List ℕ)) → length times ≡ length left → length (each_before times left) ≡ length left
-length-before [] [] e = refl
-length-before [] (earlier ∷ left) e = absurd (omega arith)
-length-before (time ∷ times) [] e = refl
-length-before (time ∷ times) (earlier ∷ left) e = ap suc (length-before times left (omega arith))
 
 module _ (arrive : List ℕ) (demands : List (List ℕ)) (places : List ℕ) (load : IsTandemLoad arrive demands places) where
   abbrev Fold : ℕ → List Mp
@@ -68,11 +56,11 @@ module _ (arrive : List ℕ) (demands : List (List ℕ)) (places : List ℕ) (lo
       let each = load.stages.each in
       let some = load.stages.some in
       let long = length-firsts demands at in
-      let all : length times ≡ length places = length-stages (get_or arrive at 0) places ds left (omega arith) many in
+      let all : length times ≡ length places = stage_departs-length (get_or arrive at 0) places ds left (omega arith) many in
       let rows = next-rows at left (omega arith) is deep many in
       let time : Time (Fold (suc at)) ≡ last_time times = ap Time rows ∙ ap mp_or_zero (latest-last (kept places) times left room deep (omega arith) (omega arith) (omega arith)) in
       let next : suc at ≡ at + 1 = omega arith in
-      (λ i. time i ∷ from-here (suc at) n (each_before times left) (omega arith) rows (deep-before times left deep) (length-before times left (all ∙ sym many) ∙ many) i)
+      (λ i. time i ∷ from-here (suc at) n (each_before times left) (omega arith) rows (deep-before times left deep) (each_before-length times left (all ∙ sym many) ∙ many) i)
       ∙ (ap (λ columns. last_time times ∷ tandem_departs places (each_before times left) (drop (suc at) arrive) columns) (ap (λ (k : ℕ). map (drop k) demands) next ∙ sym (rests-drop demands at))
       ∙ sym (ap (λ xs. tandem_departs places left xs (map (drop at) demands)) (drop-cons arrive at 0 (omega arith))))
 

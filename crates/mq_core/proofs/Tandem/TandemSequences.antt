@@ -9,6 +9,7 @@ use Rattle.mq_core.specs.declared.model.Stage.{Stage}
 use Rattle.mq_core.specs.declared.model.Rows.{Rows}
 use Rattle.mq_core.specs.SequenceLaws.{arrives_of, jobs_of}
 use Rattle.mq_core.specs.Machine.{Visit}
+use Rattle.mq_core.proofs.lemmas.Tandems.{each_before-length, stage_departs-length}
 use Rattle.mq_core.proofs.ForkJoin.ForkJoinTimes.{AtLeast, at_least-refl}
 
 tandem_departs-length : (places : List ℕ) (left : List (List ℕ)) (arrives : List ℕ) (demands : List (List ℕ)) → length (tandem_departs places left arrives demands) ≡ length arrives
@@ -20,17 +21,6 @@ pub tandem_times-length : (rows : Rows) (stages : List Stage) (jobs arrives : Li
 tandem_times-length rows [] jobs arrives = refl
 tandem_times-length rows (stage ∷ stages) jobs arrives =
     tandem_departs-length (map (λ (s : Stage). s.places) (stage ∷ stages)) (map (λ _. []) (stage ∷ stages)) arrives (map (λ (s : Stage). map (demand_of_job rows s.demand) jobs) (stage ∷ stages))
-
-stage_departs-length : (came : ℕ) (places demands : List ℕ) (left : List (List ℕ)) → length demands ≡ length places → length left ≡ length places → length (stage_departs came places demands left) ≡ length places
-stage_departs-length came [] demands left e f = refl
-stage_departs-length came (p ∷ places) [] left e f = absurd (omega arith)
-stage_departs-length came (p ∷ places) (d ∷ demands) [] e f = absurd (omega arith)
-stage_departs-length came (p ∷ places) (d ∷ demands) (times ∷ left) e f = ap suc (stage_departs-length (max (max came (time_or_none (slice_get times 0)) + d) (room_in places left)) places demands left (omega arith) (omega arith))
-
-each_before-length : (times : List ℕ) (left : List (List ℕ)) → length times ≡ length left → length (each_before times left) ≡ length left
-each_before-length [] left e = e
-each_before-length (time ∷ times) [] e = refl
-each_before-length (time ∷ times) (earlier ∷ left) e = ap suc (each_before-length times left (omega arith))
 
 -- a job leaves the last stage no earlier than it came
 last-late : (came p d : ℕ) (places demands : List ℕ) (times : List ℕ) (left : List (List ℕ)) → length demands ≡ length places → length left ≡ length places → came ≤ last_time (stage_departs came (p ∷ places) (d ∷ demands) (times ∷ left))
