@@ -11,7 +11,6 @@ use Rattle.mq_crew.proofs.lemmas.Groups.{ArePassing}
 use Rattle.mq_crew.proofs.lemmas.Sizes.{total-most}
 use Rattle.mq_merge.specs.Borrowed.{stream_in}
 use Rattle.mq_exits.specs.Exits.{IsCompletion, IsLast, IsReadyCompletion, closings_of, lasts_of}
-use Rattle.mq_exits.specs.Loads.{IsLoadOf}
 use Rattle.mq_exits.specs.Results.{IsResultOf, IsWorkedOut}
 use Rattle.mq_exits.specs.declared.exits.Closed.{Closed}
 use Rattle.mq_exits.specs.declared.exits.Emptied.{Emptied}
@@ -19,19 +18,13 @@ use Rattle.mq_exits.specs.declared.exits.Completion.{Completion}
 use Rattle.mq_exits.specs.declared.exits.Completion.TheVariants.{Known, Passed, Sent, Served, Settled, Sorted}
 use Rattle.mq_exits.specs.declared.working.NodeResult.{NodeResult}
 use Rattle.mq_exits.proofs.Lasts.{copies-few}
+use Rattle.mq_exits.proofs.OfWave.{IsEmptiedOf, Wave}
 
 abbrev pub emptied_size : Emptied → ℕ
 emptied_size l = lasts_of l.held.arrivals l.completion
 
 abbrev pub emptied_piece : Emptied → ℕ → Closed → Type 0
 emptied_piece l b closed = IsLast l.held.plan.now l.held.rows.now l.held.number l.held.arrivals l.completion b closed
-
--- the nodes of a wave, of a plan over rows
-abbrev pub Wave : Type 0
-Wave = Plan × Rows × List ℕ
-
-abbrev pub IsEmptiedOf : Wave → Emptied → Type 0
-IsEmptiedOf w l = IsLoadOf w.0 w.1 w.2 l.held
 
 abbrev pub IsGivenOf : Wave → NodeResult → Type 0
 IsGivenOf w node_result = IsResultOf w.0 w.1 w.2 node_result

@@ -1,18 +1,16 @@
 -- Jobs that leave a station in the order in which they came.
-use Rattle.std.proofs.Common.{◌≡◌, ℕ, zero, suc, ◌<◌, ◌≤◌, Bool, IsTrue, List, [], ◌∷◌, length, get_or, Some, sym, ap, ◌∙◌, subst, arith}
-use Rattle.std.specs.Prelude.{MatchBool, slice_get}
-use Rattle.std.specs.List.{AllByRecursion as Each, zip}
-use Rattle.std.specs.List.Sorted.{IsNonDecreasing}
+use Rattle.std.proofs.Common.{◌≡◌, ℕ, zero, suc, ◌<◌, ◌≤◌, List, [], ◌∷◌, length, Some, sym, ap, ◌∙◌, subst, arith}
+use Rattle.std.specs.Prelude.{slice_get}
 use Rattle.mq_core.specs.Came.{came_in}
 use Rattle.mq_core.specs.Laws.{Rises}
 use Rattle.mq_core.specs.SequenceLaws.{FatesAreInTime, SequencesGoByFates}
 use Rattle.mq_core.specs.Sequences.{IsStream, sequence_stream, stream_in_order}
-use Rattle.mq_core.specs.Streams.{by_first, sorted}
+use Rattle.mq_core.specs.Streams.{sorted}
 use Rattle.mq_core.specs.declared.model.Kind.{Kind}
 use Rattle.mq_core.specs.declared.model.Rows.{Rows}
 use Rattle.mq_core.specs.declared.model.Stream.{Stream}
 use Rattle.mq_core.proofs.lemmas.Orders.{is-sorted}
-use Rattle.mq_core.proofs.lemmas.Rising.{same_by_key, filter-in_order_of, Rises-in_order_of}
+use Rattle.mq_merge.proofs.Merging.{by_first-rises}
 use Rattle.mq_stations.specs.Leaving.{AreDepartures, AreServed, AreStreams, IsLoad}
 use Rattle.mq_stations.proofs.lemmas.Leaves.{departs-even, departs-one}
 use Rattle.mq_exits.specs.Afters.{LeaveInTurn}
@@ -42,37 +40,9 @@ pub in-turn-rises : SequencesGoByFates → FatesAreInTime → (rows : Rows) (kin
 in-turn-rises fated law rows kind arrivals departs load t =
     subst (λ (stream : Stream). Rises (λ a b. a ≤ b) stream.time) (sym (in-turn-sequence fated law rows kind arrivals departs load.ordered.ordered.even t)) (load.leaves 0).rising
 
--- what the code's look tells
-pub never-falls : (P : Type 0) (times : List ℕ) (answer : Bool) → MatchBool answer (IsNonDecreasing times) P → IsTrue answer → Rises (λ a b. a ≤ b) times
-never-falls P times answer h holds = up times (subst (λ a. MatchBool a (IsNonDecreasing times) P) holds h)
-  where
-    up : (us : List ℕ) → IsNonDecreasing us → Rises (λ a b. a ≤ b) us
-    up [] k = tt
-    up (u ∷ us) k = (behind us (λ j l. k 0 (suc j) u (omega arith) (omega arith)), up us (λ i j d a b. k (suc i) (suc j) d (omega arith) (omega arith)))
-      where
-        behind : (vs : List ℕ) → ((j : ℕ) → j < length vs → u ≤ get_or vs j u) → Each (λ v. u ≤ v) vs
-        behind [] j = tt
-        behind (v ∷ vs) j = (j 0 (omega arith), behind vs (λ i l. j (suc i) (omega arith)))
-
--- what is in order of time stays as it is
-stays : (times jobs : List ℕ) → Rises (λ a b. a ≤ b) times → by_first (zip times jobs) ≡ zip times jobs
-stays times jobs h =
-    let ps = zip times jobs in
-    same_by_key (λ (p : ℕ × ℕ). p.0) (by_first ps) ps (Rises-in_order_of (λ (p : ℕ × ℕ). p.0) ps) (pairs times jobs h) (λ k. filter-in_order_of (λ (p : ℕ × ℕ). p.0) k ps)
-  where
-    behind : (t : ℕ) (us ks : List ℕ) → Each (λ u. t ≤ u) us → Each (λ (q : ℕ × ℕ). t ≤ q.0) (zip us ks)
-    behind t [] ks k = tt
-    behind t (u ∷ us) [] k = tt
-    behind t (u ∷ us) (l ∷ ks) k = (k.0, behind t us ks k.1)
-
-    pairs : (us ks : List ℕ) → Rises (λ a b. a ≤ b) us → Rises (λ (p q : ℕ × ℕ). p.0 ≤ q.0) (zip us ks)
-    pairs [] ks k = tt
-    pairs (u ∷ us) [] k = tt
-    pairs (u ∷ us) (l ∷ ks) k = (behind u us ks k.0, pairs us ks k.1)
-
 -- Where jobs leave by time, and their departures never fall, they leave in the order in which they came.
 pub in-turn-risen : FatesAreInTime → (rows : Rows) (kind : Kind) (arrivals : Stream) (departs : List ℕ) → IsLoad rows kind arrivals → AreDepartures rows kind arrivals departs → ((stream : Stream) → stream_in_order kind stream ≡ sorted stream) → Rises (λ a b. a ≤ b) departs → LeaveInTurn rows kind arrivals departs
 in-turn-risen law rows kind arrivals departs load d by rises =
     let leaving : Stream = record { job = arrivals.job; time = departs } in
     let ordered : IsStream leaving = record { even = load.ordered.ordered.even ∙ sym (departs-even law rows kind arrivals departs load d); rising = rises } in
-    (d, by leaving ∙ sym (is-sorted leaving leaving ordered (sym (stays departs arrivals.job rises))))
+    (d, by leaving ∙ sym (is-sorted leaving leaving ordered (sym (by_first-rises departs arrivals.job rises))))

@@ -17,14 +17,14 @@ use Rattle.mq_core.specs.declared.model.Kind.{Kind}
 use Rattle.mq_core.specs.declared.model.Network.{Network}
 use Rattle.mq_core.specs.declared.model.Rows.{Rows}
 use Rattle.mq_core.specs.declared.model.Stream.{Stream}
-use Rattle.mq_core.proofs.lemmas.Orders.{firsts-order, is-sorted}
+use Rattle.mq_core.proofs.lemmas.Orders.{is-sorted}
+use Rattle.mq_stats.proofs.AllDepart.{departures-of}
 use Rattle.mq_stats.specs.Ahead.{departure_order, departure_times}
 use Rattle.mq_stations.specs.Leaving.{AreDepartures, AreLeft, AreStreams, KeepsOrder, left_by}
 use Rattle.mq_stations.proofs.lemmas.Leaves.{departs-one}
 use Rattle.mq_exits.specs.Afters.{AreOnTime}
 use Rattle.mq_exits.specs.Exits.{overtaking}
 use Rattle.mq_exits.specs.Results.{IsResult}
-use Rattle.mq_base.proofs.lemmas.Zips.{zip-first}
 
 -- where the jobs keep their order, what leaves by position is what the sequences say
 pub kept-streams : SequencesGoByFates → (rows : Rows) (kind : Kind) (arrivals : Stream) (streams : List Stream) → sends_once kind ≡ true → KeepsOrder kind → AreLeft rows kind arrivals streams → AreStreams rows kind arrivals streams
@@ -78,16 +78,7 @@ sorted-streams fated law rows kind arrivals departs leaving even d order s e =
     only zero l = ap Some stream
     only (suc out) l = absurd (omega arith)
 
--- the times of a stream that is these items in order
-pub times-in_order : (s : Stream) (jobs times : List ℕ) → IsStream s → length jobs ≡ length times → pairs_of s ≡ by_first (zip times jobs) → s.time ≡ in_order_of (λ t. t) times
-times-in_order s jobs times h e k =
-    sym (zip-first s.time s.job h.even) ∙ (ap (map (λ (p : ℕ × ℕ). p.0)) k ∙ (firsts-order (zip times jobs) ∙ ap (in_order_of (λ t. t)) (zip-first times jobs e)))
-
--- where all depart, the departures are those times
-pub departures-of : (times : List ℕ) → departure_times (map (λ t. Departs t) times) ≡ times
-departures-of [] = refl
-departures-of (t ∷ ts) = ap (λ l. t ∷ l) (departures-of ts)
-
+-- where all depart, the departures in order are those times in order
 pub departures-order : (times leaving : List ℕ) (fates : List Fate) → fates ≡ map (λ t. Departs t) times → leaving ≡ in_order_of (λ t. t) times → leaving ≡ departure_order fates
 departures-order times leaving fates f e = e ∙ ap (in_order_of (λ t. t)) (sym (ap departure_times f ∙ departures-of times))
 

@@ -9,6 +9,7 @@ pub mod DelayOrder
 pub mod SplitBlocks
 pub mod Founding
 pub mod Lasts
+pub mod OfWave
 pub mod Emptying
 pub mod Telling
 pub mod Apart

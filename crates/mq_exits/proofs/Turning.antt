@@ -32,7 +32,8 @@ use Rattle.mq_exits.specs.declared.working.After.TheVariants.{Seen}
 use Rattle.mq_exits.specs.declared.working.Ending.TheVariants.{OnTime, TooLate}
 use Rattle.mq_exits.specs.declared.working.NodeResult.{NodeResult}
 use Rattle.mq_exits.proofs.Apart.{AreApart}
-use Rattle.mq_exits.proofs.Emptying.{IsEmptiedOf, IsGivenOf, Wave, result-of}
+use Rattle.mq_exits.proofs.Emptying.{IsGivenOf, result-of}
+use Rattle.mq_exits.proofs.OfWave.{IsEmptiedOf, Wave}
 use Rattle.mq_exits.proofs.InOrder.{in-turn-rises}
 use Rattle.mq_exits.proofs.Known.{known}
 use Rattle.mq_exits.proofs.Leavings.{late-by, seen-result}

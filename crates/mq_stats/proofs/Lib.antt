@@ -8,6 +8,7 @@ pub mod Founds
 pub mod InOrder
 pub mod InTurn
 pub mod Passing
+pub mod AllDepart
 pub mod Telling
 pub mod Greatest
 pub mod Fine

@@ -380,12 +380,7 @@ left-on arrives departs first index left passed h bit least l = go (cases_lt 0 p
         let more = passed-later (get_or arrives (first + index) 0) (get_or arrives (suc (first + index)) 0) departs order in
         subst (λ n. left + passed ≤ up_to (get_or arrives n 0) departs) next (omega arith)
 
--- Where all depart. The departures of such fates are those times.
-pub departures-of : (times : List ℕ) → departure_times (map (λ t. Departs t) times) ≡ times
-departures-of [] = refl
-departures-of (t ∷ ts) = ap (λ l. t ∷ l) (departures-of ts)
-
--- none of them is lost
+-- where all depart none is lost
 pub all-stay : (i : ℕ) (departs : List ℕ) → i ≤ length departs → count_by stays (take i (map (λ d. Departs d) departs)) ≡ i
 all-stay zero departs l = refl
 all-stay (suc i) [] l = absurd (omega arith)

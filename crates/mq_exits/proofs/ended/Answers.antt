@@ -5,7 +5,8 @@ use Rattle.mq_crew.proofs.lemmas.Groups.{passing-last, passing-more}
 use Rattle.mq_exits.specs.Exits.{IsReadyCompletion}
 use Rattle.mq_exits.specs.declared.exits.Closed.{Closed}
 use Rattle.mq_exits.specs.declared.exits.Emptied.{Emptied}
-use Rattle.mq_exits.proofs.Emptying.{IsEmptiedOf, IsGivenOf, emptied_piece, emptied_size, result-of}
+use Rattle.mq_exits.proofs.Emptying.{IsGivenOf, emptied_piece, emptied_size, result-of}
+use Rattle.mq_exits.proofs.OfWave.{IsEmptiedOf}
 use Rattle.mq_exits.proofs.ended.Goals as goal
 
 pub result_of-requires-clause-group : goal.result_of-requires-clause-group

@@ -1,4 +1,4 @@
-use Rattle.mq_exits.proofs.Leavings.{times-in_order}
+use Rattle.mq_merge.proofs.Sorted.{times-in_order}
 use Rattle.mq_exits.proofs.overtaking.by_departure.Goals as goal
 
 pub returns-then-workers-eq1-clause-times : goal.returns-then-workers-eq1-clause-times

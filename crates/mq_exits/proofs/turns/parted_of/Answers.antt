@@ -2,7 +2,7 @@ use Rattle.std.proofs.Common.{arith, refl, subst, sym}
 use Rattle.std.specs.List.{AllByRecursion}
 use Rattle.mq_exits.specs.Exits.{IsReadyCompletion}
 use Rattle.mq_exits.proofs.Apart.{apart-first, apart-last, apart-second}
-use Rattle.mq_exits.proofs.Emptying.{IsEmptiedOf}
+use Rattle.mq_exits.proofs.OfWave.{IsEmptiedOf}
 use Rattle.mq_exits.proofs.Turning.{IsGivenIn}
 use Rattle.mq_exits.proofs.turns.parted_of.Goals as goal
 

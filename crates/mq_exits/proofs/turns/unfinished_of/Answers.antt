@@ -3,7 +3,8 @@ use Rattle.std.specs.List.{AllByRecursion}
 use Rattle.mq_base.proofs.lemmas.Each.{Each-weaker}
 use Rattle.mq_exits.specs.Exits.{IsReadyCompletion}
 use Rattle.mq_exits.proofs.Apart.{apart-first, apart-last, apart-second}
-use Rattle.mq_exits.proofs.Emptying.{IsEmptiedOf, IsGivenOf, Wave}
+use Rattle.mq_exits.proofs.Emptying.{IsGivenOf}
+use Rattle.mq_exits.proofs.OfWave.{IsEmptiedOf, Wave}
 use Rattle.mq_exits.proofs.Turning.{CanFinish, IsFinishableIn, again-ready, emptied_again}
 use Rattle.mq_exits.proofs.turns.unfinished_of.Goals as goal
 

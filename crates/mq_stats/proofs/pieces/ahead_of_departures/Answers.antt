@@ -7,7 +7,8 @@ use Rattle.mq_core.specs.Laws.{in_order_of}
 use Rattle.mq_core.specs.declared.model.Fate.{Fate}
 use Rattle.mq_core.specs.declared.model.Fate.TheVariants.{Departs}
 use Rattle.mq_stats.proofs.Founds.{count-next, counted-few, few-in-32, few-in-64}
-use Rattle.mq_stats.proofs.Telling.{all-stay, count-most, counts-next, departs-get, departures-of, one-longer, zip-get}
+use Rattle.mq_stats.proofs.AllDepart.{departures-of}
+use Rattle.mq_stats.proofs.Telling.{all-stay, count-most, counts-next, departs-get, one-longer, zip-get}
 use Rattle.mq_stats.specs.Ahead.{leaves_at_once}
 use Rattle.mq_stats.proofs.pieces.ahead_of_departures.Goals as goal
 
