@@ -45,28 +45,8 @@ neighbours node b sum piece visited before its =
 
 pub before-more : (node : NodeVisits) (b : ℕ) (sum piece sum' : BlockCount) → IsVisited node → AreBefore node b sum → IsPieceCount node b piece →
     ((blocks : AreNeighbours sum piece) → IsBlock blocks.rows blocks.kind blocks.visits blocks.span blocks.most blocks.from blocks.to sum') → AreBefore node (b + 1) sum'
-before-more node b sum piece sum' visited before its added =
-    let count = length (visits_in node.visits).job in
-    let order : 0 ≤ start_of 16384 count b = omega arith in
-    let next : start_of 16384 count b ≤ start_of 16384 count (b + 1) = omega arith in
-    let within : start_of 16384 count (b + 1) ≤ count = omega arith in
-    added
-    (record {
-      rows = node.rows.now;
-      kind = node.kind.now;
-      visits = visits_in node.visits;
-      span = node.span;
-      most = counted_to node.tails;
-      from = 0;
-      middle = start_of 16384 count b;
-      to = start_of 16384 count (b + 1);
-      sound = visited.visits;
-      order = order;
-      next = next;
-      within = within;
-      first = before;
-      second = its;
-    })
+unfolding neighbours
+before-more node b sum piece sum' visited before its added = added (neighbours node b sum piece visited before its)
 
 -- no visit stands before the first piece
 pub before-none : (node : NodeVisits) (sum : BlockCount) → IsBlock node.rows.now node.kind.now (visits_in node.visits) node.span (counted_to node.tails) 0 0 sum → AreBefore node 0 sum

@@ -1,4 +1,4 @@
--- The sequences of a run, at a node and an output.
+-- The sequences of a run, at a node and an output: for the proofs of mq_report too.
 use Rattle.std.proofs.Common.{◌≡◌, ℕ, ◌<◌, List, Some, sym, ap, ◌∙◌, length}
 use Rattle.std.specs.Prelude.{slice_get}
 use Rattle.std.proofs.lemmas.Option.{slice_get_within}

@@ -4,7 +4,7 @@ use Rattle.mq_stats.specs.Numbers.{AreVisits}
 use Rattle.mq_report.specs.Sequences.{sequence_lines}
 use Rattle.mq_report.specs.Text.{node_jobs}
 use Rattle.mq_report.proofs.JobLines.{jobs-are}
-use Rattle.mq_report.proofs.Runs.{visits_are, visits_inside}
+use Rattle.mq_counts.proofs.Sequences.{visits_are, visits_inside}
 use Rattle.mq_report.proofs.jobs.add_jobs_at.Given as Given
 use Rattle.mq_report.proofs.jobs.add_jobs_at.Goals as goal
 
