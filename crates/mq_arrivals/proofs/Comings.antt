@@ -1,8 +1,8 @@
 -- What comes to a node by its ports, one after another, and the blocks of which it is put in order.
-use Rattle.std.proofs.Common.{◌≡◌, ℕ, ◌+◌, ◌^◌, ◌<◌, ◌≤◌, Bool, true, false, cond, List, [], ◌∷◌, ◌++◌, length, get_or, map, take, Some, sym, refl, ap, ◌∙◌, subst, arith, length-append}
+use Rattle.std.proofs.Common.{◌≡◌, ℕ, ◌+◌, ◌^◌, ◌<◌, ◌≤◌, Bool, true, false, cond, List, [], ◌++◌, length, get_or, map, take, Some, sym, refl, ap, ◌∙◌, subst, arith, length-append}
 use Rattle.std.specs.Prelude.{◌&&◌, Contains, nat_lt, not, slice_get}
 use Rattle.std.specs.List.{AllByRecursion as Each, flat_map, zip}
-use Rattle.std.proofs.lemmas.List.{append-nil, length-map}
+use Rattle.std.proofs.lemmas.List.{append-nil}
 use Rattle.std.proofs.lemmas.Bool.Decides.{nat_tests}
 use Rattle.std.proofs.lemmas.Option.{slice_get-get_or}
 use Rattle.mq_base.proofs.lemmas.Each.{Each-weaker}
@@ -26,6 +26,7 @@ use Rattle.mq_crew.proofs.lemmas.Groups.{ArePassing}
 use Rattle.mq_crew.proofs.lemmas.Sizes.{total-most}
 use Rattle.mq_scan.specs.declared.blocks.Blocks.{Blocks}
 use Rattle.mq_scan.proofs.lemmas.Blocks.{behind-begin, behind-end, behind-more, blocks-few, end_of}
+use Rattle.mq_merge.proofs.Merging.{Rises-times, by_first-rises, length-pairs}
 use Rattle.mq_merge.specs.Borrowed.{stream_in}
 use Rattle.mq_merge.specs.declared.arrivals.Arrivals.{Arrivals}
 use Rattle.mq_arrivals.specs.Arrivals.{CanCome, HasArrived, IsArriving, Pairs, arriving, pairs_read}
@@ -35,7 +36,6 @@ use Rattle.mq_arrivals.specs.declared.merges.Origin.{Origin}
 use Rattle.mq_arrivals.specs.declared.merges.Origin.TheVariants.{Ended, Ports, Unsorted}
 use Rattle.mq_arrivals.specs.declared.nodes.Arrived.{Arrived}
 use Rattle.mq_arrivals.specs.declared.nodes.Arriving.{Arriving}
-use Rattle.mq_arrivals.proofs.Sorted.{by_first-rises}
 
 -- Pairs in order of time.
 by_first-length : (ps : Pairs) → length (by_first ps) ≡ length ps
@@ -46,14 +46,6 @@ by_first-twice ps =
     ap by_first (sym (append-nil (by_first ps)))
     ∙ (in_order_of-append_left (λ (p : ℕ × ℕ). p.0) ps [] ∙ ap by_first (append-nil ps))
 
-Rises-firsts : (ps : Pairs) → Rises (λ (p q : ℕ × ℕ). p.0 ≤ q.0) ps → Rises (λ a b. a ≤ b) (map (λ (p : ℕ × ℕ). p.0) ps)
-Rises-firsts [] h = tt
-Rises-firsts (p ∷ ps) h = (behind ps h.0, Rises-firsts ps h.1)
-  where
-    behind : (qs : Pairs) → Each (λ (q : ℕ × ℕ). p.0 ≤ q.0) qs → Each (λ t. p.0 ≤ t) (map (λ (q : ℕ × ℕ). q.0) qs)
-    behind [] k = tt
-    behind (q ∷ qs) k = (k.0, behind qs k.1)
-
 -- a stream whose items are in order
 pub in-order : (pairs : Pairs) (stream : Stream) → length stream.job ≡ length stream.time → pairs_of stream ≡ by_first pairs → ArePairsOf pairs stream
 in-order pairs stream even e =
@@ -61,13 +53,10 @@ in-order pairs stream even e =
     record {
       ordered = record {
         even = even;
-        rising = subst (Rises (λ a b. a ≤ b)) times (Rises-firsts (by_first pairs) (Rises-in_order_of (λ (p : ℕ × ℕ). p.0) pairs));
+        rising = subst (Rises (λ a b. a ≤ b)) times (Rises-times (by_first pairs) (Rises-in_order_of (λ (p : ℕ × ℕ). p.0) pairs));
       };
       items = e;
     }
-
-pub pairs-length : (s : Stream) → IsStream s → length (pairs_of s) ≡ length s.time
-pairs-length s h = sym (length-map (pairs_of s) (λ (p : ℕ × ℕ). p.0)) ∙ ap length (zip-first s.time s.job h.even)
 
 -- The blocks of a stream so far, one behind the other.
 pub record AreBehind (pairs : Pairs) (blocks : Blocks) (b : ℕ) (times jobs : List ℕ) : Type 0 where
@@ -174,8 +163,8 @@ no-port rows v node outputs port = go (is_source_kind node.kind)
 -- two streams together are no more
 pub both-few : (pairs : Pairs) (one other : Stream) → IsStream one → IsStream other → by_first (pairs_of one ++ pairs_of other) ≡ by_first pairs → length pairs ≤ 1048576 → length one.time + length other.time ≤ 1048576
 both-few pairs one other so st e few =
-    let a = pairs-length one so in
-    let b = pairs-length other st in
+    let a = length-pairs one so.even in
+    let b = length-pairs other st.even in
     let c = length-append (pairs_of one) (pairs_of other) in
     let d = ap length e in
     let f = by_first-length (pairs_of one ++ pairs_of other) in
@@ -252,8 +241,8 @@ Joins blocks group stream = (pairs : Pairs) → blocks.n ≡ length pairs → Ar
 
 pair-length : (one other : Stream) (blocks : Blocks) → IsPair one other blocks → blocks.n ≡ length (pairs_of one ++ pairs_of other)
 pair-length one other blocks h =
-    let a = pairs-length one h.first in
-    let b = pairs-length other h.second in
+    let a = length-pairs one h.first.even in
+    let b = length-pairs other h.second.even in
     let both = length-append (pairs_of one) (pairs_of other) in
     let n = h.all in
     omega arith
@@ -294,8 +283,8 @@ comings-few s ports comings few each =
     pair-few a b blocks h few =
         let most = blocks-few blocks in
         let n = h.all in
-        let one = pairs-length a h.first in
-        let other = pairs-length b h.second in
+        let one = length-pairs a h.first.even in
+        let other = length-pairs b h.second.even in
         let both = length-append (pairs_of a) (pairs_of b) in
         omega arith
 

@@ -45,7 +45,7 @@ use Rattle.mq_engine.specs.Progress.{AreEarly, read_by}
 use Rattle.mq_exits.specs.Results.{IsKnown}
 use Rattle.mq_exits.specs.declared.working.Ending.{Ending}
 use Rattle.mq_exits.specs.declared.working.Ending.TheVariants.{OnTime, TooMany, TooLate}
-use Rattle.mq_arrivals.proofs.Comings.{pairs-length}
+use Rattle.mq_merge.proofs.Merging.{length-pairs}
 use Rattle.mq_engine.proofs.Early.{stream-early}
 use Rattle.mq_engine.proofs.Waves.{arriving-early}
 use Rattle.mq_exits.proofs.Known.{left-ordered, refusal-few}
@@ -89,7 +89,7 @@ module _ (outputs : List (List Stream)) (inputs : List Input) (port : ℕ) (inpu
       let a = ap length brings in
       let b = length-append (read_by outputs 0 (take port inputs)) (by port (pairs_of stream)) in
       let c : length (by port (pairs_of stream)) ≡ length (pairs_of stream) = length-map (pairs_of stream) _ in
-      let d = pairs-length stream is in
+      let d = length-pairs stream is.even in
       omega arith
 
   -- it is gathered with those before it

@@ -4,7 +4,6 @@ use Rattle.std.specs.List.{AllByRecursion}
 use Rattle.mq_base.proofs.lemmas.Each.{Each-append, Each-back, Each-front, Each-weaker}
 use Rattle.mq_core.specs.Theorems.{IsReadFor}
 use Rattle.mq_core.specs.declared.model.Kind.{Kind}
-use Rattle.mq_core.specs.declared.model.Plan.{Plan}
 use Rattle.mq_core.specs.declared.model.Rows.{Rows}
 use Rattle.mq_core.specs.declared.model.Stream.{Stream}
 use Rattle.mq_crew.specs.Crew.{AreAll, total_size}
@@ -14,6 +13,7 @@ use Rattle.mq_scan.proofs.lemmas.Blocks.{blocks-few}
 use Rattle.mq_merge.specs.Borrowed.{stream_in}
 use Rattle.mq_arrivals.specs.declared.nodes.Arrived.{Arrived}
 use Rattle.mq_arrivals.specs.declared.nodes.Arriving.{Arriving}
+use Rattle.mq_exits.proofs.OfWave.{IsEmptiedOf, Wave}
 use Rattle.mq_exits.specs.Exits.{IsReadyCompletion}
 use Rattle.mq_exits.specs.Loads.{IsLoadOf}
 use Rattle.mq_exits.specs.declared.exits.Emptied.{Emptied}
@@ -70,10 +70,6 @@ scanning-more s all left rest one scans others scan done done' scanned was a b e
           (Each-append (IsScannedAt s) done (scanned ∷ []) was.made (subst (IsScannedAt s) (sym is) ((read, record { loaded = here.0; way = own }, block), (refl, refl, here.1)), tt));
     }
 
--- the nodes of a wave, of a plan over rows
-abbrev pub Wave : Type 0
-Wave = Plan × Rows × List ℕ
-
 abbrev pub scanned_size : Scanned → ℕ
 scanned_size s = blocks_of s.scan
 
@@ -91,9 +87,6 @@ IsScannedOf w s = IsLoadOf w.0 w.1 w.2 s.held
 
 abbrev pub IsMiddleOf : Wave → Middle → Type 0
 IsMiddleOf w m = IsLoadOf w.0 w.1 w.2 m.scanned.held
-
-abbrev pub IsEmptiedOf : Wave → Emptied → Type 0
-IsEmptiedOf w l = IsLoadOf w.0 w.1 w.2 l.held
 
 abbrev pub AreMiddling : List Scanned → List Scanned → List (List Part) → List Middle → Type 0
 AreMiddling = ArePassing scanned_size scanned_piece IsReadyScanned IsReadyMiddle IsScannedOf IsMiddleOf

@@ -2,7 +2,7 @@
 use Rattle.std.proofs.Common.{◌≡◌, ◌≢◌, ℕ, ◌<◌, ◌⊎◌, inl, inr, All, true, false, List, [], ◌∷◌, ◌++◌, length, set, Some, refl, sym, ap, ◌∙◌, subst, arith}
 use Rattle.std.specs.Prelude.{Contains, count_by, filter, slice_get}
 use Rattle.std.specs.List.{AllByRecursion as Each}
-use Rattle.std.proofs.lemmas.Bool.{and_parts}
+use Rattle.std.proofs.lemmas.Bool.{and_parts, cases_eq}
 use Rattle.std.proofs.lemmas.List.{length-set}
 use Rattle.std.proofs.lemmas.Option.{get_or_from_slice_get, slice_get-get_or, slice_get_within}
 use Rattle.mq_base.proofs.lemmas.Each.{Each-back, Each-front, Each-weaker}
@@ -30,7 +30,7 @@ use Rattle.mq_engine.specs.declared.told.ToldNode.{ToldNode}
 use Rattle.mq_engine.proofs.Lists.{filter-passes}
 use Rattle.mq_engine.proofs.Endings.{HaveStands, StandsAt}
 use Rattle.mq_engine.proofs.Settling.{IsFewer, set-fewer, waiting-inside}
-use Rattle.mq_engine.proofs.Waves.{decide-eq, fed-all, ready-at}
+use Rattle.mq_engine.proofs.Waves.{fed-all, ready-at, one-node}
 
 -- where no node is told of and all wait, what is told is what the run has
 pub counting-begins : (plan : Plan) (rows : Rows) (form : ℕ) (counts : List NodeCount) (outputs : List (List Stream)) (stands : List Stand) → length counts ≡ length plan.net.nodes → length outputs ≡ length plan.net.nodes → All (λ streams. streams ≡ []) outputs →
@@ -89,12 +89,9 @@ module _ (plan : Plan) (stands : List Stand) (v : ℕ) (node : Node) (stand : St
   set-away : (w : ℕ) (at : Stand) → w ≢ v → slice_get (set stands v stand) w ≡ Some at → slice_get stands w ≡ Some at
   set-away w at apart g = sym (get-set_other stands v w stand apart) ∙ g
 
-  node-here : (w : ℕ) (other : Node) → w ≡ v → slice_get plan.net.nodes w ≡ Some other → node ≡ other
-  node-here w other same e = some_inj _ _ (sym there ∙ (ap (slice_get plan.net.nodes) (sym same) ∙ e))
-
   -- a node that waits when it is set is another one, where what is set doesn't wait, and waited before
   waits-away : is_waiting stand ≡ false → (w : ℕ) → slice_get (set stands v stand) w ≡ Some Waiting → slice_get stands w ≡ Some Waiting
-  waits-away quiet w g = go (decide-eq w v)
+  waits-away quiet w g = go (cases_eq w v)
     where
       go : (w ≡ v) ⊎ (w ≢ v) → slice_get stands w ≡ Some Waiting
       go (inl same) = let is = ap is_waiting (set-here w Waiting same g) in absurd cc
@@ -102,7 +99,7 @@ module _ (plan : Plan) (stands : List Stand) (v : ℕ) (node : Node) (stand : St
 
   -- the same of one that is done
   done-away : is_done stand ≡ false → (w : ℕ) → slice_get (set stands v stand) w ≡ Some Done → slice_get stands w ≡ Some Done
-  done-away undone w g = go (decide-eq w v)
+  done-away undone w g = go (cases_eq w v)
     where
       go : (w ≡ v) ⊎ (w ≢ v) → slice_get stands w ≡ Some Done
       go (inl same) = let is = ap is_done (set-here w Done same g) in absurd cc
@@ -129,12 +126,12 @@ module _ (plan : Plan) (rows : Rows) (form : ℕ) (counts : List NodeCount) (out
     told : (w : ℕ) (other : Node) (at : Stand) → slice_get plan.net.nodes w ≡ Some other → slice_get (set stands v Done) w ≡ Some at → (w ≡ v) ⊎ (w ≢ v) → TellsOf plan rows form (set counts v count) w other at
     told w other at e g (inl same) =
         subst (λ (p : ℕ × Node × Stand). TellsOf plan rows form (set counts v count) p.0 p.1 p.2)
-        (λ i. (sym same i, node-here plan stands v node Done there r.stand w other same e i, set-here plan stands v node Done there r.stand w at same g i))
+        (λ i. (sym same i, one-node plan v w node other there same e i, set-here plan stands v node Done there r.stand w at same g i))
         (λ c h. subst (IsCountAt plan rows form v node) (some_inj count c (sym (get-set_same counts v count in_counts) ∙ h)) k.3, k.2)
     told w other at e g (inr apart) = elsewhere w other at apart (r.told w other at e (set-away plan stands v node Done there r.stand w at apart g))
 
     kept : AreKept plan rows (set outputs v left) (set stands v Done)
-    kept w port reader named input a waits e b done = go (decide-eq input.node v)
+    kept w port reader named input a waits e b done = go (cases_eq input.node v)
       where
         waited : slice_get stands w ≡ Some Waiting
         waited = waits-away plan stands v node Done there r.stand refl w waits
@@ -142,7 +139,7 @@ module _ (plan : Plan) (rows : Rows) (form : ℕ) (counts : List NodeCount) (out
         go : (input.node ≡ v) ⊎ (input.node ≢ v) → slice_get (set outputs v left) input.node ≡ Some (streams_below (run_of plan rows) input.node (outputs_in named.kind))
         go (inl same) =
             ap (slice_get (set outputs v left)) same ∙ (get-set_same outputs v left in_outputs
-            ∙ (ap Some (k.0 (record { reader = w; port = port; node = reader; input = input; there = a; reads = e; same = same })) ∙ (λ i. Some (streams_below (run_of plan rows) (sym same i) (outputs_in (node-here plan stands v node Done there r.stand input.node named same b i).kind)))))
+            ∙ (ap Some (k.0 (record { reader = w; port = port; node = reader; input = input; there = a; reads = e; same = same })) ∙ (λ i. Some (streams_below (run_of plan rows) (sym same i) (outputs_in (one-node plan v input.node node named there same b i).kind)))))
         go (inr apart) = get-set_other outputs v input.node left apart ∙ r.kept w port reader named input a waited e b (set-away plan stands v node Done there r.stand input.node Done apart done)
 
     early : (u out : ℕ) (streams : List Stream) (stream : Stream) → slice_get (set outputs v left) u ≡ Some streams → slice_get streams out ≡ Some stream → (u ≡ v) ⊎ (u ≢ v) → IsEarlyStream stream
@@ -156,9 +153,9 @@ module _ (plan : Plan) (rows : Rows) (form : ℕ) (counts : List NodeCount) (out
       came = length-set counts v count ∙ r.came;
       left = length-set outputs v left ∙ r.left;
       stand = length-set stands v Done ∙ r.stand;
-      told = λ w other at e g. told w other at e g (decide-eq w v);
+      told = λ w other at e g. told w other at e g (cases_eq w v);
       kept = kept;
-      early = λ u out streams stream a b. early u out streams stream a b (decide-eq u v);
+      early = λ u out streams stream a b. early u out streams stream a b (cases_eq u v);
     }
 
   -- where a fault is put
@@ -168,7 +165,7 @@ module _ (plan : Plan) (rows : Rows) (form : ℕ) (counts : List NodeCount) (out
         came = r.came;
         left = r.left;
         stand = length-set stands v stand ∙ r.stand;
-        told = λ w other at e g. at_fault w other at e g (decide-eq w v);
+        told = λ w other at e g. at_fault w other at e g (cases_eq w v);
         kept = λ w port reader named input a waits e b done.
             r.kept w port reader named input a (waits-away plan stands v node stand there r.stand quiet w waits) e b (done-away plan stands v node stand there r.stand undone input.node done);
         early = r.early;
@@ -177,7 +174,7 @@ module _ (plan : Plan) (rows : Rows) (form : ℕ) (counts : List NodeCount) (out
       at_fault : (w : ℕ) (other : Node) (at : Stand) → slice_get plan.net.nodes w ≡ Some other → slice_get (set stands v stand) w ≡ Some at → (w ≡ v) ⊎ (w ≢ v) → TellsOf plan rows form counts w other at
       at_fault w other at e g (inl same) =
           subst (λ (p : ℕ × Node × Stand). TellsOf plan rows form counts p.0 p.1 p.2)
-          (λ i. (sym same i, node-here plan stands v node stand there r.stand w other same e i, set-here plan stands v node stand there r.stand w at same g i)) k
+          (λ i. (sym same i, one-node plan v w node other there same e i, set-here plan stands v node stand there r.stand w at same g i)) k
       at_fault w other at e g (inr apart) = r.told w other at e (set-away plan stands v node stand there r.stand w at apart g)
 
 -- a node that is put down keeps what is told
@@ -273,8 +270,8 @@ gone-keeps plan rows form counts outputs outputs' stands u l unread e r = subst 
   left = length-set outputs u [] ∙ r.left;
   stand = r.stand;
   told = r.told;
-  kept = λ v port node named input a waits b g done. kept v port node named input a waits b g done (decide-eq input.node u);
-  early = λ v out streams stream a b. early v out streams stream a b (decide-eq v u);
+  kept = λ v port node named input a waits b g done. kept v port node named input a waits b g done (cases_eq input.node u);
+  early = λ v out streams stream a b. early v out streams stream a b (cases_eq v u);
 })
   where
     kept : (v port : ℕ) (node named : Node) (input : Input) → slice_get plan.net.nodes v ≡ Some node → slice_get stands v ≡ Some Waiting → slice_get node.inputs port ≡ Some input →

@@ -1,8 +1,6 @@
 -- Sources that are ready can be worked out.
-use Rattle.std.proofs.Common.{ℕ, ◌<◌, List, get_or, length, sym, ◌∙◌}
-use Rattle.std.specs.Prelude.{Contains}
-use Rattle.std.proofs.lemmas.Option.{slice_get-get_or}
-use Rattle.mq_base.proofs.lemmas.Lists.{get-some, some_inj}
+use Rattle.std.proofs.Common.{ℕ}
+use Rattle.mq_base.proofs.lemmas.Lists.{get-some}
 use Rattle.mq_arrivals.specs.declared.nodes.Arriving.{Arriving}
 use Rattle.mq_engine.specs.Sources.{IsSourceAmong}
 use Rattle.mq_engine.specs.Waves.{IsStationOf, IsWave}
@@ -15,7 +13,3 @@ source-can s v wave h =
     let at = get-some s.plan.now.net.nodes v all.inside in
     let source = h.1 at.0 at.1 in
     (h.0, can-serve s.plan.now s.rows.now s.outputs.now v at.0 all at.1 (source-few s.plan.now s.rows.now s.outputs.now v at.0 all at.1 wave.read source) (source-once at.0.kind source))
-
--- what stands at an index of a list is in it
-pub contains-at : (xs : List ℕ) (i d : ℕ) → i < length xs → Contains xs (get_or xs i d)
-contains-at xs i d l = (i, l, some_inj _ _ (sym (slice_get-get_or xs i (get_or xs i d) l) ∙ slice_get-get_or xs i d l))

@@ -38,7 +38,7 @@ use Rattle.mq_exits.specs.declared.turns.Given.TheVariants.{Ended, InTurn as Tur
 use Rattle.mq_exits.specs.declared.working.NodeResult.{NodeResult}
 use Rattle.mq_base.proofs.lemmas.FlatMaps.{flat_map-more}
 use Rattle.mq_base.proofs.lemmas.Zips.{zip-length}
-use Rattle.mq_arrivals.proofs.Comings.{pairs-length}
+use Rattle.mq_merge.proofs.Merging.{length-pairs}
 use Rattle.mq_exits.proofs.Known.{refusal-many}
 use Rattle.mq_engine.proofs.Waves.{can-come}
 
@@ -53,7 +53,7 @@ pub count-more : (outputs : List (List Stream)) (inputs : List Input) (port coun
 count-more outputs inputs port count count' input stream there is reads short e was =
     let a = ap length (flat_map-more (pairs_read outputs) inputs port input there) in
     let b = length-append (flat_map (pairs_read outputs) (take port inputs)) (pairs_read outputs input) in
-    let c = pairs-length stream is in
+    let c = length-pairs stream is.even in
     let d = ap length reads in
     let f = was.0 in
     let g = was.1 in
@@ -149,7 +149,7 @@ each-contained P xs all v h = go xs all h.0 h.1 h.2
 -- a stream that a port reads
 pub port-short : (pairs : List (ℕ × ℕ)) (stream : Stream) → IsStream stream → pairs_of stream ≡ pairs → length pairs ≤ 1048576 → length stream.time ≤ 1048576
 port-short pairs stream is e few =
-    let long = pairs-length stream is in
+    let long = length-pairs stream is.even in
     let same = ap length e in
     omega arith
 
@@ -162,7 +162,7 @@ all-count outputs nodes v own node port count a b l e =
     ∙ ap (λ (n : Node). length (flat_map (pairs_read outputs) n.inputs)) (some_inj own node (sym a ∙ b)))
 
 -- what stands at an index is among them
-contains-at : (xs : List ℕ) (i d : ℕ) → i < length xs → Contains xs (get_or xs i d)
+pub contains-at : (xs : List ℕ) (i d : ℕ) → i < length xs → Contains xs (get_or xs i d)
 contains-at xs i d l = (i, l, some_inj _ _ (sym (slice_get-get_or xs i (get_or xs i d) l) ∙ slice_get-get_or xs i d l))
 
 -- how a node ends that has too many visits

@@ -1,9 +1,8 @@
 -- The waves of the engine: what is done so far are the sequences of the run.
 use Rattle.std.proofs.Common.{◌≡◌, ◌≢◌, ℕ, suc, [], ◌∷◌, ◌++◌, ◌<◌, ◌≤◌, ◌⊎◌, inl, inr, Bool, true, false, cond, List, length, set, map, Option, Some, None, refl, sym, ap, ◌∙◌, subst, arith}
-use Rattle.std.specs.Prelude.{◌==◌, slice_get}
+use Rattle.std.specs.Prelude.{slice_get}
 use Rattle.std.specs.List.{flat_map, list_all, zip}
-use Rattle.std.proofs.lemmas.Bool.{and_parts}
-use Rattle.std.proofs.lemmas.Bool.Decides.{nat_tests}
+use Rattle.std.proofs.lemmas.Bool.{and_parts, cases_eq}
 use Rattle.std.proofs.lemmas.List.{length-map, length-set}
 use Rattle.std.proofs.lemmas.Option.{slice_get-get_or, slice_get_within}
 use Rattle.mq_base.proofs.lemmas.FlatMaps.{flat_map-same}
@@ -195,13 +194,6 @@ has-loaded laws s arrived h early all come =
       come.ready,
     )
 
-pub decide-eq : (a b : ℕ) → (a ≡ b) ⊎ (a ≢ b)
-decide-eq a b = go (a == b) refl
-  where
-    go : (t : Bool) → (a == b) ≡ t → (a ≡ b) ⊎ (a ≢ b)
-    go true e = inl (grind (arith, nat_tests))
-    go false e = inr (λ s. grind (arith, nat_tests))
-
 -- a node that is ready waits, and what its ports read is done
 pub record IsReady (plan : Plan) (stands : List Stand) (v : ℕ) : Type 0 where
   pub waits : slice_get stands v ≡ Some Waiting
@@ -249,13 +241,14 @@ has-all laws plan rows visits outputs stands v read r ready =
       feeds = λ port input named e here. let told = r.told input.node named Done here (at.reads node port input there e) in (told.0.outputs, told.1);
     })
 
+-- at one number stands one node
+pub one-node : (plan : Plan) (v w : ℕ) (node other : Node) → slice_get plan.net.nodes v ≡ Some node → w ≡ v → slice_get plan.net.nodes w ≡ Some other → node ≡ other
+one-node plan v w node other there same e = some_inj _ _ (sym there ∙ (ap (slice_get plan.net.nodes) (sym same) ∙ e))
+
 -- what stands at a node that was worked out
 module _ (plan : Plan) (rows : Rows) (visits : List Visits) (outputs : List (List Stream)) (stands : List Stand) (v : ℕ) (node : Node) (there : slice_get plan.net.nodes v ≡ Some node) (r : IsReached plan rows visits outputs stands) where
   inside : v < length plan.net.nodes
   inside = slice_get_within plan.net.nodes v node there
-
-  same-node : (w : ℕ) (other : Node) → w ≡ v → slice_get plan.net.nodes w ≡ Some other → node ≡ other
-  same-node w other same e = some_inj _ _ (sym there ∙ (ap (slice_get plan.net.nodes) (sym same) ∙ e))
 
   module _ (came : Visits) (left : List Stream) (k : IsKnown plan rows v node (OnTime came left)) where
     here : HasSequences (run_of plan rows) (record { visits = set visits v came; outputs = set outputs v left }) v node
@@ -283,7 +276,7 @@ module _ (plan : Plan) (rows : Rows) (visits : List Visits) (outputs : List (Lis
     told w other at e g (inl same) =
         let in_stands : v < length stands = subst (λ m. v < m) (sym r.stand) inside in
         let is-done : Done ≡ at = some_inj _ _ (sym (get-set_same stands v Done in_stands) ∙ (ap (slice_get (set stands v Done)) (sym same) ∙ g)) in
-        subst (λ (p : ℕ × Node × Stand). Tells plan rows (set visits v came) (set outputs v left) p.0 p.1 p.2) (λ i. (sym same i, same-node w other same e i, is-done i)) (here, k.3)
+        subst (λ (p : ℕ × Node × Stand). Tells plan rows (set visits v came) (set outputs v left) p.0 p.1 p.2) (λ i. (sym same i, one-node plan v w node other there same e i, is-done i)) (here, k.3)
     told w other at e g (inr apart) = elsewhere w other at apart (r.told w other at e (sym (get-set_other stands v w Done apart) ∙ g))
 
     early : (u out : ℕ) (streams : List Stream) (stream : Stream) → slice_get (set outputs v left) u ≡ Some streams → slice_get streams out ≡ Some stream → (u ≡ v) ⊎ (u ≢ v) → IsEarlyStream stream
@@ -298,8 +291,8 @@ module _ (plan : Plan) (rows : Rows) (visits : List Visits) (outputs : List (Lis
       came = length-set visits v came ∙ r.came;
       left = length-set outputs v left ∙ r.left;
       stand = length-set stands v Done ∙ r.stand;
-      told = λ w other at e g. told w other at e g (decide-eq w v);
-      early = λ u out streams stream a b. early u out streams stream a b (decide-eq u v);
+      told = λ w other at e g. told w other at e g (cases_eq w v);
+      early = λ u out streams stream a b. early u out streams stream a b (cases_eq u v);
     }
 
   -- where a fault is put
@@ -309,7 +302,7 @@ module _ (plan : Plan) (rows : Rows) (visits : List Visits) (outputs : List (Lis
         came = r.came;
         left = r.left;
         stand = length-set stands v stand ∙ r.stand;
-        told = λ w other at e g. at_fault w other at e g (decide-eq w v);
+        told = λ w other at e g. at_fault w other at e g (cases_eq w v);
         early = r.early;
       }
     where
@@ -317,7 +310,7 @@ module _ (plan : Plan) (rows : Rows) (visits : List Visits) (outputs : List (Lis
       at_fault w other at e g (inl same) =
           let in_stands : v < length stands = subst (λ m. v < m) (sym r.stand) inside in
           let is-it : stand ≡ at = some_inj _ _ (sym (get-set_same stands v stand in_stands) ∙ (ap (slice_get (set stands v stand)) (sym same) ∙ g)) in
-          subst (λ (p : ℕ × Node × Stand). Tells plan rows visits outputs p.0 p.1 p.2) (λ i. (sym same i, same-node w other same e i, is-it i)) k
+          subst (λ (p : ℕ × Node × Stand). Tells plan rows visits outputs p.0 p.1 p.2) (λ i. (sym same i, one-node plan v w node other there same e i, is-it i)) k
       at_fault w other at e g (inr apart) = r.told w other at e (sym (get-set_other stands v w stand apart) ∙ g)
 
 -- a node worked out that is put down keeps what is reached

@@ -1,7 +1,7 @@
 use Rattle.std.proofs.Common.{subst, ◌≤◌}
 use Rattle.std.proofs.lemmas.List.Sorted.{non_decreasing_from_is_sorted}
 use Rattle.mq_core.specs.Laws.{Rises}
-use Rattle.mq_arrivals.proofs.Sorted.{rises-by}
+use Rattle.mq_merge.proofs.Sorted.{rises-by}
 use Rattle.mq_arrivals.proofs.rows.rises.Goals as goal
 
 pub returns : goal.returns

@@ -1,6 +1,6 @@
 use Rattle.std.proofs.Common.{◌∙◌, sym, ap, rules}
 use Rattle.mq_core.specs.Streams.{by_first}
-use Rattle.mq_arrivals.proofs.Sorted.{by_first-rises}
+use Rattle.mq_merge.proofs.Merging.{by_first-rises}
 use Rattle.mq_arrivals.proofs.rows.rows_by_time.Goals as goal
 
 pub returns-then-rises-clause-items : goal.returns-then-rises-clause-items

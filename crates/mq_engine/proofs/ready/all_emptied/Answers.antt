@@ -7,7 +7,8 @@ use Rattle.mq_exits.specs.Loads.{IsLoadOf}
 use Rattle.mq_exits.specs.declared.load.Held.{Held}
 use Rattle.mq_engine.specs.Loads.{IsReadyMiddle}
 use Rattle.mq_engine.specs.declared.middles.Middle.{Middle}
-use Rattle.mq_engine.proofs.Groups.{IsEmptiedOf, IsMiddleOf, middle_piece, middle_size}
+use Rattle.mq_engine.proofs.Groups.{IsMiddleOf, middle_piece, middle_size}
+use Rattle.mq_exits.proofs.OfWave.{IsEmptiedOf}
 use Rattle.mq_engine.proofs.ready.all_emptied.Goals as goal
 
 pub emptied_of-requires-clause-ready : goal.emptied_of-requires-clause-ready

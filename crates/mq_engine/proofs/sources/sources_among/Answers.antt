@@ -5,7 +5,7 @@ use Rattle.mq_base.proofs.lemmas.Lists.{some_inj}
 use Rattle.mq_core.specs.Wiring.{is_source_kind}
 use Rattle.mq_core.specs.declared.model.Node.{Node}
 use Rattle.mq_engine.specs.Sources.{IsSourceAmong}
-use Rattle.mq_engine.proofs.Sending.{contains-at}
+use Rattle.mq_engine.proofs.Telling.{contains-at}
 use Rattle.mq_engine.proofs.sources.sources_among.Goals as goal
 use Rattle.mq_engine.proofs.sources.sources_among.Goals.{then-is_source+in_ok-push, else-is_source}
 
