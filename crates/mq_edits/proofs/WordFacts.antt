@@ -1,22 +1,19 @@
 -- The words of a line: which fault they have, and that those without one say an edit that is read.
 use Rattle.std.proofs.Common.{◌≡◌, ◌∙◌, sym, ap, refl, ℕ, zero, suc, ◌+◌, ◌-◌, ◌<◌, ◌≤◌, ◌^◌, List, [], ◌∷◌, ◌++◌, length, length-drop, drop, get_or, map, take, true, false, Option, Some, None, arith, Bor, inl, inr, eq-eqb}
-use Rattle.std.specs.Prelude.{All, IsTrue, codes, position, slice_get, ◌&&◌, ◌==◌, nat_lt}
+use Rattle.std.specs.Prelude.{All, IsTrue, codes, slice_get, ◌==◌, nat_lt}
 use Rattle.std.specs.Option.{option_or}
-use Rattle.std.specs.Str.{bytes_eq}
 use Rattle.std.specs.Str.Parse.{digits_value}
 use Rattle.std.proofs.lemmas.Bool.{cases_Bool, eqb-true}
 use Rattle.std.proofs.lemmas.Grind.{common_steps}
 use Rattle.std.proofs.lemmas.List.{length-map}
-use Rattle.std.proofs.lemmas.List.Quantifiers.{position-Some}
-use Rattle.std.proofs.lemmas.Option.{slice_get-get_or}
 use Rattle.std.proofs.lemmas.Slice.Eq.{bytes_eq-Decides}
 use Rattle.mq_base.proofs.lemmas.Lists.{map-all, take-all}
 use Rattle.mq_base.specs.Text.{is_number, number_of, texts, words_of}
-use Rattle.mq_core.specs.Wiring.{is_source, is_source_kind}
+use Rattle.mq_core.specs.Wiring.{is_source}
 use Rattle.mq_core.specs.declared.model.Network.{Network}
-use Rattle.mq_core.specs.declared.model.Node.{Node}
 use Rattle.mq_model.specs.Form.{Word}
 use Rattle.mq_trace.specs.Trace.{source_named}
+use Rattle.mq_trace.proofs.RowFacts.{named_at}
 use Rattle.mq_edits.specs.Edited.{AreEditsFor, HasPlace, IsEditFor, rows_after}
 use Rattle.mq_edits.specs.Edits.{add_fault, add_in, count_fault, edits_of_lines, edits_of_words, is_add, is_record, is_set, lines_fault, record_named, row_fault, rows_added, set_fault, set_in, source_in, time_in, value_fault, values_in, word_at, words_fault}
 use Rattle.mq_edits.specs.declared.edit.Edit.{Edit}
@@ -154,13 +151,6 @@ record IsGoodRow (net : Network) (words : List Word) : Type 0 where
   source : IsTrue (is_source (slice_get net.nodes (source_in net words)))
   early : time_in words ≤ 2 ^ 60
   small : All (λ value. value ≤ 2 ^ 36) (values_in words)
-
-named_at : (name : List ℕ) (nodes : List Node) (i : ℕ) → position (λ (node : Node). is_source_kind node.kind && bytes_eq node.name name) nodes ≡ Some i → IsTrue (is_source (slice_get nodes i))
-named_at name [] i h = cc
-named_at name (x ∷ xs) i h =
-    let passes = position-Some (λ (node : Node). is_source_kind node.kind && bytes_eq node.name name) (x ∷ xs) i x h in
-    let found = passes.1 in
-    rw (slice_get-get_or (x ∷ xs) i x passes.0) (grind (arith, common_steps, found))
 
 good_named : (net : Network) (line number : ℕ) (words : List Word) (o : Option ℕ) → source_named net (word_at words 0) ≡ o → row_fault net line number words ≡ None → IsGoodRow net words
 good_named net line number words None is none = let made = row_unknown net line number words (sym is) in absurd (cc)

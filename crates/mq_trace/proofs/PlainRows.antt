@@ -6,11 +6,12 @@ use Rattle.std.specs.List.{list_all}
 use Rattle.std.specs.Str.Parse.{digits_value}
 use Rattle.std.proofs.Math.ListN.{get_or-append}
 use Rattle.std.proofs.Math.Seq.{get_or-append_seam}
-use Rattle.std.proofs.lemmas.Bool.{and_parts, cases_Bool, cases_lt}
+use Rattle.std.proofs.lemmas.Bool.{cases_Bool, cases_lt}
 use Rattle.std.proofs.lemmas.Grind.{common_steps}
 use Rattle.std.proofs.lemmas.List.Elements.{All-push}
 use Rattle.std.proofs.lemmas.List.{length-append, length-drop, length-take-le, take_all, take_at, take_more, take_more_set}
 use Rattle.csv.specs.Records.{fields_of}
+use Rattle.mq_base.proofs.lemmas.Tests.{list_all_wider}
 use Rattle.mq_base.specs.Text.{number_of}
 use Rattle.mq_core.specs.declared.model.Network.{Network}
 use Rattle.mq_trace.specs.Header.{columns_of, is_among}
@@ -35,16 +36,8 @@ number_made text n value limit some few within digits worth small =
 digit_plain : (c : ℕ) → is_ascii_digit c ≡ true → is_plain c ≡ true
 digit_plain c h = grind (arith, common_steps, h)
 
-digits_plain : (text : List ℕ) → list_all is_ascii_digit text ≡ true → list_all is_plain text ≡ true
-digits_plain [] h = refl
-digits_plain (c ∷ text) h =
-    let both = and_parts _ _ h in
-    let byte = digit_plain c both.0 in
-    let rest = digits_plain text both.1 in
-    rw (byte, rest) refl
-
 number_plain : (text : List ℕ) (limit value : ℕ) → number_of text limit ≡ Some value → list_all is_plain text ≡ true
-number_plain text limit value h = digits_plain text (grind (arith, common_steps, h))
+number_plain text limit value h = list_all_wider is_ascii_digit is_plain text digit_plain (grind (arith, common_steps, h))
 
 pub number_field : (text digits rest : List ℕ) (limit value : ℕ) → text ≡ digits ++ rest → number_of digits limit ≡ Some value → IsField text digits rest
 number_field text digits rest limit value e h = inl (number_plain digits limit value h, e)

@@ -1,21 +1,25 @@
 -- The rows of the records so far.
-use Rattle.std.proofs.Common.{◌≡◌, ◌∙◌, sym, ap, refl, ℕ, zero, suc, ◌+◌, ◌<◌, ◌≤◌, List, [], ◌∷◌, ◌++◌, length, take, drop, get_or, map, Bool, true, false, Some, None, Bor, arith, inl, inr, one-add, lt-ltb}
-use Rattle.std.specs.Prelude.{nat_lt, not, position, unwrap_or}
-use Rattle.std.specs.List.{list_any, position_or_len}
+use Rattle.std.proofs.Common.{◌≡◌, ◌∙◌, sym, ap, refl, ℕ, zero, suc, ◌+◌, ◌<◌, ◌≤◌, List, [], ◌∷◌, ◌++◌, length, take, drop, get_or, map, Bool, true, false, Some, None, Bor, arith, inl, inr, one-add, le-ltb, lt-ltb}
+use Rattle.std.specs.Prelude.{◌&&◌, ◌==◌, IsTrue, nat_lt, not, position, slice_get, unwrap_or}
+use Rattle.std.specs.List.{list_any, position_or_len, starts_with}
 use Rattle.std.specs.Str.{bytes_eq}
 use Rattle.std.specs.Str.Parse.{digits_value}
 use Rattle.std.proofs.lemmas.Grind.{common_steps}
 use Rattle.std.proofs.lemmas.List.{get_or-map, length-map, map-append, take-append-le, take_all, take_more}
+use Rattle.std.proofs.lemmas.List.Quantifiers.{position-Some}
 use Rattle.std.proofs.lemmas.List.Sums.{fails_before_first, position_or_len_is}
+use Rattle.std.proofs.lemmas.Option.{slice_get-get_or}
 use Rattle.csv.specs.Records.{fields_of}
 use Rattle.mq_trace.specs.Reading.{HoldsValues, IsHeaderOf, Pushes, RowsSoFar}
 use Rattle.mq_trace.specs.Records.{Record}
 use Rattle.mq_trace.specs.Header.{columns_of, field_of, is_among, missing_column, bad_header}
-use Rattle.mq_trace.specs.Trace.{index_of, row_fault, records_fault, rows_fault, rows_of, source_named}
+use Rattle.mq_trace.specs.Trace.{index_of, row_fault, records_fault, rows_fault, rows_of, source_named, text_records, trace_fault, two_marks}
 use Rattle.mq_trace.specs.declared.fault.TraceFault.{TraceFault}
 use Rattle.mq_trace.specs.declared.fault.TraceFault.TheVariants.{BadHeader}
 use Rattle.mq_trace.specs.declared.header.Header.{Header}
+use Rattle.mq_core.specs.Wiring.{is_source, is_source_kind}
 use Rattle.mq_core.specs.declared.model.Network.{Network}
+use Rattle.mq_core.specs.declared.model.Node.{Node}
 use Rattle.mq_core.specs.declared.model.Rows.{Rows}
 use Rattle.mq_trace.proofs.TraceFacts.{length_noted, noted, rows_fault_append}
 use Rattle.std.proofs.lemmas.List.{ext_get_or}
@@ -163,6 +167,18 @@ pub none_is_missing : (names others : List (List ℕ)) → ((k : ℕ) → k < le
 none_is_missing names others there =
     let p = position_or_len_is (λ name. not (is_among others name)) names (length names) [] (omega arith) (λ k less. rw (there k less) refl) (λ h. absurd (omega arith)) in
     rw p (grind (arith, common_steps))
+
+-- the node that was found by name is a source
+pub named_at : (name : List ℕ) (nodes : List Node) (i : ℕ) → position (λ (node : Node). is_source_kind node.kind && bytes_eq node.name name) nodes ≡ Some i → IsTrue (is_source (slice_get nodes i))
+named_at name [] i h = cc
+named_at name (x ∷ xs) i h =
+    let passes = position-Some (λ (node : Node). is_source_kind node.kind && bytes_eq node.name name) (x ∷ xs) i x h in
+    let found = passes.1 in
+    rw (slice_get-get_or (x ∷ xs) i x passes.0) (grind (arith, common_steps, found))
+
+-- the fault of a text that is no longer than it may be and has one mark at most
+pub by_records : (net : Network) (text : List ℕ) → length text ≤ 134217728 → starts_with (λ a b. a == b) text two_marks ≡ false → trace_fault net text ≡ records_fault net (text_records text)
+by_records net text few marks = rw (le-ltb 134217728 (length text) few, marks) refl
 
 -- the default makes no difference at an index that is there
 get-same : {A : Type 0} (l : List A) (i : ℕ) (d e : A) → i < length l → get_or l i d ≡ get_or l i e

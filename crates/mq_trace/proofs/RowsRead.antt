@@ -1,25 +1,23 @@
 -- The rows of a trace without a fault are read for its network.
 use Rattle.std.proofs.Common.{◌≡◌, ◌∙◌, sym, ap, refl, ℕ, zero, suc, ◌+◌, ◌<◌, ◌≤◌, ◌^◌, List, [], ◌∷◌, length, drop, get_or, map, true, false, Option, Some, None, arith}
-use Rattle.std.specs.Prelude.{◌&&◌, IfOk, IsTrue, Result, Ok, Err, is_none, position, slice_get, unwrap_or}
+use Rattle.std.specs.Prelude.{IfOk, IsTrue, Result, Ok, Err, is_none, slice_get, unwrap_or}
 use Rattle.std.specs.List.{position_or_len}
 use Rattle.std.specs.Str.{bytes_eq}
 use Rattle.std.specs.Str.Parse.{digits_value}
 use Rattle.std.proofs.lemmas.Grind.{common_steps}
 use Rattle.std.proofs.lemmas.List.{length-map}
-use Rattle.std.proofs.lemmas.List.Quantifiers.{position-Some}
 use Rattle.std.proofs.lemmas.Option.{get_or_from_slice_get, slice_get-get_or, slice_get_within}
 use Rattle.std.proofs.lemmas.Slice.Eq.{bytes_eq-Decides}
 use Rattle.mq_base.specs.Text.{number_of}
 use Rattle.mq_core.specs.Theorems.{IsReadFor}
-use Rattle.mq_core.specs.Wiring.{is_source, is_source_kind}
+use Rattle.mq_core.specs.Wiring.{is_source}
 use Rattle.mq_core.specs.declared.model.Network.{Network}
-use Rattle.mq_core.specs.declared.model.Node.{Node}
 use Rattle.mq_core.specs.declared.model.Rows.{Rows}
 use Rattle.mq_trace.specs.Header.{columns_of, field_of, is_among, missing_column}
 use Rattle.mq_trace.specs.Records.{Record}
 use Rattle.mq_trace.specs.Trace.{Answers, bad_value, data_of, header_of, index_of, row_fault, rows_fault, rows_in, rows_of, source_named, text_records, trace_fault}
 use Rattle.mq_trace.specs.declared.fault.TraceFault.{TraceFault}
-use Rattle.mq_trace.proofs.RowFacts.{among_at, first_passes, none_missing, small_row}
+use Rattle.mq_trace.proofs.RowFacts.{among_at, first_passes, named_at, none_missing, small_row}
 use Rattle.mq_trace.proofs.TraceFacts.{later_field}
 
 -- each record of records without a fault has none
@@ -84,14 +82,7 @@ small_value net header r name there named clean =
     let small : digits_value 10 (get_or (drop 2 r) index []) ≤ 2 ^ 36 = in_range (get_or (drop 2 r) index []) (2 ^ 36) number in
     rw (later_field r index) at small
 
--- the node that was found by name is a source
-named_at : (name : List ℕ) (nodes : List Node) (i : ℕ) → position (λ (node : Node). is_source_kind node.kind && bytes_eq node.name name) nodes ≡ Some i → IsTrue (is_source (slice_get nodes i))
-named_at name [] i h = cc
-named_at name (x ∷ xs) i h =
-    let passes = position-Some (λ (node : Node). is_source_kind node.kind && bytes_eq node.name name) (x ∷ xs) i x h in
-    let found = passes.1 in
-    rw (slice_get-get_or (x ∷ xs) i x passes.0) (grind (arith, common_steps, found))
-
+-- a source that is found by its name is one
 named_source : (net : Network) (name : List ℕ) (o : Option ℕ) → source_named net name ≡ o → is_none o ≡ false → IsTrue (is_source (slice_get net.nodes (unwrap_or o 0)))
 named_source net name None is h = cc
 named_source net name (Some i) is h = named_at name net.nodes i is

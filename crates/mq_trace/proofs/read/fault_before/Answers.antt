@@ -2,8 +2,9 @@ use Rattle.std.proofs.Common.{◌≡◌, ◌∙◌, ◌<◌, ◌≤◌, List, �
 use Rattle.std.specs.Prelude.{◌==◌}
 use Rattle.std.specs.List.{starts_with}
 use Rattle.mq_core.specs.declared.model.Network.{Network}
-use Rattle.mq_trace.specs.Trace.{records_fault, text_records, trace_fault, two_marks}
+use Rattle.mq_trace.specs.Trace.{trace_fault, two_marks}
 use Rattle.mq_trace.specs.declared.fault.TraceFault.TheVariants.{BadHeader, TooLong}
+use Rattle.mq_trace.proofs.RowFacts.{by_records}
 use Rattle.mq_trace.proofs.read.fault_before.Goals as goal
 
 -- a text of too many bytes
@@ -13,10 +14,6 @@ too_long net text many = rw (lt-ltb 134217728 (length text) many) refl
 -- one with two marks
 marked_twice : (net : Network) (text : List ℕ) → length text ≤ 134217728 → starts_with (λ a b. a == b) text two_marks ≡ true → trace_fault net text ≡ Some (BadHeader 1)
 marked_twice net text few marks = rw (le-ltb 134217728 (length text) few, marks) refl
-
--- any other
-by_records : (net : Network) (text : List ℕ) → length text ≤ 134217728 → starts_with (λ a b. a == b) text two_marks ≡ false → trace_fault net text ≡ records_fault net (text_records text)
-by_records net text few marks = rw (le-ltb 134217728 (length text) few, marks) refl
 
 pub returns-then-text-gt134217728-clause-some : goal.returns-then-text-gt134217728-clause-some
 returns-then-text-gt134217728-clause-some c = λ net. too_long net c.args.text.now c.if-text-gt134217728.true
