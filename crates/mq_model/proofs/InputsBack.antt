@@ -6,6 +6,7 @@ use Rattle.std.specs.Str.{bytes_eq}
 use Rattle.std.proofs.lemmas.Bool.{both_ways, and_parts, and_from, or_parts, or_cases, or_left, or_right, not-true, not_from_false, eq-eqb, false_from_ne_true}
 use Rattle.std.proofs.lemmas.List.{map-append}
 use Rattle.std.proofs.lemmas.List.Folds.{list_all-append}
+use Rattle.mq_core.proofs.lemmas.Plans.{output_within}
 use Rattle.mq_core.specs.Sound.{are_distinct, is_output, is_sound_node, outputs_in, same_input}
 use Rattle.mq_core.specs.Wiring.{is_source_kind}
 use Rattle.mq_core.specs.declared.model.Input.{Input}
@@ -22,7 +23,6 @@ use Rattle.mq_model.specs.declared.said.SaidInput.{SaidInput}
 use Rattle.mq_model.specs.declared.said.Said.{Said}
 use Rattle.mq_model.specs.declared.said.Said.TheVariants as said
 use Rattle.mq_model.proofs.NamesBack.{number_again, others_before}
-use Rattle.mq_model.proofs.NetworkBack.{output_within}
 use Rattle.mq_model.proofs.SoundColumns.{name_is, same_name}
 use Rattle.mq_model.proofs.SoundInputs.{input_at, list_any_turned, reads_from, same_input_turned}
 

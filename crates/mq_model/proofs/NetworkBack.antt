@@ -6,6 +6,7 @@ use Rattle.std.specs.Str.{bytes_eq}
 use Rattle.std.proofs.lemmas.Bool.{and_parts, ltb-true}
 use Rattle.std.proofs.lemmas.List.{map-append, length-map}
 use Rattle.mq_graph.specs.Rank.{AreWired}
+use Rattle.mq_core.proofs.lemmas.Plans.{output_within}
 use Rattle.mq_core.specs.Names.{is_name}
 use Rattle.mq_core.specs.Sound.{are_distinct, columns_of_kind, is_output, is_sound, is_sound_kind, is_sound_node, mentions_from, same_input, version_of}
 use Rattle.mq_core.specs.Ranges.{is_within}
@@ -69,11 +70,6 @@ kind_again columns (kind.Split (route.Cut column thresholds)) distinct sound =
 kind_again columns (kind.Fork outputs) distinct sound = refl
 kind_again columns kind.Join distinct sound = refl
 kind_again columns (kind.Trunk servers d) distinct sound = ap (λ d. kind.Trunk servers d) (demand_again columns d distinct (and_parts _ _ sound).1)
-
-pub output_within : (nodes : List Node) (n out : ℕ) → is_output (slice_get nodes n) out ≡ true → n < length nodes
-output_within [] n out h = absurd (cc)
-output_within (node ∷ nodes) zero out h = omega arith
-output_within (node ∷ nodes) (suc n) out h = let below = output_within nodes n out h in omega arith
 
 inputs_again : (names : List Word) (nodes : List Node) (inputs : List Input) → are_distinct bytes_eq names ≡ true → length names ≡ length nodes
     → list_all (λ (i : Input). is_output (slice_get nodes i.node) i.out) inputs ≡ true → map (input_in names) (map (input_by names) inputs) ≡ inputs

@@ -5,6 +5,7 @@ use Rattle.std.specs.List.{list_all}
 use Rattle.std.proofs.lemmas.Bool.{and_parts, and_from, leb-true, ltb-true}
 use Rattle.std.proofs.lemmas.List.{length-map}
 use Rattle.mq_base.proofs.lemmas.Tests.{all_at}
+use Rattle.mq_core.proofs.lemmas.Plans.{output_within}
 use Rattle.mq_core.specs.Names.{is_name}
 use Rattle.mq_core.specs.Sound.{is_output, is_sound, is_sound_count, is_sound_kind, is_sound_node, outputs_in}
 use Rattle.mq_core.specs.declared.model.Input.{Input}
@@ -17,7 +18,7 @@ use Rattle.mq_model.specs.Form.{Word}
 use Rattle.mq_model.specs.Said.{reads_of}
 use Rattle.mq_model.specs.SaidOf.{input_by, kind_by, names_in, node_by, saids_in}
 use Rattle.mq_model.specs.declared.said.Said.{Said}
-use Rattle.mq_model.proofs.NetworkBack.{has_parts, output_within}
+use Rattle.mq_model.proofs.NetworkBack.{has_parts}
 use Rattle.mq_model.proofs.Demands.{demand_said}
 use Rattle.mq_model.proofs.Branches.{branches_said}
 use Rattle.mq_model.proofs.Stages.{stages_said}
