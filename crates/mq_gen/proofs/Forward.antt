@@ -1,17 +1,17 @@
 -- Nodes that each read only nodes before them hold no cycle, so the ranking has them all.
-use Rattle.std.proofs.Common.{◌≡◌, ◌∙◌, refl, sym, subst, ap, ℕ, zero, suc, ◌+◌, ◌<◌, ◌≤◌, List, [], ◌∷◌, ◌++◌, length, Bool, true, false, cond, Option, Some, None, eqb, arith}
-use Rattle.std.specs.Prelude.{◌&&◌, IsSome, map, nat_lt, not, slice_get}
-use Rattle.std.specs.List.{find, flat_map, list_all, range_with_len}
-use Rattle.std.proofs.lemmas.Bool.{and_from, and_parts, eqb-true, ltb-true}
-use Rattle.std.proofs.lemmas.Bool.Decides.{nat_tests}
+use Rattle.std.proofs.Common.{◌≡◌, ◌∙◌, refl, sym, subst, ap, ℕ, zero, suc, ◌+◌, ◌<◌, ◌≤◌, List, [], ◌∷◌, ◌++◌, length, Bool, true, Option, Some, None, arith}
+use Rattle.std.specs.Prelude.{◌&&◌, IsSome, map, nat_lt, slice_get}
+use Rattle.std.specs.List.{flat_map, list_all}
+use Rattle.std.proofs.lemmas.Bool.{and_from, and_parts, ltb-true}
 use Rattle.std.proofs.lemmas.List.Folds.{list_all-append}
 use Rattle.std.proofs.lemmas.List.Sums.{AllPass-from_list_all}
 use Rattle.mq_base.proofs.lemmas.Tests.{list_all_wider}
-use Rattle.mq_core.specs.Wiring.{has, ranking}
+use Rattle.mq_core.specs.Wiring.{ranking}
 use Rattle.mq_core.specs.declared.model.Input.{Input}
 use Rattle.mq_core.specs.declared.model.Node.{Node}
 use Rattle.mq_graph.specs.Cycle.{CyclesAreLeft, HasCycle, ReadThrough, Reads}
 use Rattle.mq_graph.specs.Rank.{AreWired, HasAll, left_node}
+use Rattle.mq_graph.proofs.Complete.{has_all}
 use Rattle.mq_gen.proofs.Growing.{below_wider}
 
 -- all that a node reads stands below this number
@@ -79,20 +79,9 @@ through_before nodes h v (next ∷ others) u (reads, more) =
 pub no_cycle : (nodes : List Node) → forward_from 0 nodes ≡ true → ¬ HasCycle nodes
 no_cycle nodes h (first, others, through) = let low = through_before nodes h first others first through in omega arith
 
--- An order that lacks none of some numbers has them all.
-has_below : (order : List ℕ) (from count n : ℕ) → find (λ m. not (has order m)) (range_with_len from count) ≡ None → from ≤ n → n < from + count → has order n ≡ true
-has_below order from zero n h low high = absurd (omega arith)
-has_below order from (suc count) n h low high = go (has order from) (eqb from n) refl refl h (has_below order (from + 1) count n)
-  where
-    go : (b c : Bool) → has order from ≡ b → eqb from n ≡ c → cond (not b) (Some from) (find (λ m. not (has order m)) (range_with_len (from + 1) count)) ≡ None
-        → (find (λ m. not (has order m)) (range_with_len (from + 1) count) ≡ None → from + 1 ≤ n → n < from + 1 + count → has order n ≡ true) → has order n ≡ true
-    go false c e f k later = absurd (cc)
-    go true true e f k later = subst (λ m. has order m ≡ true) (eqb-true from n f) e
-    go true false e f k later = let l : from + 1 ≤ n = grind (arith, nat_tests) in later k l (omega arith)
-
 pub all_ranked : CyclesAreLeft → (nodes : List Node) → forward_from 0 nodes ≡ true → HasAll (ranking nodes) nodes
 all_ranked cycles nodes h = go (left_node nodes) refl
   where
     go : (left : Option ℕ) → left_node nodes ≡ left → HasAll (ranking nodes) nodes
-    go None e = λ n low. has_below (ranking nodes) 0 (length nodes) n e (omega arith) (omega arith)
+    go None e = has_all (ranking nodes) nodes e
     go (Some v) e = absurd (no_cycle nodes h ((cycles nodes (wired nodes h)).0 (subst IsSome (sym e) refl)))

@@ -26,11 +26,6 @@ output_stays [] more n out h = absurd (cc)
 output_stays (node ∷ nodes) more zero out h = h
 output_stays (node ∷ nodes) more (suc n) out h = output_stays nodes more n out h
 
-pub output_within : (nodes : List Node) (n out : ℕ) → is_output (slice_get nodes n) out ≡ true → n < length nodes
-output_within [] n out h = absurd (cc)
-output_within (node ∷ nodes) zero out h = omega arith
-output_within (node ∷ nodes) (suc n) out h = let low = output_within nodes n out h in omega arith
-
 -- Kinds are sound over more columns.
 demand_stays : (c d : ℕ) → c ≤ d → (demand : Demand) → is_sound_demand c demand ≡ true → is_sound_demand d demand ≡ true
 demand_stays c d wide (Column column) h = below_wider c d wide column h

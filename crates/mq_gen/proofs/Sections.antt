@@ -9,6 +9,7 @@ use Rattle.std.proofs.lemmas.List.{append-nil, length-append, length-map, map-ap
 use Rattle.std.proofs.lemmas.List.Folds.{list_all-append}
 use Rattle.mq_base.proofs.lemmas.Tests.{list_all_wider}
 use Rattle.mq_base.proofs.lemmas.Lists.{get-last}
+use Rattle.mq_core.proofs.lemmas.Plans.{output_within}
 use Rattle.mq_core.specs.Names.{is_name}
 use Rattle.mq_core.specs.Sound.{are_distinct, columns_of_kind, is_output, is_sound_count, is_sound_node, mentions_from, outputs_in, same_input, version_of}
 use Rattle.mq_core.specs.Ranges.{is_within}
@@ -22,7 +23,7 @@ use Rattle.rand_pcg.specs.Pcg.{pcg32}
 use Rattle.mq_model.specs.Said.{columns_after}
 use Rattle.mq_gen.specs.Made.{Sections, draw, kind_by, mentions_of, next_section, no_sections, outputs_from, places_by, section_name, sections_after, sections_from, source_node}
 use Rattle.mq_gen.proofs.Forward.{all_read_below, forward_from, forward_on, inputs_below}
-use Rattle.mq_gen.proofs.Growing.{distinct_on, mentions_on, nodes_stay, output_stays, output_within}
+use Rattle.mq_gen.proofs.Growing.{distinct_on, mentions_on, nodes_stay, output_stays}
 use Rattle.mq_gen.proofs.Mentions.{Mentioned, Neither, SectionSuits, Suits, columns_in, has_places, places_drawn, section_suits}
 use Rattle.mq_gen.proofs.SectionNames.{section_named, section_names}
 

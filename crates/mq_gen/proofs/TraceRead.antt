@@ -1,7 +1,7 @@
 -- The trace is read without a fault, for each network that reads such traces.
 use Rattle.std.proofs.Common.{◌≡◌, ◌∙◌, sym, ap, refl, subst, ℕ, zero, suc, ◌+◌, ◌<◌, ◌≤◌, ◌^◌, List, [], ◌∷◌, length, get_or, Bool, true, false, Some, None, arith}
-use Rattle.std.specs.Prelude.{decimal, map, nat_lt, is_none, unwrap_or, ◌&&◌, ◌==◌}
-use Rattle.std.specs.List.{All, starts_with}
+use Rattle.std.specs.Prelude.{decimal, map, nat_lt, is_none, unwrap_or, ◌&&◌}
+use Rattle.std.specs.List.{All}
 use Rattle.std.specs.Str.Parse.{digits_value}
 use Rattle.std.proofs.lemmas.Fmt.{decimal_digit}
 use Rattle.std.proofs.lemmas.Grind.{common_steps}
@@ -13,8 +13,8 @@ use Rattle.mq_base.specs.Text.{number_of}
 use Rattle.mq_core.specs.declared.model.Network.{Network}
 use Rattle.mq_core.specs.declared.model.Node.{Node}
 use Rattle.mq_trace.specs.Header.{bad_column, bad_header, columns_of, field_of, is_among}
-use Rattle.mq_trace.specs.Trace.{bad_value, data_of, header_fault, header_of, records_fault, row_fault, rows_fault, rows_in, rows_of, source_named, text_records, trace_fault, two_marks}
-use Rattle.mq_trace.proofs.RowFacts.{none_is_missing}
+use Rattle.mq_trace.specs.Trace.{bad_value, data_of, header_fault, header_of, records_fault, row_fault, rows_fault, rows_in, rows_of, source_named, text_records, trace_fault}
+use Rattle.mq_trace.proofs.RowFacts.{by_records, none_is_missing}
 use Rattle.mq_gen.specs.Made.{Drawn, column_a, column_b, fields_of, header_fields, records_from, source_name, source_node, trace_text}
 use Rattle.mq_gen.proofs.CsvPlain.{plain_records}
 use Rattle.mq_gen.proofs.TraceRecords.{AreDrawn, IsDrawn, many_drawn, short_trace, trace_plain}
@@ -75,16 +75,11 @@ header_clean : (net : Network) → ReadsTraces net → header_fault net header_f
 unfolding bad_header bad_column
 header_clean net reads = rw (none_is_missing net.columns (columns_of header_fields) reads.columns) refl
 
-fault_is : (net : Network) (text : List ℕ) → length text ≤ 134217728 → starts_with (λ a b. a == b) text two_marks ≡ false → trace_fault net text ≡ records_fault net (text_records text)
-fault_is net text short unmarked =
-    let size : nat_lt 134217728 (length text) ≡ false = grind arith in
-    rw (size, unmarked) refl
-
 -- the text has no fault
 pub trace_clean : (net : Network) (rs : List Drawn) → ReadsTraces net → AreDrawn rs → length rs ≤ 40000 → trace_fault net (trace_text rs) ≡ None
 trace_clean net rs reads drawn few =
     let short = short_trace rs drawn few in
-    fault_is net (trace_text rs) (omega (arith, short)) refl
+    by_records net (trace_text rs) (omega (arith, short)) refl
     ∙ ap (records_fault net) (text_split rs drawn)
     ∙ rw (header_clean net reads, rows_clean net 1 rs reads drawn (omega arith)) refl
 

@@ -1,12 +1,13 @@
 -- The records of a trace: how many there are, and what stands in them.
 use Rattle.std.proofs.Common.{◌≡◌, ap, refl, ℕ, zero, suc, ◌+◌, ◌*◌, ◌<◌, ◌≤◌, ◌^◌, List, [], ◌∷◌, length, true, arith, length-append}
 use Rattle.std.specs.Prelude.{decimal, map}
-use Rattle.std.specs.Char.{is_ascii_digit}
+use Rattle.std.specs.Char.{is_ascii_digit, is_ascii_lowercase}
 use Rattle.std.specs.List.{flat_map, list_all}
-use Rattle.std.proofs.lemmas.Bool.{and_parts}
+use Rattle.std.proofs.lemmas.Bool.{or_left}
 use Rattle.std.proofs.lemmas.Fmt.{length-decimal-le}
 use Rattle.rand_pcg.specs.Lcg.{Lcg}
 use Rattle.mq_base.proofs.lemmas.Numbers.{decimal-digits}
+use Rattle.mq_base.proofs.lemmas.Tests.{list_all_wider}
 use Rattle.mq_gen.specs.Made.{Drawn, draw, fields_of, header_fields, next_record, record_text, records_after, records_from, trace_text}
 use Rattle.mq_gen.proofs.CsvPlain.{ArePlain, IsPlain, is_plain}
 
@@ -52,15 +53,8 @@ many_drawn g =
     (all_drawn ((draw 20001 g).0 + 20000) 0 (draw 20001 g).1 (omega arith), omega (arith, size, few), omega (arith, size, few))
 
 -- The fields of a record: numbers in decimal.
-digits_plain : (bytes : List ℕ) → list_all is_ascii_digit bytes ≡ true → list_all is_plain bytes ≡ true
-digits_plain [] h = refl
-digits_plain (b ∷ bytes) h =
-    let both = and_parts (is_ascii_digit b) (list_all is_ascii_digit bytes) h in
-    let rest = digits_plain bytes both.1 in
-    rw (both.0, rest) refl
-
 decimal_plain : (n : ℕ) → n < 2 ^ 64 → list_all is_plain (decimal n) ≡ true
-decimal_plain n h = digits_plain (decimal n) (decimal-digits n h)
+decimal_plain n h = list_all_wider is_ascii_digit is_plain (decimal n) (λ b digit. or_left (is_ascii_digit b) (is_ascii_lowercase b) digit) (decimal-digits n h)
 
 fields_plain : (r : Drawn) → IsDrawn r → IsPlain (fields_of r)
 fields_plain r drawn =

@@ -14,7 +14,8 @@ use Rattle.mq_core.specs.Wiring.{has, first_ready, ranked_after, ranking}
 use Rattle.mq_graph.specs.Cycle.{Reads, ReadThrough, HasCycle}
 use Rattle.mq_graph.specs.Rank.{AreWired, left_node}
 use Rattle.mq_graph.proofs.Ready.{ready, blocked, reader-within, read-within}
-use Rattle.mq_graph.proofs.RankSteps.{has_all, lacking}
+use Rattle.mq_graph.proofs.Complete.{has_all}
+use Rattle.mq_graph.proofs.RankSteps.{lacking}
 
 -- ---- numbers below a bound, no two equal
 

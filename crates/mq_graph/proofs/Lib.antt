@@ -1,3 +1,4 @@
+pub mod Complete
 pub mod RankSteps
 pub mod Ready
 pub mod Cycles

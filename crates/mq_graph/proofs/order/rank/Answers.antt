@@ -4,7 +4,8 @@ use Rattle.std.proofs.lemmas.List.{append-nil}
 use Rattle.mq_core.specs.Wiring.{first_ready}
 use Rattle.mq_graph.specs.Rank.{first_outside}
 use Rattle.mq_graph.proofs.Cycles.{cycles-left}
-use Rattle.mq_graph.proofs.RankSteps.{next_step, last_step, has_all, left_is}
+use Rattle.mq_graph.proofs.Complete.{has_all}
+use Rattle.mq_graph.proofs.RankSteps.{next_step, last_step, left_is}
 use Rattle.mq_graph.proofs.order.rank.Goals as goal
 use Rattle.mq_graph.proofs.order.rank.Goals.{in-Some+in_ok-push, in_default}
 
