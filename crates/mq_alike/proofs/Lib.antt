@@ -1,4 +1,5 @@
 pub mod Bounded
+pub mod Asking
 mod First
 mod Former
 mod Same

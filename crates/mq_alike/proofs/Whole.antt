@@ -18,6 +18,7 @@ use Rattle.mq_core.specs.declared.model.Kind.TheVariants.{Delay, Fork, ForkJoin,
 use Rattle.mq_core.specs.declared.model.Route.{Route}
 use Rattle.mq_core.specs.declared.model.Rows.{Rows}
 use Rattle.mq_core.specs.declared.model.Stage.{Stage}
+use Rattle.mq_alike.proofs.Asking.{demands-each, of-first, one-each}
 use Rattle.mq_alike.specs.Again.{SequencesStay, alike_from, asks_same, same_demand, same_visit}
 
 -- all visits are the same: the two have the same jobs at the same times, which ask for the same
@@ -53,29 +54,12 @@ module _ (kind : Kind) (rows rows' : Rows) where
             ask = (ap (λ (k : ℕ). asks_same rows rows' kind k) job ∙ more.1, rest.ask);
           }
 
--- one demand, and those of stages and of branches
-one-each : (rows rows' : Rows) (demand : Demand) (jobs : List ℕ) → Each (λ job. same_demand rows rows' job demand ≡ true) jobs → map (demand_of_job rows demand) jobs ≡ map (demand_of_job rows' demand) jobs
-one-each rows rows' demand [] h = refl
-one-each rows rows' demand (job ∷ jobs) h = (λ i. eqb-true (demand_of_job rows demand job) (demand_of_job rows' demand job) h.0 i ∷ one-each rows rows' demand jobs h.1 i)
-
-of-first : {X : Type 0} (test : ℕ → X → Bool) (x : X) (xs : List X) (jobs : List ℕ) → Each (λ job. list_all (test job) (x ∷ xs) ≡ true) jobs → Each (λ job. test job x ≡ true) jobs × Each (λ job. list_all (test job) xs ≡ true) jobs
-of-first test x xs [] h = (tt, tt)
-of-first test x xs (job ∷ jobs) h =
-    let parts = and_parts (test job x) (list_all (test job) xs) h.0 in
-    let more = of-first test x xs jobs h.1 in
-    ((parts.0, more.0), (parts.1, more.1))
-
+-- the demands of stages and of branches
 stages-each : (rows rows' : Rows) (stages : List Stage) (jobs : List ℕ) → Each (λ job. list_all (λ (stage : Stage). same_demand rows rows' job stage.demand) stages ≡ true) jobs → map (λ (s : Stage). map (demand_of_job rows s.demand) jobs) stages ≡ map (λ (s : Stage). map (demand_of_job rows' s.demand) jobs) stages
 stages-each rows rows' [] jobs h = refl
 stages-each rows rows' (stage ∷ stages) jobs h =
     let parts = of-first (λ job (stage : Stage). same_demand rows rows' job stage.demand) stage stages jobs h in
     (λ i. one-each rows rows' stage.demand jobs parts.0 i ∷ stages-each rows rows' stages jobs parts.1 i)
-
-demands-each : (rows rows' : Rows) (demands : List Demand) (jobs : List ℕ) → Each (λ job. list_all (same_demand rows rows' job) demands ≡ true) jobs → map (λ demand. map (demand_of_job rows demand) jobs) demands ≡ map (λ demand. map (demand_of_job rows' demand) jobs) demands
-demands-each rows rows' [] jobs h = refl
-demands-each rows rows' (demand ∷ demands) jobs h =
-    let parts = of-first (λ job demand. same_demand rows rows' job demand) demand demands jobs h in
-    (λ i. one-each rows rows' demand jobs parts.0 i ∷ demands-each rows rows' demands jobs parts.1 i)
 
 branches-each : (rows rows' : Rows) (branches : List (List Demand)) (jobs : List ℕ) → Each (λ job. list_all (λ demands. list_all (same_demand rows rows' job) demands) branches ≡ true) jobs → branch_demands rows branches jobs ≡ branch_demands rows' branches jobs
 branches-each rows rows' [] jobs h = refl
