@@ -1,5 +1,6 @@
 -- The lemmas that proofs of other crates cite too, a page a topic. What else stands in proofs is this crate's own.
 pub mod Between
+pub mod Counts
 pub mod Digits
 pub mod Each
 pub mod FlatMaps

@@ -4,7 +4,7 @@ use Rattle.std.specs.Prelude.{All, replicate}
 use Rattle.std.specs.List.{AllByRecursion as Each}
 use Rattle.std.proofs.lemmas.List.Elements.{All-get_or}
 use Rattle.std.proofs.lemmas.List.{length-map}
-use Rattle.mq_base.proofs.lemmas.Each.{Each-weaker}
+use Rattle.mq_base.proofs.lemmas.Each.{Each-weaker, Each-get_or}
 use Rattle.mq_core.specs.Sequences.{IsSoundLoad}
 use Rattle.mq_scan.specs.Folds.{fold_to, span}
 use Rattle.mq_forkjoin.specs.Fronts.{CanJoin, CanServe, jobs_act, jobs_join, one_job}
@@ -61,11 +61,6 @@ fold-is s (suc n) =
     let index : n + 0 ≡ 0 + n = omega arith in
     ap (λ (k : ℕ). range_run s.arrive.now s.begins.now s.demands.now n k (fold_to jobs_act (replicate 8 0) (one_job s) n)) one
     ∙ (λ i. job_run (get_or s.arrive.now (index i) 0) 0 s.begins.now (asked_at s.demands.now (index i)) (fold-is s n i))
-
-Each-get_or : {X : Type 0} (P : X → Type 0) (xs : List X) → Each P xs → All P xs
-Each-get_or P [] h k d l = absurd (omega arith)
-Each-get_or P (x ∷ xs) h zero d l = h.0
-Each-get_or P (x ∷ xs) h (suc k) d l = Each-get_or P xs h.1 k d (omega arith)
 
 all-each : {X : Type 0} (P : X → Type 0) (xs : List X) → All P xs → Each P xs
 all-each P [] h = tt

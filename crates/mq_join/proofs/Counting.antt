@@ -9,9 +9,7 @@ use Rattle.std.specs.Prelude.{count_by, nat_le, nat_lt, slice_get, slice_index, 
 use Rattle.mq_core.specs.Kinds.Join.{is_item, is_open_at, is_whole_at}
 use Rattle.mq_core.proofs.lemmas.Matches.{match-other, places-grow, places-stay}
 use Rattle.mq_join.specs.Items.{IsCounted}
-
-pub count-next : {X : Type 0} (test : X → Bool) (xs : List X) (x : X) → count_by test (xs ++ x ∷ []) ≡ count_by test xs + cond (test x) 1 0
-count-next test xs x = let a = sum_by-append (λ y. cond (test y) 1 0) xs (x ∷ []) in let b = sum_by-cons (λ y. cond (test y) 1 0) x [] in omega arith
+use Rattle.mq_base.proofs.lemmas.Counts.{count-push}
 
 -- of the first numbers each passes, or one doesn't
 all-pass : (test : ℕ → Bool) (n : ℕ) (xs : List ℕ) → n ≤ length xs → list_all test (take n xs) ≡ true → (k : ℕ) → k < n → test (slice_index xs k) ≡ true
@@ -32,7 +30,7 @@ one-fails test (suc n) (x ∷ xs) few all = go (test x) refl all (one-fails test
 -- an item by a port, at a row whose counts are these
 module _ (ports port job : ℕ) (items : List (ℕ × ℕ)) (old places counts : List ℕ) (small : ports ≤ 8) (here : port < ports) (size : length old ≡ 8) (next : counts ≡ set old port (slice_index old port + 1)) (h : IsCounted ports job items old places) where
   counts-next : (q : ℕ) → q < ports → slice_index counts q ≡ count_by (is_item job q) (items ++ (port, job) ∷ [])
-  counts-next q l = ap (λ xs. slice_index xs q) next ∙ (go (eqb q port) refl ∙ sym (count-next (is_item job q) items (port, job)))
+  counts-next q l = ap (λ xs. slice_index xs q) next ∙ (go (eqb q port) refl ∙ sym (count-push (is_item job q) items (port, job)))
     where
       go : (b : Bool) → eqb q port ≡ b → slice_index (set old port (slice_index old port + 1)) q ≡ count_by (is_item job q) items + cond (is_item job q (port, job)) 1 0
       go true e =
@@ -87,7 +85,7 @@ module _ (ports port job : ℕ) (items : List (ℕ × ℕ)) (old places counts :
 pub row-other : (ports port own job : ℕ) (items : List (ℕ × ℕ)) (counts places : List ℕ) → eqb own job ≡ false → IsCounted ports job items counts places → IsCounted ports job (items ++ (port, own) ∷ []) counts places
 row-other ports port own job items counts places e h =
     record {
-      each = λ q l. h.each q l ∙ ((let same : count_by (is_item job q) items ≡ count_by (is_item job q) items + 0 = omega arith in same) ∙ (ap (λ b. count_by (is_item job q) items + cond (b && eqb port q) 1 0) (sym e) ∙ sym (count-next (is_item job q) items (port, own))));
+      each = λ q l. h.each q l ∙ ((let same : count_by (is_item job q) items ≡ count_by (is_item job q) items + 0 = omega arith in same) ∙ (ap (λ b. count_by (is_item job q) items + cond (b && eqb port q) 1 0) (sym e) ∙ sym (count-push (is_item job q) items (port, own))));
       in_turn = λ some i. h.in_turn some i ∙ sym (match-other ports job i items (port, own) e);
     }
 

@@ -3,13 +3,14 @@ use Rattle.std.proofs.Common.{◌≡◌, ℕ, suc, ◌+◌, ◌-◌, ◌<◌, �
 use Rattle.std.proofs.lemmas.List.{append-nil, drop_all}
 use Rattle.std.specs.Prelude.{count_by, slice_get, slice_index}
 use Rattle.mq_base.proofs.lemmas.Lists.{drop_at, take-at}
+use Rattle.mq_base.proofs.lemmas.Counts.{count-push}
 use Rattle.mq_core.specs.Kinds.Join.{is_open_at, is_whole_at, opens_from, wholes_from}
 use Rattle.mq_join.specs.Items.{AreBehind}
-use Rattle.mq_join.proofs.Counting.{count-next, is_closed, opens-before}
+use Rattle.mq_join.proofs.Counting.{is_closed, opens-before}
 
 -- a match more, of those that are whole at a position
 whole-next : (place at : ℕ) (matches : List (Option ℕ)) (o : Option ℕ) → slice_get matches at ≡ Some o → count_by (is_whole_at place) (take (at + 1) matches) ≡ count_by (is_whole_at place) (take at matches) + cond (is_whole_at place o) 1 0
-whole-next place at matches o e = ap (count_by (is_whole_at place)) (take-at matches at o e) ∙ count-next (is_whole_at place) (take at matches) o
+whole-next place at matches o e = ap (count_by (is_whole_at place)) (take-at matches at o e) ∙ count-push (is_whole_at place) (take at matches) o
 
 -- how many are whole at each position, a held visit further, and one that leaves
 pub closings-held : (many at : ℕ) (matches : List (Option ℕ)) (closings : List ℕ) → slice_get matches at ≡ Some None → ((place : ℕ) → place < many → slice_index closings place ≡ count_by (is_whole_at place) (take at matches)) →

@@ -1,5 +1,5 @@
 -- What the clauses on a read of a file ask of its counts and of its result.
-use Rattle.std.proofs.Common.{◌≡◌, ℕ, ◌<◌, ◌≤◌, ◌⊎◌, Bool, true, false, ◌&&◌, List, [], ◌∷◌, ◌++◌, length, take, Result, Ok, Err, OnOk, inl, inr, refl, subst, arith}
+use Rattle.std.proofs.Common.{◌≡◌, ℕ, ◌<◌, ◌≤◌, ◌⊎◌, Bool, true, List, [], ◌∷◌, ◌++◌, length, take, Result, Ok, Err, OnOk, inl, inr, subst, arith}
 use Rattle.std.proofs.Math.Seq.{take-length}
 use Rattle.std.proofs.lemmas.List.{take-append-le}
 use Rattle.std.specs.Bool.{Decides}
@@ -32,14 +32,6 @@ told_in xs ys x y r told same at =
 pub contains_some : (xs : List ℕ) (x : ℕ) → Contains xs x → is_empty xs ≡ true → ⊥
 contains_some [] x h none = omega (arith, h.1)
 contains_some (y ∷ ys) x h none = cc
-
-pub first_and : (a b : Bool) → (a && b) ≡ true → a ≡ true
-first_and true b h = refl
-first_and false b h = h
-
-pub second_and : (a b : Bool) → (a && b) ≡ true → b ≡ true
-second_and true b h = h
-second_and false b h = absurd cc
 
 pub gains_file : {T E : Type 0} (r : Result T E) (old now bytes : List ℕ) (limit : ℕ) → OnOk r (now ≡ old ++ bytes) → OnOk r (length bytes ≤ limit) → OnOk r (GainsFile old now limit)
 gains_file (Ok x) old now bytes limit gained within = record { bytes = bytes; gained = gained; within = within }

@@ -1,9 +1,9 @@
 -- One job more, of the outputs and of what is picked.
-use Rattle.std.proofs.Common.{◌≡◌, ℕ, suc, ◌+◌, ◌<◌, ◌≤◌, ◌==◌, true, false, cond, ◌⊎◌, inl, inr, List, [], ◌∷◌, ◌++◌, length, get_or, drop, Some, refl, sym, ap, ◌∙◌, arith, drop-cons}
+use Rattle.std.proofs.Common.{◌≡◌, ℕ, suc, ◌+◌, ◌<◌, ◌≤◌, ◌==◌, true, false, cond, ◌⊎◌, inl, inr, List, [], ◌∷◌, ◌++◌, length, get_or, drop, Some, refl, sym, ap, ◌∙◌, arith}
 use Rattle.std.specs.Prelude.{slice_get, count_by}
-use Rattle.std.proofs.lemmas.List.Sums.{sum_by-cons}
+use Rattle.std.proofs.lemmas.List.Sums.{sum_by-drop_more}
 use Rattle.std.proofs.lemmas.Bool.Decides.{nat_tests}
-use Rattle.std.proofs.lemmas.List.{append-nil, drop_all}
+use Rattle.std.proofs.lemmas.List.{append-nil, drop_all, drop_more}
 use Rattle.std.proofs.lemmas.Bool.{cases_lt}
 use Rattle.mq_base.proofs.lemmas.Lists.{get-last, get-push}
 use Rattle.mq_core.specs.Streams.{picked}
@@ -14,12 +14,9 @@ pub length-outs_from : (route : Route) (position : ℕ) (values : List ℕ) → 
 length-outs_from route position [] = refl
 length-outs_from route position (value ∷ values) = let e = length-outs_from route (suc position) values in omega arith
 
-drop_next : (xs : List ℕ) (i : ℕ) → i < length xs → drop i xs ≡ get_or xs i 0 ∷ drop (i + 1) xs
-drop_next xs i l = let next : suc i ≡ i + 1 = omega arith in drop-cons xs i 0 l ∙ ap (λ n. get_or xs i 0 ∷ drop n xs) next
-
 -- those that go to an output, of what is left from an index on
 count-at : (out : ℕ) (outs : List ℕ) (i : ℕ) → i < length outs → count_by (λ o. o == out) (drop i outs) ≡ cond (get_or outs i 0 == out) 1 0 + count_by (λ o. o == out) (drop (i + 1) outs)
-count-at out outs i l = ap (count_by (λ o. o == out)) (drop_next outs i l) ∙ sum_by-cons (λ o. cond (o == out) 1 0) (get_or outs i 0) (drop (i + 1) outs)
+count-at out outs i l = sum_by-drop_more (λ o. cond (o == out) 1 0) outs i 0 l
 
 pub count-yes : (out : ℕ) (outs : List ℕ) (i : ℕ) → i < length outs → get_or outs i 0 ≡ out → count_by (λ o. o == out) (drop i outs) ≡ 1 + count_by (λ o. o == out) (drop (i + 1) outs)
 count-yes out outs i l e =
@@ -40,7 +37,7 @@ pub picked-skip : (out i : ℕ) (done outs items all : List ℕ) → i < length 
     done ++ picked out (drop (i + 1) outs) (drop (i + 1) items) ≡ all
 picked-skip out i done outs items all l same e h =
     let within : i < length items = omega arith in
-    ap (λ l. done ++ l) (sym (picked-no out (get_or outs i 0) (get_or items i 0) (drop (i + 1) outs) (drop (i + 1) items) e) ∙ sym (ap (λ (p : List ℕ × List ℕ). picked out p.0 p.1) (λ k. ((drop_next outs i l k), (drop_next items i within k))))) ∙ h
+    ap (λ l. done ++ l) (sym (picked-no out (get_or outs i 0) (get_or items i 0) (drop (i + 1) outs) (drop (i + 1) items) e) ∙ sym (ap (λ (p : List ℕ × List ℕ). picked out p.0 p.1) (λ k. ((drop_more outs i 0 l k), (drop_more items i 0 within k))))) ∙ h
 
 pub picked-all : (out i : ℕ) (done outs items all : List ℕ) → length outs ≤ i → done ++ picked out (drop i outs) (drop i items) ≡ all → done ≡ all
 picked-all out i done outs items all l h = sym (append-nil done) ∙ (ap (λ v. done ++ picked out v (drop i items)) (sym (drop_all i outs l)) ∙ h)

@@ -2,10 +2,8 @@
 use Rattle.std.proofs.Common.{◌≡◌, ℕ, zero, suc, ◌+◌, ◌<◌, ◌≤◌, Bool, true, false, cond, List, [], ◌∷◌, ◌++◌, length, drop, map, take, Option, Some, None, refl, sym, ap, ◌∙◌, subst, arith}
 use Rattle.std.specs.Prelude.{nat_lt, slice_get}
 use Rattle.std.specs.List.{AllByRecursion as Each}
-use Rattle.std.specs.Option.{option_map}
 use Rattle.std.proofs.lemmas.List.{drop_all, length-map}
-use Rattle.std.proofs.lemmas.Option.{slice_get-map}
-use Rattle.mq_base.proofs.lemmas.Lists.{some_inj, take-all}
+use Rattle.mq_base.proofs.lemmas.Lists.{some_inj, take-all, get-map}
 use Rattle.mq_core.specs.Laws.{Rises, in_order_of, insert_by}
 use Rattle.mq_core.specs.Results.{Late, first_of, late_fate}
 use Rattle.mq_core.specs.Sequences.{sequence_late_from}
@@ -45,16 +43,11 @@ after-early bound node position (suc n) (t ∷ ts) h =
     one-quiet bound node position t _ h.0
     ∙ (after-early bound node (suc position) n ts h.1 ∙ ap (λ m. sequence_late_from bound node m (drop n (map (λ u. Departs u) ts))) next)
 
--- the fate of a departure
-fate-at : (departs : List ℕ) (i time : ℕ) → slice_get departs i ≡ Some time → slice_get (map (λ t. Departs t) departs) i ≡ Some (Departs time)
-fate-at departs i time e = slice_get-map (λ t. Departs t) departs i ∙ ap (option_map (λ t. Departs t)) e
-
--- the one behind them that is not is the first late one
 pub first-is : (bound node n time : ℕ) (times : List ℕ) → Each (λ t. t ≤ bound) (take n times) → slice_get times n ≡ Some time → bound < time →
     first_of (sequence_late_from bound node 0 (map (λ t. Departs t) times)) ≡ Some (record { node = node; position = n; time = time })
 first-is bound node n time times h e l =
     let fates = map (λ t. Departs t) times in
-    let at : slice_get fates n ≡ Some (Departs time) = fate-at times n time e in
+    let at : slice_get fates n ≡ Some (Departs time) = get-map (λ t. Departs t) times n time e in
     let start : 0 + n ≡ n = omega arith in
     let rest = after-early bound node 0 n times h ∙ ap (λ m. sequence_late_from bound node m (drop n fates)) start in
     late-here bound node n time fates (first_of (sequence_late_from bound node 0 fates)) at l (ap first_of (sym rest))
@@ -93,12 +86,12 @@ pub early-next : (bound node position time : ℕ) (departs : List ℕ) (first : 
     first_of (sequence_late_from bound node position (drop position (map (λ t. Departs t) departs))) ≡ first →
     first_of (sequence_late_from bound node (position + 1) (drop (position + 1) (map (λ t. Departs t) departs))) ≡ first
 early-next bound node position time departs first e l h =
-    late-next bound node position (Departs time) (map (λ t. Departs t) departs) first (fate-at departs position time e) (quiet bound node position (Departs time) (λ t k. subst (λ u. u ≤ bound) (departs_inj _ _ k) l)) h
+    late-next bound node position (Departs time) (map (λ t. Departs t) departs) first (get-map (λ t. Departs t) departs position time e) (quiet bound node position (Departs time) (λ t k. subst (λ u. u ≤ bound) (departs_inj _ _ k) l)) h
 
 -- the first that is not
 pub late-at : (bound node position time : ℕ) (departs : List ℕ) (first : Option Late) → slice_get departs position ≡ Some time → bound < time →
     first_of (sequence_late_from bound node position (drop position (map (λ t. Departs t) departs))) ≡ first → first ≡ Some (record { node = node; position = position; time = time })
-late-at bound node position time departs first e l h = late-here bound node position time (map (λ t. Departs t) departs) first (fate-at departs position time e) l h
+late-at bound node position time departs first e l h = late-here bound node position time (map (λ t. Departs t) departs) first (get-map (λ t. Departs t) departs position time e) l h
 
 -- or there is none
 pub late-end : (bound node position : ℕ) (departs : List ℕ) (first : Option Late) → length departs ≤ position → first_of (sequence_late_from bound node position (drop position (map (λ t. Departs t) departs))) ≡ first → first ≡ None

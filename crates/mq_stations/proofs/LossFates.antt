@@ -1,6 +1,6 @@
 -- What becomes of the arrivals at a loss station.
 use Rattle.std.proofs.Common.{◌≡◌, ℕ, zero, suc, ◌+◌, ◌<◌, ◌≤◌, Bool, true, false, not, List, [], ◌∷◌, ◌++◌, length, get_or, drop, map, Some, sym, refl, ap, ◌∙◌, arith, append_assoc, drop-cons, inl, length-append}
-use Rattle.std.specs.Prelude.{IsTrue, if◌then◌else◌, max, nat_le, slice_get}
+use Rattle.std.specs.Prelude.{IsTrue, nat_le, slice_get}
 use Rattle.std.specs.List.{AllByRecursion as Each}
 use Rattle.std.proofs.lemmas.Bool.{and_parts}
 use Rattle.std.proofs.lemmas.Bool.Decides.{nat_tests}
@@ -12,7 +12,7 @@ use Rattle.mq_core.specs.Sequences.{sequence_fates}
 use Rattle.mq_core.specs.OnceOut.{leaving_times, out_of_fate}
 use Rattle.mq_core.specs.Streams.{picked}
 use Rattle.mq_core.specs.Handling.{demand_of_job}
-use Rattle.mq_core.specs.Recurrences.{is_admitted, loss_fates, time_or_none}
+use Rattle.mq_core.specs.Recurrences.{loss_fates}
 use Rattle.mq_core.specs.Ranges.{is_sound_demand, is_within}
 use Rattle.mq_core.specs.Sound.{is_sound_kind}
 use Rattle.mq_core.specs.declared.model.Demand.{Demand}
@@ -21,9 +21,10 @@ use Rattle.mq_core.specs.declared.model.Fate.TheVariants.{Departs, Held, Lost}
 use Rattle.mq_core.specs.declared.model.Kind.TheVariants.{Loss}
 use Rattle.mq_core.specs.declared.model.Rows.{Rows}
 use Rattle.mq_core.specs.declared.model.Stream.{Stream}
+use Rattle.mq_core.proofs.lemmas.Over.{IsOver, loss-over}
 use Rattle.mq_loss.specs.Rounds.{IsSettled}
 use Rattle.mq_rounds.specs.Rounds.{admits, departures_in, fates_by}
-use Rattle.mq_rounds.proofs.lemmas.Fates.{IsOver, admitted-leave, fates-back, lost-leave}
+use Rattle.mq_rounds.proofs.lemmas.Fates.{admitted-leave, fates-back, lost-leave}
 use Rattle.mq_rounds.specs.declared.settled.Settled.{Settled}
 use Rattle.mq_stations.specs.Losses.{AreAdmittedAndLost, out_of_admission}
 use Rattle.mq_stations.specs.Leaving.{AreSettled, IsLeaving, left_by}
@@ -117,24 +118,10 @@ both (admit ∷ admitted) [] e = absurd (omega arith)
 both (true ∷ admitted) (item ∷ items) e = let h = both admitted items (omega arith) in omega arith
 both (false ∷ admitted) (item ∷ items) e = let h = both admitted items (omega arith) in omega arith
 
--- at a loss station no visit is held
-over-all : (places : ℕ) (left arrives demands : List ℕ) → Each IsOver (loss_fates places left arrives demands)
-over-all places left [] demands = tt
-over-all places left (a ∷ arrives) [] = tt
-over-all places left (a ∷ arrives) (d ∷ demands) = go (is_admitted places left a) (over-all places (time ∷ left) arrives demands) (over-all places left arrives demands)
-  where
-    time : ℕ
-    time = max a (time_or_none (slice_get left 0)) + d
-
-    go : (b : Bool) → Each IsOver (loss_fates places (time ∷ left) arrives demands) → Each IsOver (loss_fates places left arrives demands) →
-        Each IsOver (if b then (Departs time ∷ loss_fates places (time ∷ left) arrives demands) else (Lost ∷ loss_fates places left arrives demands))
-    go true h k = (tt, h)
-    go false h k = (tt, k)
-
 pub settled-fates : (rows : Rows) (places : ℕ) (demand : Demand) (arrivals : Stream) (demands : List ℕ) (settled : Settled) (fates : List Fate) → demands ≡ map (demand_of_job rows demand) arrivals.job → IsSettled places arrivals.time demands settled → fates ≡ fates_by settled.admitted settled.departs →
     fates ≡ sequence_fates rows (Loss places demand) (came_in arrivals)
 settled-fates rows places demand arrivals demands settled fates m s f =
-    f ∙ ((λ k. fates_by (s.admitted k) (s.departs k)) ∙ (fates-back (loss_fates places [] arrivals.time demands) (over-all places [] arrivals.time demands) ∙ ap (loss_fates places [] arrivals.time) m))
+    f ∙ ((λ k. fates_by (s.admitted k) (s.departs k)) ∙ (fates-back (loss_fates places [] arrivals.time demands) (loss-over places [] arrivals.time demands) ∙ ap (loss_fates places [] arrivals.time) m))
 
 -- the outputs by admission are those by fate
 outs-back : (fates : List Fate) → map out_of_admission (map admits fates) ≡ map out_of_fate fates
@@ -171,7 +158,7 @@ settled-even law rows places demand arrivals demands settled e m s =
     record {
       jobs = e ∙ sym (answers ∙ many);
       times = sym (answers ∙ many);
-      departs = ap length s.departs ∙ (admitted-many arrivals.job fates (many ∙ sym e) (over-all places [] arrivals.time demands) ∙ ap (λ (xs : List Bool). length (picked 0 (map out_of_admission xs) arrivals.job)) (sym s.admitted));
+      departs = ap length s.departs ∙ (admitted-many arrivals.job fates (many ∙ sym e) (loss-over places [] arrivals.time demands) ∙ ap (λ (xs : List Bool). length (picked 0 (map out_of_admission xs) arrivals.job)) (sym s.admitted));
     }
 
 -- the two streams of a loss station
@@ -196,7 +183,7 @@ loses law rows places demand arrivals demands settled fates streams even m s f e
     outs = ap (map out_of_admission) s.admitted ∙ (outs-back (loss_fates places [] arrivals.time demands) ∙ ap (map out_of_fate) same)
 
     departs : settled.departs ≡ picked 0 (map out_of_fate those) (leaving_times arrivals.time those)
-    departs = s.departs ∙ (ap departures_in same ∙ sym (admitted-leave arrivals.time those many (over-all places [] arrivals.time (map (demand_of_job rows demand) arrivals.job))))
+    departs = s.departs ∙ (ap departures_in same ∙ sym (admitted-leave arrivals.time those many (loss-over places [] arrivals.time (map (demand_of_job rows demand) arrivals.job))))
 
     first : ◌≡◌ {A = Stream} (record { job = picked 0 (map out_of_admission settled.admitted) arrivals.job; time = settled.departs }) (left_by rows (Loss places demand) arrivals 0)
     first = λ k. record { job = picked 0 (outs k) arrivals.job; time = departs k }

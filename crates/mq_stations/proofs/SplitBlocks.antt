@@ -1,5 +1,5 @@
 -- The blocks of a split: what leaves each, and what leaves all, one behind the other.
-use Rattle.std.proofs.Common.{◌≡◌, ℕ, zero, suc, ◌+◌, ◌-◌, ◌*◌, ◌<◌, ◌≤◌, ◌⊎◌, ◌==◌, inl, inr, Bool, true, false, cond, List, [], ◌∷◌, ◌++◌, length, drop, take, map, min, Some, refl, sym, ap, ◌∙◌, subst, arith}
+use Rattle.std.proofs.Common.{◌≡◌, ℕ, zero, suc, ◌+◌, ◌-◌, ◌*◌, ◌<◌, ◌≤◌, ◌⊎◌, inl, inr, List, [], ◌∷◌, ◌++◌, length, drop, take, map, min, Some, refl, sym, ap, ◌∙◌, subst, arith}
 use Rattle.std.specs.Prelude.{slice_get}
 use Rattle.std.proofs.lemmas.Bool.{cases_lt}
 use Rattle.std.proofs.lemmas.List.{drop-map, take-map}
@@ -8,10 +8,10 @@ use Rattle.mq_base.proofs.lemmas.Between.{length-between}
 use Rattle.mq_base.proofs.lemmas.Lists.{get-last, get-push, get-take, some_inj}
 use Rattle.mq_base.specs.Lists.{between}
 use Rattle.mq_core.specs.Kinds.Split.{outputs_by}
-use Rattle.mq_core.specs.Streams.{picked}
 use Rattle.mq_core.specs.declared.model.Route.{Route}
 use Rattle.mq_core.specs.declared.model.Rows.{Rows}
 use Rattle.mq_core.specs.declared.model.Stream.{Stream}
+use Rattle.mq_core.proofs.lemmas.Picked.{picked-few}
 use Rattle.mq_scan.specs.Blocks.{from_of, to_of}
 use Rattle.mq_scan.specs.declared.blocks.Blocks.{Blocks}
 use Rattle.mq_split.specs.Outs.{PiecesJoin, outs_from, picked_stream, piece_of}
@@ -31,15 +31,6 @@ told-between rows route jobs from to told k job e = told (from + k) job (sym (ge
 
 pub map-between : {X Y : Type 0} (f : X → Y) (xs : List X) (from to : ℕ) → map f (between from to xs) ≡ between from to (map f xs)
 map-between f xs from to = sym (ap (take (to - from)) (drop-map f from xs) ∙ take-map f (to - from) (drop from xs))
-
-picked-few : (out : ℕ) (outs items : List ℕ) → length (picked out outs items) ≤ length items
-picked-few out [] items = omega arith
-picked-few out (o ∷ outs) [] = omega arith
-picked-few out (o ∷ outs) (item ∷ items) = go (o == out) (picked-few out outs items)
-  where
-    go : (b : Bool) → length (picked out outs items) ≤ length items → length (cond b (item ∷ picked out outs items) (picked out outs items)) ≤ suc (length items)
-    go true h = omega arith
-    go false h = omega arith
 
 -- a stream more, where each is that of its output
 pub part-more : (streams streams' : List Stream) (stream : Stream) (part : ℕ → Stream) (n : ℕ) → length streams ≡ n → streams' ≡ streams ++ stream ∷ [] → stream ≡ part n → ((k : ℕ) → k < n → slice_get streams k ≡ Some (part k)) → (k : ℕ) → k < n + 1 → slice_get streams' k ≡ Some (part k)

@@ -2,11 +2,9 @@
 use Rattle.std.proofs.Common.{◌≡◌, ℕ, zero, suc, ◌+◌, ◌<◌, ◌≤◌, Bool, true, false, cond, List, [], ◌∷◌, length, get_or, refl, ap, ◌∙◌, arith}
 use Rattle.std.specs.Prelude.{count_by}
 use Rattle.std.proofs.lemmas.Bool.Decides.{nat_tests}
-use Rattle.std.proofs.lemmas.List.Sums.{sum_by-cons}
 use Rattle.mq_stats.specs.Departures.{Ascends, is_gone}
-
-pub count-cons : {X : Type 0} (p : X → Bool) (x : X) (xs : List X) → count_by p (x ∷ xs) ≡ cond (p x) 1 0 + count_by p xs
-count-cons p x xs = sum_by-cons (λ y. cond (p y) 1 0) x xs
+use Rattle.mq_base.proofs.lemmas.Counts.{at-most-one}
+pub use Rattle.mq_base.proofs.lemmas.Counts.{count-cons}
 
 still-by : (time position a b c d : ℕ) → a ≤ c → (a ≡ c → b ≤ d) → is_gone time position (a, b) ≡ false → is_gone time position (c, d) ≡ false
 still-by time position a b c d l e h = grind (arith, nat_tests)
@@ -17,10 +15,6 @@ none time position x [] c h = count-cons (is_gone time position) x [] ∙ ap (λ
 none time position x (y ∷ ys) c h =
     let rest = none time position y ys c.1 (still-by time position x.0 x.1 y.0 y.1 c.0.0.0 c.0.0.1 h) in
     count-cons (is_gone time position) x (y ∷ ys) ∙ (ap (λ b. cond b 1 0 + count_by (is_gone time position) (y ∷ ys)) h ∙ ap (λ n. 0 + n) rest)
-
-pub at-most-one : (b : Bool) → cond b 1 0 ≤ 1
-at-most-one true = omega arith
-at-most-one false = omega arith
 
 -- where one isn't gone no more are than stand before it
 pub not-gone : (time position : ℕ) (xs : List (ℕ × ℕ)) (i : ℕ) (d : ℕ × ℕ) → Ascends xs → i < length xs → is_gone time position (get_or xs i d) ≡ false → count_by (is_gone time position) xs ≤ i

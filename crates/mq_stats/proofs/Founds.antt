@@ -7,13 +7,13 @@ use Rattle.std.proofs.lemmas.List.{append-nil, drop_all}
 use Rattle.std.proofs.lemmas.List.Sums.{count_by-le-length, sum_by-append, sum_by-le-sum_by}
 use Rattle.std.proofs.lemmas.Option.{slice_get_within, get_or_from_slice_get}
 use Rattle.mq_base.proofs.lemmas.Lists.{drop_at, take-at}
+use Rattle.mq_base.proofs.lemmas.Counts.{count-cons}
 use Rattle.mq_core.specs.SequenceLaws.{LeavesFrom}
 use Rattle.mq_core.specs.OnceOut.{departs_after, founds_from}
 use Rattle.mq_core.specs.Streams.{by_first}
 use Rattle.mq_core.specs.Laws.{Rises}
 use Rattle.mq_core.specs.declared.model.Fate.{Fate}
 use Rattle.mq_core.specs.declared.model.Fate.TheVariants.{Departs, Held, Lost}
-use Rattle.mq_stats.proofs.Counts.{count-cons}
 use Rattle.mq_stats.proofs.Ordered.{as-many}
 use Rattle.mq_stats.proofs.Passing.{rises-get}
 use Rattle.mq_stats.specs.Departures.{departures_from, is_gone, stays, with_departure}

@@ -1,7 +1,7 @@
 -- The greatest number of jobs in a node, visit by visit.
 use Rattle.std.proofs.Common.{◌≡◌, ℕ, zero, suc, ◌+◌, ◌-◌, ◌<◌, ◌≤◌, List, [], ◌∷◌, ◌++◌, append-nil, length, map, max, take, Some, refl, sym, ap, ◌∙◌, arith, append_assoc}
 use Rattle.std.specs.Prelude.{count_by, fold, slice_get}
-use Rattle.mq_base.proofs.lemmas.Lists.{drop_at, some_inj}
+use Rattle.mq_base.proofs.lemmas.Lists.{drop_at, some_inj, get-map}
 use Rattle.mq_base.specs.Lists.{between}
 use Rattle.mq_core.specs.Laws.{Rises}
 use Rattle.mq_core.specs.OnceOut.{departs_after, founds_from, founds_of}
@@ -10,7 +10,7 @@ use Rattle.mq_core.specs.declared.model.Fate.{Fate}
 use Rattle.mq_core.specs.declared.model.Fate.TheVariants.{Departs}
 use Rattle.mq_stats.proofs.Passing.{up_to}
 use Rattle.mq_stats.proofs.Steps.{grows}
-use Rattle.mq_stats.proofs.Telling.{departs-get, in-order}
+use Rattle.mq_stats.proofs.Telling.{in-order}
 
 -- what a visit found: those before it that depart later
 founds-get : (before : List Fate) (arrives : List ℕ) (fates : List Fate) (k time : ℕ) (fate : Fate) → slice_get arrives k ≡ Some time → slice_get fates k ≡ Some fate →
@@ -34,6 +34,6 @@ pub peak-next : (arrives departs : List ℕ) (to at time departure number number
 peak-next arrives departs to at time departure number number' all rises a d l w m h =
     let fates : List Fate = map (λ d. Departs d) departs in
     let founds = founds_of arrives fates in
-    let here = departs-get departs at departure d in
+    let here = get-map (λ d. Departs d) departs at departure d in
     let found = founds-get [] arrives fates at time (Departs departure) a here ∙ ap (λ n. Some n) (in-order time at departs rises w) in
     grows number number' (at - up_to time departs + 1) _ all _ _ m refl (λ k. numbers_of (between-next founds at to _ l found k) (between-next fates at to _ l here k)) h

@@ -5,7 +5,7 @@ use Rattle.mq_core.specs.Results.{is_departed, is_held, is_lost}
 use Rattle.mq_core.specs.Sequences.{sequence_sojourn, sequence_sojourns}
 use Rattle.mq_core.specs.declared.model.Fate.{Fate}
 use Rattle.mq_core.specs.declared.model.Fate.TheVariants.{Departs, Held, Lost}
-use Rattle.mq_stats.proofs.Counts.{count-cons}
+use Rattle.mq_base.proofs.lemmas.Counts.{count-cons}
 
 -- each visit departed, was lost, or is held
 pub fates-counted : (fates : List Fate) → count_by is_departed fates + count_by is_lost fates + count_by is_held fates ≡ length fates

@@ -3,10 +3,10 @@ use Rattle.std.proofs.Common.{◌≡◌, ◌-◌, ℕ, List, [], ◌∷◌, drop
 use Rattle.std.specs.Prelude.{count_by}
 use Rattle.std.proofs.lemmas.List.{drop-map, take-map}
 use Rattle.mq_base.specs.Lists.{between}
+use Rattle.mq_base.proofs.lemmas.Counts.{count-cons}
 use Rattle.mq_core.specs.Results.{is_held, is_lost}
 use Rattle.mq_core.specs.declared.model.Fate.{Fate}
 use Rattle.mq_core.specs.declared.model.Fate.TheVariants.{Departs}
-use Rattle.mq_stats.proofs.Counts.{count-cons}
 
 -- the fates of a part are those of its departures
 pub fates-between : (fates : List Fate) (part departs : List ℕ) (from to : ℕ) → fates ≡ map (λ time. Departs time) part → part ≡ between from to departs → fates ≡ between from to (map (λ time. Departs time) departs)

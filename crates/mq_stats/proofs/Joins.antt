@@ -4,6 +4,7 @@ use Rattle.std.specs.Prelude.{count_by, fold, if◌then◌else◌, sum, ◌-◌}
 use Rattle.std.proofs.lemmas.List.Elements.{All-drop, All-take}
 use Rattle.std.proofs.lemmas.List.Sums.{sum_by-append}
 use Rattle.mq_base.proofs.lemmas.Between.{between-all, between-join, length-between}
+use Rattle.mq_base.proofs.lemmas.Lists.{greatest-from}
 use Rattle.mq_core.specs.Asked.{HasDemands}
 use Rattle.mq_core.specs.KindTable.{behaviour_of}
 use Rattle.mq_core.specs.Results.{is_departed, is_held, is_lost, numbers_of, one_more, peak_of}
@@ -46,10 +47,6 @@ numbers-append (n ∷ founds) [] founds' fates' f = absurd (omega arith)
 numbers-append (n ∷ founds) (x ∷ fates) founds' fates' f = ap (λ l. one_more n x ∷ l) (numbers-append founds fates founds' fates' (omega arith))
 
 -- Sums, greatest numbers and counts over lists behind others.
-greatest-from : (a : ℕ) (xs : List ℕ) → fold max a xs ≡ max a (fold max 0 xs)
-greatest-from a [] = omega arith
-greatest-from a (x ∷ xs) = let first = greatest-from (max a x) xs in let other = greatest-from (max 0 x) xs in omega arith
-
 greatest-append : (xs ys : List ℕ) → fold max 0 (xs ++ ys) ≡ max (fold max 0 xs) (fold max 0 ys)
 greatest-append xs ys = go 0 xs
   where

@@ -8,9 +8,9 @@ use Rattle.std.proofs.lemmas.Bool.Decides.{nat_tests}
 use Rattle.std.proofs.lemmas.List.Elements.{Contains-get_or}
 use Rattle.std.proofs.lemmas.List.Sorted.{Contains-permutation, IsPermutation-sym, length_permutation, sum_by-IsPermutation}
 use Rattle.std.proofs.lemmas.Option.{get_or_from_slice_get}
-use Rattle.mq_stats.proofs.Counts.{count-cons, at-most-one}
 use Rattle.mq_stats.proofs.Passing.{up_to, passed-yes}
 use Rattle.mq_stats.specs.Percentiles.{hundredths, least_of, percentile, reaches}
+use Rattle.mq_base.proofs.lemmas.Counts.{count-cons, at-most-one}
 
 -- the items up to an index don't pass what is no less than they are
 passed-up-to : (wait : ℕ) (waits : List ℕ) (i : ℕ) → i < length waits → ((k : ℕ) → k ≤ i → get_or waits k 0 ≤ wait) → i < up_to wait waits

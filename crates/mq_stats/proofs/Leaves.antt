@@ -23,7 +23,8 @@ use Rattle.mq_core.specs.declared.model.Kind.{Kind}
 use Rattle.mq_core.specs.declared.model.Kind.TheVariants.{Delay, Fork, ForkJoin, Join, Loss, Server, Source, Split, Tandem, Trunk}
 use Rattle.mq_core.specs.declared.model.Rows.{Rows}
 use Rattle.mq_core.specs.declared.model.Stream.{Stream}
-use Rattle.mq_stats.proofs.RunSteps.{Each-picked, leaving-even, length-picked, picked-even}
+use Rattle.mq_core.proofs.lemmas.Picked.{Each-picked, picked-few}
+use Rattle.mq_stats.proofs.RunSteps.{leaving-even, picked-even}
 
 -- what all have, and 0 too, has the item at an index
 pub each-item : (P : ℕ → Type 0) → P 0 → (xs : List ℕ) (i : ℕ) → Each P xs → P (get_or xs i 0)
@@ -152,7 +153,7 @@ once-leaves rows kind came law keeps each so =
     many out =
         let same = ap (λ (s : Stream). length s.job) (law.stream out) in
         let all = (kept out).many (even out) in
-        let most = length-picked out outs came.job in
+        let most = picked-few out outs came.job in
         omega arith
 
     departing : (m : ℕ) → Each (λ t. t ≤ m) came.arrive → (0 < outputs_in kind → Each (λ t. t ≤ m) (sequence_stream rows kind came 0).time) → LeavesSo rows kind came → Each (λ t. t ≤ m) (map time_of_fate fates)

@@ -4,9 +4,9 @@ use Rattle.std.specs.Prelude.{count_by, nat_le}
 use Rattle.std.specs.List.{AllByRecursion as Each}
 use Rattle.std.proofs.lemmas.Bool.Decides.{nat_tests}
 use Rattle.std.proofs.lemmas.List.Sums.{sum_by-le-sum_by}
-use Rattle.mq_base.proofs.lemmas.Each.{first-least, Each-weaker}
+use Rattle.mq_base.proofs.lemmas.Each.{Each-get_or, Each-weaker}
+use Rattle.mq_base.proofs.lemmas.Counts.{at-most-one, count-cons}
 use Rattle.mq_core.specs.Laws.{Rises}
-use Rattle.mq_stats.proofs.Counts.{at-most-one, count-cons}
 
 -- how many of these times are at most this one
 abbrev pub up_to : ℕ → List ℕ → ℕ
@@ -34,7 +34,7 @@ pub passed-one : (time : ℕ) (times : List ℕ) (i : ℕ) → Rises (λ a b. a 
 passed-one time [] i h l k = absurd (omega arith)
 passed-one time (t ∷ times) zero h l k = let all = passed-yes time t times k in omega arith
 passed-one time (t ∷ times) (suc i) h l k =
-    let least = first-least t times i h.0 (omega arith) in
+    let least = Each-get_or (λ x. t ≤ x) times h.0 i 0 (omega arith) in
     let rest = passed-one time times i h.1 (omega arith) k in
     let all = passed-yes time t times (omega arith) in
     omega arith
@@ -82,5 +82,5 @@ none-more time times index h l = go (nat_le (get_or times index 0) time) refl
 -- the next time is no earlier
 pub rises-get : (times : List ℕ) (i : ℕ) → Rises (λ a b. a ≤ b) times → suc i < length times → get_or times i 0 ≤ get_or times (suc i) 0
 rises-get [] i h l = absurd (omega arith)
-rises-get (t ∷ times) zero h l = first-least t times 0 h.0 (omega arith)
+rises-get (t ∷ times) zero h l = Each-get_or (λ x. t ≤ x) times h.0 0 0 (omega arith)
 rises-get (t ∷ times) (suc i) h l = rises-get times i h.1 (omega arith)

@@ -16,25 +16,6 @@ each-so P Q f (x ∷ xs) h = All-cons Q x xs (f x h.0) (each-so P Q f xs h.1)
 pub founds-small : (limit : ℕ) (founds : List ℕ) → ((position found : ℕ) → slice_get founds position ≡ Some found → found ≤ position) → length founds ≤ limit → All (λ found. found ≤ limit) founds
 founds-small limit founds few l = All-from_get_or (λ found. found ≤ limit) founds 0 (λ i within. let least = few i (get_or founds i 0) (slice_get-get_or founds i 0 within) in omega arith)
 
--- what is picked is among the items, and no more
-pub Each-picked : (P : ℕ → Type 0) (out : ℕ) (outs items : List ℕ) → Each P items → Each P (picked out outs items)
-Each-picked P out [] items h = tt
-Each-picked P out (o ∷ outs) [] h = tt
-Each-picked P out (o ∷ outs) (item ∷ items) h = go (o == out) (Each-picked P out outs items h.1)
-  where
-    go : (b : Bool) → Each P (picked out outs items) → Each P (if b then item ∷ picked out outs items else picked out outs items)
-    go true k = (h.0, k)
-    go false k = k
-
-pub length-picked : (out : ℕ) (outs items : List ℕ) → length (picked out outs items) ≤ length items
-length-picked out [] items = omega arith
-length-picked out (o ∷ outs) [] = omega arith
-length-picked out (o ∷ outs) (item ∷ items) = go (o == out) (length-picked out outs items)
-  where
-    go : (b : Bool) → length (picked out outs items) ≤ length items → length (if b then item ∷ picked out outs items else picked out outs items) ≤ suc (length items)
-    go true k = omega arith
-    go false k = omega arith
-
 -- as many are picked of two lists of one length
 pub picked-even : (out : ℕ) (outs items others : List ℕ) → length others ≡ length items → length (picked out outs items) ≡ length (picked out outs others)
 picked-even out [] items others e = refl

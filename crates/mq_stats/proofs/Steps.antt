@@ -3,6 +3,7 @@ use Rattle.std.proofs.Common.{◌≡◌, ℕ, ◌+◌, ◌≤◌, Bool, List, []
 use Rattle.std.specs.Prelude.{slice_get, fold, slice_index, ◌-◌, count_by, sum}
 use Rattle.std.proofs.lemmas.List.{drop_all}
 use Rattle.mq_base.proofs.lemmas.Lists.{drop_at, sum-cons}
+use Rattle.mq_base.proofs.lemmas.Counts.{count-cons}
 use Rattle.mq_core.specs.Sequences.{sequence_wait, sequence_waits, sequence_service, sequence_services, sequence_sojourn, sequence_sojourns, stream_sojourns}
 use Rattle.mq_core.specs.Fates.{service_time}
 use Rattle.mq_core.specs.Results.{numbers_of, one_more}
@@ -10,7 +11,6 @@ use Rattle.mq_core.specs.declared.model.Fate.{Fate}
 use Rattle.mq_core.specs.declared.model.Fate.TheVariants.{Departs, Held, Lost}
 use Rattle.mq_core.specs.declared.model.Kind.{Kind}
 use Rattle.mq_core.specs.declared.model.Rows.{Rows}
-use Rattle.mq_stats.proofs.Counts.{count-cons}
 
 -- Sums and greatest numbers. What is added so far, with what is left, is all.
 pub adds : (total added x all : ℕ) (rest rest' : List ℕ) → added ≡ x → rest ≡ x ∷ rest' → fold (λ a y. a + y) total rest ≡ all → fold (λ a y. a + y) (total + added) rest' ≡ all

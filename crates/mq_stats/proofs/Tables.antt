@@ -9,7 +9,7 @@ use Rattle.std.proofs.lemmas.List.{get_or-set_other}
 use Rattle.std.proofs.lemmas.List.Sums.{sum_by_more}
 use Rattle.mq_base.proofs.lemmas.Each.{Each-weaker}
 use Rattle.mq_base.proofs.lemmas.Lists.{drop_at}
-use Rattle.mq_stats.proofs.Counts.{count-cons}
+use Rattle.mq_base.proofs.lemmas.Counts.{count-cons}
 use Rattle.mq_stats.proofs.Least.{at-least, least-is, reached}
 use Rattle.mq_stats.proofs.Passing.{passed-later, up_to}
 use Rattle.mq_stats.specs.Percentiles.{hundredths, least_of, percentile, reaches}

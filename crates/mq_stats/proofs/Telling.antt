@@ -9,9 +9,10 @@ use Rattle.std.proofs.lemmas.List.{append-nil, length-take, length-take-le, take
 use Rattle.std.proofs.lemmas.List.Sums.{sum_by-append, sum_by-take-drop, count_by-le-length}
 use Rattle.std.proofs.lemmas.Option.{slice_get_within}
 use Rattle.mq_core.proofs.lemmas.Orders.{firsts-order}
-use Rattle.mq_base.proofs.lemmas.Lists.{get-last, get-push, get-some, some_inj}
+use Rattle.mq_base.proofs.lemmas.Lists.{get-last, get-push, get-some, some_inj, get-map}
 use Rattle.mq_base.proofs.lemmas.Zips.{zip-drop, zip-length}
 use Rattle.mq_base.proofs.lemmas.Each.{Each-weaker}
+use Rattle.mq_base.proofs.lemmas.Counts.{count-cons}
 use Rattle.mq_core.proofs.lemmas.Rising.{Rises-in_order_of}
 use Rattle.mq_core.proofs.lemmas.Rising.{Rises-drop}
 use Rattle.mq_core.specs.SequenceLaws.{LeavesFrom}
@@ -20,7 +21,6 @@ use Rattle.mq_core.specs.Streams.{by_first}
 use Rattle.mq_core.specs.Laws.{Rises, in_order_of}
 use Rattle.mq_core.specs.declared.model.Fate.{Fate}
 use Rattle.mq_core.specs.declared.model.Fate.TheVariants.{Departs, Held, Lost}
-use Rattle.mq_stats.proofs.Counts.{count-cons}
 use Rattle.mq_stats.proofs.Founds.{founds-next, rises-at}
 use Rattle.mq_stats.proofs.Ordered.{as-many}
 use Rattle.mq_stats.proofs.Passing.{none-passed, passed-later, passed-yes, rises-get, up_to}
@@ -325,12 +325,6 @@ in-order time (suc i) (d ∷ departs) h l = go (cases_lt time d) (in-order time 
         let all = count-cons (departs_after time) (Departs d) (take i (map (λ x. Departs x) departs)) in
         omega arith
 
--- a fate of a list of departures
-pub departs-get : (departs : List ℕ) (i departure : ℕ) → slice_get departs i ≡ Some departure → slice_get (map (λ d. Departs d) departs) i ≡ Some (Departs departure)
-departs-get [] i departure h = absurd cc
-departs-get (d ∷ departs) zero departure h = ap (λ x. Some (Departs x)) (some_inj d departure h)
-departs-get (d ∷ departs) (suc i) departure h = departs-get departs i departure h
-
 -- as many as have passed by a visit's time have by the next one's
 pub passed-next : (arrives times : List ℕ) (i time later passed : ℕ) → Rises (λ a b. a ≤ b) arrives → slice_get arrives i ≡ Some time → slice_get arrives (i + 1) ≡ Some later → passed ≡ up_to time times → passed ≤ up_to later times
 passed-next arrives times i time later passed h a b e =
@@ -365,7 +359,7 @@ fills-next found arrives departs all first index left passed value time h even l
         let on : first + (index + 1) ≡ first + index + 1 = omega arith in
         ap (λ n. take n (set found index value) ++ rest (first + n)) next
         ∙ (ap (λ n. take (index + 1) (set found index value) ++ rest n) on
-        ∙ founds-next (take index found) (take (index + 1) (set found index value)) all arrives fates (first + index) time value _ g (departs-get departs (first + index) here.0 here.1) (omega arith) (take_more_set found index value l) k)
+        ∙ founds-next (take index found) (take (index + 1) (set found index value)) all arrives fates (first + index) time value _ g (get-map (λ d. Departs d) departs (first + index) here.0 here.1) (omega arith) (take_more_set found index value l) k)
 
 -- what has left stays so for the next visit
 pub left-on : (arrives departs : List ℕ) (first index left passed : ℕ) → Rises (λ a b. a ≤ b) arrives → passed ≤ 1 → left + passed ≤ up_to (get_or arrives (first + index) 0) departs → first + (index + (1 - passed)) < length arrives →

@@ -1,5 +1,5 @@
 -- The rows of the records so far.
-use Rattle.std.proofs.Common.{◌≡◌, ◌∙◌, sym, ap, refl, ℕ, zero, suc, ◌+◌, ◌<◌, ◌≤◌, List, [], ◌∷◌, ◌++◌, length, take, drop, get_or, map, Bool, true, false, Some, None, Bor, arith, inl, inr, one-add, le-ltb, lt-ltb}
+use Rattle.std.proofs.Common.{◌≡◌, ◌∙◌, sym, ap, refl, ℕ, zero, suc, ◌+◌, ◌<◌, ◌≤◌, List, [], ◌∷◌, ◌++◌, length, take, get_or, map, Bool, true, false, Some, None, Bor, arith, inl, inr, one-add, le-ltb, lt-ltb}
 use Rattle.std.specs.Prelude.{◌&&◌, ◌==◌, IsTrue, nat_lt, not, position, slice_get, unwrap_or}
 use Rattle.std.specs.List.{list_any, position_or_len, starts_with}
 use Rattle.std.specs.Str.{bytes_eq}
@@ -117,10 +117,6 @@ pub first_fault : (net : Network) (header : Record) (all done left : List Record
     → row_fault net header (1 + length done) r ≡ Some f → rows_fault net header 1 all ≡ Some f
 unfolding rows_fault
 first_fault net header all done left r f split clean found = rw (split, rows_fault_append net header 1 done (r ∷ left), clean, found) refl
-
--- a slice of all items, written back
-pub written_back : {A : Type 0} (n : ℕ) (xs ys : List A) → n ≡ length xs → take n (xs ++ drop (length xs) ys) ≡ xs
-written_back n xs ys e = rw e (take-append-le (length xs) xs (drop (length xs) ys) (omega arith) ∙ take_all (length xs) xs (omega arith))
 
 -- at most 16 columns were noted
 pub reads_few : (net : Network) (h : Header) → IsHeaderOf net h → length h.reads.items ≤ 16

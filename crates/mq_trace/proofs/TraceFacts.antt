@@ -1,13 +1,12 @@
 -- How the definitions of a trace go over lists.
-use Rattle.std.proofs.Common.{◌≡◌, ◌≢◌, ◌∙◌, ap, refl, ℕ, zero, suc, ◌+◌, ◌<◌, ◌≤◌, ◌-◌, ◌^◌, List, [], ◌∷◌, ◌++◌, length, take, drop, get_or, map, Bool, true, false, Some, None, Bor, arith, add-one, ◌⊎◌, inl, inr}
+use Rattle.std.proofs.Common.{◌≡◌, ◌≢◌, ◌∙◌, ap, refl, ℕ, zero, suc, ◌+◌, ◌<◌, ◌≤◌, ◌-◌, ◌^◌, List, [], ◌∷◌, ◌++◌, length, take, drop, get_or, map, Bool, true, false, Some, None, Bor, arith, ◌⊎◌, inl, inr}
 use Rattle.std.specs.Prelude.{if◌then◌else◌, ◌&&◌, ◌||◌, ◌==◌, nat_lt, is_none}
 use Rattle.std.specs.List.{list_any}
 use Rattle.std.specs.Option.{option_or}
 use Rattle.std.specs.Str.{bytes_eq}
-use Rattle.std.proofs.Math.Seq.{drop-cons}
 use Rattle.std.proofs.lemmas.Grind.{common_steps}
 use Rattle.std.proofs.lemmas.Bool.{cases_Bool, cases_lt}
-use Rattle.std.proofs.lemmas.List.{get_or-map, get_or-set_other, get_or-set_same, length-map}
+use Rattle.std.proofs.lemmas.List.{get_or-map, get_or-set_other, get_or-set_same, length-map, drop_more}
 use Rattle.std.proofs.Math.ListN.{set}
 use Rattle.std.proofs.lemmas.List.{drop_all, take_all, take_more}
 use Rattle.std.specs.Str.Parse.{digits_value}
@@ -17,10 +16,6 @@ use Rattle.mq_trace.specs.Records.{Record}
 use Rattle.mq_trace.specs.Header.{bad_column, bad_header, columns_of, field_of, is_among}
 use Rattle.mq_trace.specs.Trace.{bad_value, row_fault, rows_fault}
 use Rattle.mq_core.specs.declared.model.Network.{Network}
-
--- a list from an index on
-pub drop_next : {A : Type 0} (xs : List A) (i : ℕ) (d : A) → i < length xs → drop i xs ≡ get_or xs i d ∷ drop (i + 1) xs
-drop_next xs i d h = rw add-one (drop-cons xs i d h)
 
 -- the field at an index
 pub field_at_is : (r : Record) (i : ℕ) → field_at r i ≡ (if nat_lt i (length r) then Some (get_or r i []) else None)
@@ -34,7 +29,7 @@ pub bad_value_step : (net : Network) (n i : ℕ) (columns : List (List ℕ)) (fi
     → bad_value net n (drop i columns) (drop i fields)
     ≡ (if is_among net.columns (get_or columns i []) && is_none (number_of (get_or fields i []) (2 ^ 36)) then Some n else bad_value net (n + 1) (drop (i + 1) columns) (drop (i + 1) fields))
 unfolding bad_value
-bad_value_step net n i columns fields h k = rw (drop_next columns i [] h, drop_next fields i [] k) refl
+bad_value_step net n i columns fields h k = rw (drop_more columns i [] h, drop_more fields i [] k) refl
 
 -- no column is left
 pub bad_value_end : (net : Network) (n : ℕ) (columns : List (List ℕ)) (fields : Record) → columns ≡ [] → bad_value net n columns fields ≡ None
@@ -67,7 +62,7 @@ bad_header_rest (x ∷ y ∷ r) h a b = rw (a, b) refl
 pub bad_column_step : (n i : ℕ) (before columns : List (List ℕ)) → i < length columns
     → bad_column n before (drop i columns) ≡ (if (n == 19) || is_among before (get_or columns i []) then Some n else bad_column (n + 1) (before ++ get_or columns i [] ∷ []) (drop (i + 1) columns))
 unfolding bad_column
-bad_column_step n i before columns h = rw (drop_next columns i [] h) refl
+bad_column_step n i before columns h = rw (drop_more columns i [] h) refl
 
 pub bad_column_end : (n : ℕ) (before columns : List (List ℕ)) → columns ≡ [] → bad_column n before columns ≡ None
 unfolding bad_column

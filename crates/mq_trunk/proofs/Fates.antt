@@ -1,13 +1,12 @@
 -- The fates of a trunk group are those of its rule.
-use Rattle.std.proofs.Common.{◌≡◌, ℕ, ◌+◌, List, [], ◌∷◌, length, map, refl, sym, ap, ◌∙◌, subst}
-use Rattle.std.specs.List.{AllByRecursion as Each}
+use Rattle.std.proofs.Common.{◌≡◌, ℕ, ◌+◌, List, [], ◌∷◌, length, map, refl, sym, ap, ◌∙◌}
 use Rattle.std.specs.Prelude.{if◌then◌else◌}
 use Rattle.mq_core.specs.Recurrences.{finds_server, trunk_fates}
 use Rattle.mq_core.specs.declared.model.Fate.{Fate}
 use Rattle.mq_core.specs.declared.model.Fate.TheVariants.{Departs, Lost}
 use Rattle.mq_trunk.specs.Rounds.{admission, departure_at_once, trunk_rule}
 use Rattle.mq_rounds.specs.Rounds.{admission_of, admits, departures_in, departures_of, fates_from}
-use Rattle.mq_rounds.proofs.lemmas.Fates.{IsOver, fates-each, over-all}
+use Rattle.mq_rounds.proofs.lemmas.Fates.{fates-each}
 use Rattle.mq_rounds.proofs.lemmas.Guesses.{admission-departs}
 
 pub trunk-fates : (servers : ℕ) (left times demands : List ℕ) → fates_from (trunk_rule servers) left times demands ≡ trunk_fates servers left times demands
@@ -25,9 +24,6 @@ pub departures-are : (servers : ℕ) (times demands : List ℕ) → length deman
     departures_of departure_at_once times demands (admission_of (trunk_rule servers) times demands) ≡ departures_in (trunk_fates servers [] times demands)
 departures-are servers times demands d = sym (admission-departs (trunk_rule servers) [] times demands d) ∙ ap departures_in (trunk-fates servers [] times demands)
 
--- none is held, and there is one an arrival
-pub trunk-over : (servers : ℕ) (times demands : List ℕ) → Each IsOver (trunk_fates servers [] times demands)
-trunk-over servers times demands = subst (Each IsOver) (trunk-fates servers [] times demands) (over-all (trunk_rule servers) [] times demands)
-
+-- there is one an arrival
 pub trunk-each : (servers : ℕ) (times demands : List ℕ) → length demands ≡ length times → length (trunk_fates servers [] times demands) ≡ length times
 trunk-each servers times demands d = sym (ap length (trunk-fates servers [] times demands)) ∙ fates-each (trunk_rule servers) [] times demands d

@@ -1,15 +1,11 @@
 -- Which jobs leave by which output, as loops over the arrivals find them.
-use Rattle.std.proofs.Common.{◌≡◌, ℕ, suc, ◌+◌, ◌<◌, ◌≤◌, Bool, true, false, List, [], ◌∷◌, ◌++◌, length, get_or, drop, Some, sym, refl, ap, ◌∙◌, arith, append_assoc, drop-cons, length-append}
+use Rattle.std.proofs.Common.{◌≡◌, ℕ, suc, ◌+◌, ◌<◌, ◌≤◌, Bool, true, false, List, [], ◌∷◌, ◌++◌, length, drop, Some, sym, refl, ap, ◌∙◌, arith, append_assoc, length-append}
 use Rattle.std.specs.Prelude.{slice_get}
-use Rattle.std.proofs.lemmas.List.{append-nil, drop_all}
+use Rattle.std.proofs.lemmas.List.{append-nil, drop_all, drop_more}
 use Rattle.mq_base.proofs.lemmas.Lists.{drop_at}
 use Rattle.mq_trunk.specs.Parts.{of_admitted, of_lost}
 use Rattle.mq_rounds.specs.Rounds.{departures_from}
 use Rattle.mq_trunk.specs.Rounds.{departure_at_once}
-
--- what is left begins with the item there
-at-drop : (items : List ℕ) (at : ℕ) → at < length items → drop at items ≡ get_or items at 0 ∷ drop (at + 1) items
-at-drop items at l = let next : suc at ≡ at + 1 = omega arith in drop-cons items at 0 l ∙ ap (λ n. get_or items at 0 ∷ drop n items) next
 
 -- an arrival that is admitted
 pub admitted-next : (done done' all : List ℕ) (admitted : List Bool) (items : List ℕ) (at item : ℕ) → slice_get admitted at ≡ Some true → slice_get items at ≡ Some item → done' ≡ done ++ item ∷ [] →
@@ -21,7 +17,7 @@ admitted-next done done' all admitted items at item a i p h =
 
 pub lost-past : (done all : List ℕ) (admitted : List Bool) (items : List ℕ) (at : ℕ) → slice_get admitted at ≡ Some true → at < length items →
     done ++ of_lost (drop at admitted) (drop at items) ≡ all → done ++ of_lost (drop (at + 1) admitted) (drop (at + 1) items) ≡ all
-lost-past done all admitted items at a i h = sym (λ k. done ++ of_lost (drop_at admitted at true a k) (at-drop items at i k)) ∙ h
+lost-past done all admitted items at a i h = sym (λ k. done ++ of_lost (drop_at admitted at true a k) (drop_more items at 0 i k)) ∙ h
 
 -- one that is lost
 pub lost-next : (done done' all : List ℕ) (admitted : List Bool) (items : List ℕ) (at item : ℕ) → slice_get admitted at ≡ Some false → slice_get items at ≡ Some item → done' ≡ done ++ item ∷ [] →
@@ -33,7 +29,7 @@ lost-next done done' all admitted items at item a i p h =
 
 pub admitted-past : (done all : List ℕ) (admitted : List Bool) (items : List ℕ) (at : ℕ) → slice_get admitted at ≡ Some false → at < length items →
     done ++ of_admitted (drop at admitted) (drop at items) ≡ all → done ++ of_admitted (drop (at + 1) admitted) (drop (at + 1) items) ≡ all
-admitted-past done all admitted items at a i h = sym (λ k. done ++ of_admitted (drop_at admitted at false a k) (at-drop items at i k)) ∙ h
+admitted-past done all admitted items at a i h = sym (λ k. done ++ of_admitted (drop_at admitted at false a k) (drop_more items at 0 i k)) ∙ h
 
 -- at the end nothing is left
 pub admitted-end : (done all : List ℕ) (admitted : List Bool) (items : List ℕ) (at : ℕ) → length admitted ≤ at → done ++ of_admitted (drop at admitted) (drop at items) ≡ all → done ≡ all

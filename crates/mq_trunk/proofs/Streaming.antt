@@ -11,11 +11,12 @@ use Rattle.mq_core.specs.Streams.{by_first, pairs_of, picked, sorted}
 use Rattle.mq_core.specs.declared.model.Fate.{Fate}
 use Rattle.mq_core.specs.declared.model.Fate.TheVariants.{Departs, Held, Lost}
 use Rattle.mq_core.specs.declared.model.Stream.{Stream}
+use Rattle.mq_core.proofs.lemmas.Over.{IsOver, trunk-over}
 use Rattle.mq_merge.proofs.Merging.{by_first-rises}
 use Rattle.mq_trunk.specs.Parts.{AreAdmitted, lost_of, of_admitted, of_lost, trunk_stream}
-use Rattle.mq_trunk.proofs.Fates.{trunk-each, trunk-over}
+use Rattle.mq_trunk.proofs.Fates.{trunk-each}
 use Rattle.mq_rounds.specs.Rounds.{admits, departures_in}
-use Rattle.mq_rounds.proofs.lemmas.Fates.{IsOver, admitted-leave, lost-leave}
+use Rattle.mq_rounds.proofs.lemmas.Fates.{admitted-leave, lost-leave}
 
 -- those that are admitted leave by output 0, and the others by output 1
 admitted-first : (fates : List Fate) (items : List ℕ) → of_admitted (map admits fates) items ≡ picked 0 (map out_of_fate fates) items
@@ -67,7 +68,7 @@ pub leaves-first : (servers : ℕ) (arrivals leaving : Stream) (demands : List �
 leaves-first servers arrivals leaving demands admitted departs d s a t e =
     let fates : List Fate = trunk_fates servers [] arrivals.time demands in
     let jobs : of_admitted admitted arrivals.job ≡ picked 0 (map out_of_fate fates) arrivals.job = ap (λ (bs : List Bool). of_admitted bs arrivals.job) a ∙ admitted-first fates arrivals.job in
-    let times : departs ≡ picked 0 (map out_of_fate fates) (leaving_times arrivals.time fates) = t ∙ sym (admitted-leave arrivals.time fates (trunk-each servers arrivals.time demands d) (trunk-over servers arrivals.time demands)) in
+    let times : departs ≡ picked 0 (map out_of_fate fates) (leaving_times arrivals.time fates) = t ∙ sym (admitted-leave arrivals.time fates (trunk-each servers arrivals.time demands d) (trunk-over servers [] arrivals.time demands)) in
     is-sorted (record { job = picked 0 (map out_of_fate fates) arrivals.job; time = picked 0 (map out_of_fate fates) (leaving_times arrivals.time fates) }) leaving s
     (e ∙ (λ k. by_first (zip (times k) (jobs k))))
 
@@ -98,4 +99,4 @@ pub admitted-many : (servers : ℕ) (arrivals : Stream) (demands : List ℕ) (ad
 admitted-many servers arrivals demands admitted departs h =
     let fates : List Fate = trunk_fates servers [] arrivals.time demands in
     let even : length fates ≡ length arrivals.job = trunk-each servers arrivals.time demands h.each ∙ sym h.ordered.even in
-    ap length h.departures ∙ (many-admitted fates arrivals.job even (trunk-over servers arrivals.time demands) ∙ ap (λ (bs : List Bool). length (of_admitted bs arrivals.job)) (sym h.admission))
+    ap length h.departures ∙ (many-admitted fates arrivals.job even (trunk-over servers [] arrivals.time demands) ∙ ap (λ (bs : List Bool). length (of_admitted bs arrivals.job)) (sym h.admission))

@@ -1,7 +1,8 @@
 -- What holds of each item of a list, and what a filter keeps.
-use Rattle.std.proofs.Common.{◌≡◌, ℕ, zero, suc, ◌<◌, ◌≤◌, Bool, true, false, cond, List, [], ◌∷◌, ◌++◌, length, drop, take, get_or, ap, sym, ◌∙◌, refl, arith}
-use Rattle.std.specs.Prelude.{filter, map, ◌&&◌}
+use Rattle.std.proofs.Common.{◌≡◌, ℕ, zero, suc, ◌<◌, Bool, true, false, cond, List, [], ◌∷◌, ◌++◌, length, drop, take, get_or, Some, ap, sym, ◌∙◌, refl, subst, arith}
+use Rattle.std.specs.Prelude.{filter, map, slice_get, ◌&&◌}
 use Rattle.std.specs.List.{AllByRecursion as Each, flat_map}
+use Rattle.mq_base.proofs.lemmas.Lists.{some_inj}
 
 pub Each-append : {X : Type 0} (P : X → Type 0) (xs ys : List X) → Each P xs → Each P ys → Each P (xs ++ ys)
 Each-append P [] ys p q = q
@@ -106,8 +107,13 @@ filter-cong a b h (x ∷ xs) = rw (h x) (ap (λ l. cond (b x) (x ∷ l) l) (filt
 pub filter-swap : {X : Type 0} (a b : X → Bool) (xs : List X) → filter a (filter b xs) ≡ filter b (filter a xs)
 filter-swap a b xs = sym (filter-and b a xs) ∙ (filter-cong _ _ (λ x. and_comm' (b x) (a x)) xs ∙ filter-and a b xs)
 
--- a number that is at most each is at most the one at an index
-pub first-least : (t : ℕ) (ts : List ℕ) (i : ℕ) → Each (λ x. t ≤ x) ts → i < length ts → t ≤ get_or ts i 0
-first-least t [] i h l = absurd (omega arith)
-first-least t (x ∷ ts) zero h l = h.0
-first-least t (x ∷ ts) (suc i) h l = first-least t ts i h.1 (omega arith)
+-- what all have, the one at an index has
+pub Each-get : {X : Type 0} (P : X → Type 0) (xs : List X) (k : ℕ) (x : X) → Each P xs → slice_get xs k ≡ Some x → P x
+Each-get P [] k x h e = absurd cc
+Each-get P (y ∷ ys) zero x h e = subst P (some_inj y x e) h.0
+Each-get P (y ∷ ys) (suc k) x h e = Each-get P ys k x h.1 e
+
+pub Each-get_or : {X : Type 0} (P : X → Type 0) (xs : List X) → Each P xs → (k : ℕ) (d : X) → k < length xs → P (get_or xs k d)
+Each-get_or P [] h k d l = absurd (omega arith)
+Each-get_or P (x ∷ xs) h zero d l = h.0
+Each-get_or P (x ∷ xs) h (suc k) d l = Each-get_or P xs h.1 k d (omega arith)

@@ -1,8 +1,9 @@
 -- Lists that a function makes of the items of a list, one behind the other.
-use Rattle.std.proofs.Common.{◌≡◌, ℕ, zero, suc, ◌+◌, ◌≤◌, List, [], ◌∷◌, ◌++◌, length, take, Some, refl, sym, ap, ◌∙◌, arith, append_assoc, length-append}
+use Rattle.std.proofs.Common.{◌≡◌, ℕ, zero, suc, ◌+◌, ◌≤◌, List, [], ◌∷◌, ◌++◌, length, drop, sum_by, take, Some, refl, sym, ap, ◌∙◌, arith, append_assoc, length-append}
 use Rattle.std.specs.Prelude.{slice_get}
 use Rattle.std.specs.List.{flat_map}
 use Rattle.std.proofs.lemmas.List.{append-nil}
+use Rattle.std.proofs.lemmas.List.Sums.{sum_by-append}
 use Rattle.mq_base.proofs.lemmas.Lists.{some_inj}
 
 -- one item more
@@ -28,3 +29,12 @@ flat_map-less f (x ∷ xs) (suc p) =
     let b = length-append (f x) (flat_map f xs) in
     let rest = flat_map-less f xs p in
     omega arith
+
+-- what lists add up to that are left from an index on, and from the next
+parts-from : {X : Type 0} (f : X → ℕ) (xss : List (List X)) (i : ℕ) (xs : List X) → slice_get xss i ≡ Some xs → sum_by f (flat_map (λ ys. ys) (drop i xss)) ≡ sum_by f xs + sum_by f (flat_map (λ ys. ys) (drop (suc i) xss))
+parts-from f [] i xs e = absurd cc
+parts-from f (ys ∷ yss) zero xs e = sum_by-append f ys (flat_map (λ zs. zs) yss) ∙ ap (λ zs. sum_by f zs + sum_by f (flat_map (λ us. us) yss)) (some_inj ys xs e)
+parts-from f (ys ∷ yss) (suc i) xs e = parts-from f yss i xs e
+
+pub sum-part : {X : Type 0} (f : X → ℕ) (xss : List (List X)) (i : ℕ) (xs : List X) → slice_get xss i ≡ Some xs → sum_by f (flat_map (λ ys. ys) (drop i xss)) ≡ sum_by f xs + sum_by f (flat_map (λ ys. ys) (drop (i + 1) xss))
+sum-part f xss i xs e = let next : suc i ≡ i + 1 = omega arith in parts-from f xss i xs e ∙ ap (λ n. sum_by f xs + sum_by f (flat_map (λ ys. ys) (drop n xss))) next

@@ -1,7 +1,10 @@
 -- Lists by index: what is left from an index on, first parts, an item more at the end.
-use Rattle.std.proofs.Common.{◌≡◌, ◌≢◌, ℕ, zero, suc, ◌+◌, ◌<◌, ◌≤◌, List, [], ◌∷◌, ◌++◌, drop, length, length-append, map, set, take, Some, None, refl, ap, ◌∙◌, arith, sym}
+use Rattle.std.proofs.Common.{◌≡◌, ◌≢◌, ℕ, zero, suc, ◌+◌, ◌<◌, ◌≤◌, List, [], ◌∷◌, ◌++◌, drop, fold, length, length-append, map, max, set, take, Some, None, refl, ap, ◌∙◌, arith, sym}
+use Rattle.std.proofs.Math.Seq.{take-append_seam}
 use Rattle.std.proofs.lemmas.List.Sums.{sum_by-cons}
+use Rattle.std.proofs.lemmas.Option.{slice_get-map}
 use Rattle.std.specs.List.{Contains}
+use Rattle.std.specs.Option.{option_map}
 use Rattle.std.specs.Prelude.{slice_get, sum}
 
 pub some_inj : {A : Type 0} (a b : A) → Some a ≡ Some b → a ≡ b
@@ -29,6 +32,10 @@ take-all [] (suc i) h = refl
 take-all (x ∷ xs) zero h = absurd (omega arith)
 take-all (x ∷ xs) (suc i) h = ap (λ l. x ∷ l) (take-all xs i (omega arith))
 
+-- a slice of all items, written back
+pub written-back : {X : Type 0} (new old : List X) (n : ℕ) → length new ≡ n → take n (new ++ drop (length new) old) ≡ new
+written-back new old n e = ap (λ m. take m (new ++ drop (length new) old)) (sym e) ∙ take-append_seam new (drop (length new) old)
+
 pub map-all : {X Y : Type 0} (f : X → Y) (xs : List X) (i : ℕ) (done : List Y) → length xs ≤ i → done ≡ map f (take i xs) → done ≡ map f xs
 map-all f xs i done h k = k ∙ ap (map f) (take-all xs i h)
 
@@ -42,6 +49,10 @@ pub get-none : {X : Type 0} (xs : List X) (i : ℕ) → length xs ≤ i → slic
 get-none [] i l = refl
 get-none (x ∷ xs) zero l = absurd (omega arith)
 get-none (x ∷ xs) (suc i) l = get-none xs i (omega arith)
+
+-- the item of a list that a function makes of the items
+pub get-map : {X Y : Type 0} (f : X → Y) (xs : List X) (i : ℕ) (x : X) → slice_get xs i ≡ Some x → slice_get (map f xs) i ≡ Some (f x)
+get-map f xs i x e = slice_get-map f xs i ∙ ap (option_map f) e
 
 -- an item of the first of two lists
 pub get-front : {X : Type 0} (xs ys : List X) (i : ℕ) → i < length xs → slice_get (xs ++ ys) i ≡ slice_get xs i
@@ -85,6 +96,14 @@ get-set_other (y ∷ ys) (suc i) (suc j) x l = get-set_other ys i j x (λ e. l (
 -- the sum of a list with one number before it
 pub sum-cons : (x : ℕ) (xs : List ℕ) → sum (x ∷ xs) ≡ x + sum xs
 sum-cons x xs = sum_by-cons (λ y. y) x xs
+
+-- the greatest number of a list and of one before it
+pub greatest-from : (a : ℕ) (xs : List ℕ) → fold max a xs ≡ max a (fold max 0 xs)
+greatest-from a [] = omega arith
+greatest-from a (x ∷ xs) =
+    let one = greatest-from (max a x) xs in
+    let two = greatest-from (max 0 x) xs in
+    omega arith
 
 -- the item of a list of one
 pub only : {X : Type 0} (x y : X) → Contains (x ∷ []) y → y ≡ x

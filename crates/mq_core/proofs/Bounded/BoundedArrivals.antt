@@ -1,8 +1,7 @@
 -- When jobs come to a node at the latest: from the rows of a source, or from the outputs that it reads.
-use Rattle.std.proofs.Common.{◌≡◌, ℕ, zero, suc, ◌≤◌, Bool, true, false, cond, eqb, ltb, List, [], ◌∷◌, ◌++◌, map, length, Some, refl, ap, arith}
+use Rattle.std.proofs.Common.{◌≡◌, ℕ, suc, ◌≤◌, Bool, true, false, cond, eqb, ltb, List, [], ◌∷◌, ◌++◌, length, Some, refl, arith}
 use Rattle.std.specs.Prelude.{slice_get}
 use Rattle.std.specs.List.{AllByRecursion as Each, flat_map, zip}
-use Rattle.mq_base.proofs.lemmas.Lists.{some_inj}
 use Rattle.mq_core.specs.Sequences.{rows_at}
 use Rattle.mq_core.specs.Laws.{insert_by}
 use Rattle.mq_core.specs.Streams.{by_first}
@@ -53,8 +52,3 @@ pub reads-by : (limit : ℕ) (f : Input → List (ℕ × ℕ)) (inputs : List In
 reads-by limit f [] h = tt
 reads-by limit f (input ∷ inputs) h =
     pairs-append limit (f input) (flat_map f inputs) (h 0 input refl) (reads-by limit f inputs (λ port i e. h (suc port) i e))
-
-pub read-at : (inputs : List Input) (port : ℕ) (input : Input) → slice_get inputs port ≡ Some input → slice_get (map {B = ℕ × ℕ} (λ (i : Input). (i.node, i.out)) inputs) port ≡ Some (input.node, input.out)
-read-at [] port input e = absurd cc
-read-at (i ∷ inputs) zero input e = ap (λ (j : Input). Some (j.node, j.out)) (some_inj i input e)
-read-at (i ∷ inputs) (suc port) input e = read-at inputs port input e

@@ -1,7 +1,6 @@
 -- By when jobs pass the outputs of a node, where they came and departed by a time.
-use Rattle.std.proofs.Common.{Bool, List, [], cond, eqb, false, true, ℕ, ◌∷◌}
+use Rattle.std.proofs.Common.{List, [], ℕ, ◌∷◌}
 use Rattle.mq_core.specs.OnceOut.{leaving_times}
-use Rattle.mq_core.specs.Streams.{picked}
 use Rattle.mq_core.specs.declared.model.Fate.{Fate}
 use Rattle.mq_core.specs.declared.model.Fate.TheVariants.{Departs, Held, Lost}
 use Rattle.mq_core.proofs.Bounded.BoundedStations.{AreBy, LeaveBy}
@@ -13,12 +12,3 @@ leaving-by limit (arrive ∷ arrives) [] a f = tt
 leaving-by limit (arrive ∷ arrives) (Departs time ∷ fates) a f = (f.0, leaving-by limit arrives fates a.1 f.1)
 leaving-by limit (arrive ∷ arrives) (Lost ∷ fates) a f = (a.0, leaving-by limit arrives fates a.1 f.1)
 leaving-by limit (arrive ∷ arrives) (Held ∷ fates) a f = (a.0, leaving-by limit arrives fates a.1 f.1)
-
-pub picked-by : (limit out : ℕ) (outs times : List ℕ) → AreBy limit times → AreBy limit (picked out outs times)
-picked-by limit out [] times h = tt
-picked-by limit out (o ∷ outs) [] h = tt
-picked-by limit out (o ∷ outs) (time ∷ times) h = go (eqb o out) (picked-by limit out outs times h.1)
-  where
-    go : (b : Bool) → AreBy limit (picked out outs times) → AreBy limit (cond b (time ∷ picked out outs times) (picked out outs times))
-    go true k = (h.0, k)
-    go false k = k

@@ -1,5 +1,6 @@
 -- No departure of a run passes the latest that there may be, node by node in the order of ranks.
 use Rattle.mq_base.proofs.lemmas.Each.{Each-weaker}
+use Rattle.mq_base.proofs.lemmas.Lists.{get-map}
 use Rattle.mq_core.proofs.lemmas.Plans.{ranked-few}
 use Rattle.mq_core.specs.Came.{came_of}
 use Rattle.std.proofs.Common.{◌≡◌, ◌⊎◌, inl, inr, ℕ, zero, suc, ◌+◌, ◌*◌, ◌^◌, ◌<◌, ◌≤◌, Bool, true, false, eqb, List, [], ◌∷◌, length, take, Option, Some, None, sym, refl, ap, ◌∙◌, subst, arith, eqb-true, le-ltb}
@@ -30,7 +31,7 @@ use Rattle.mq_core.specs.declared.model.Plan.{Plan}
 use Rattle.mq_core.specs.declared.model.Rows.{Rows}
 use Rattle.mq_core.specs.declared.model.Stream.{Stream}
 use Rattle.mq_core.specs.Bounded.{DeparturesAreBounded}
-use Rattle.mq_core.proofs.Bounded.BoundedArrivals.{PairsBy, from-zip, order-by, read-at, reads-by, rows-by, zip-by}
+use Rattle.mq_core.proofs.Bounded.BoundedArrivals.{PairsBy, from-zip, order-by, reads-by, rows-by, zip-by}
 use Rattle.mq_core.proofs.Bounded.BoundedStations.{AreBy, LeaveBy, LeavesBy, by-later}
 use Rattle.mq_core.proofs.Sequences.ArrivalTable.{arrivals_of}
 
@@ -138,7 +139,7 @@ module _ (laws : RunLaws) (plan : Plan) (rows : Rows) (read : IsReadFor plan.net
       read-by : (port : ℕ) (input : Input) → slice_get node.inputs port ≡ Some input → PairsBy top (pairs_of (stream_from (station input.node) input.out))
       read-by port input e =
           let names = (laws.limits plan v node here).reads port input e in
-          let reads = (laws.ranks plan rank v index).reads port (input.node, input.out) (ap (λ o. slice_get (outputs_read o) port) here ∙ read-at node.inputs port input e) in
+          let reads = (laws.ranks plan rank v index).reads port (input.node, input.out) (ap (λ o. slice_get (outputs_read o) port) here ∙ get-map {Y = ℕ × ℕ} (λ (i : Input). (i.node, i.out)) node.inputs port input e) in
           let at = has-at plan.order rank input.node reads in
           let stream = stream_from (station input.node) input.out in
           zip-by top stream.time stream.job ((before at.index input.node names.node at.before at.at names.there).streams input.out)

@@ -5,6 +5,7 @@ use Rattle.std.proofs.lemmas.List.{append-nil}
 use Rattle.std.proofs.lemmas.List.Elements.{filter-append}
 use Rattle.std.specs.Prelude.{filter}
 use Rattle.std.specs.List.{AllByRecursion as Each}
+use Rattle.std.proofs.Math.Arith.{lt_of_le-ne}
 use Rattle.mq_base.proofs.lemmas.Each.{Each-weaker, filter-none, filter-yes, filter-no}
 use Rattle.mq_core.specs.Laws.{Rises, in_order_of, insert_by}
 use Rattle.mq_core.specs.Machine.{Visit, Emission}
@@ -196,10 +197,7 @@ sum-times n (m ∷ ms) h =
         go true e ih = let same : m.position ≡ k = eqb-true m.position k e in let z = above k (omega arith) in omega arith
         go false e ih =
             let other : m.position ≡ k → ⊥ = λ q. let c = eq-eqb m.position k q in absurd cc in
-            let r = ih (less m.position k other l) in omega arith
-          where
-            less : (a b : ℕ) → (a ≡ b → ⊥) → a < suc b → a < b
-            less a b n u = omega arith
+            let r = ih (lt_of_le-ne (omega arith) other) in omega arith
 
 -- where each position was let out or is still to leave, once in all, as many stay as are to leave
 pub staying-coming : (visits : List Visit) (emitted coming : List Emission) → ((p : ℕ) → p < length visits → times_at p emitted + times_at p coming ≡ 1) → Each (λ (m : Emission). m.position < length visits) coming → staying visits (emission_at emitted) ≡ length coming

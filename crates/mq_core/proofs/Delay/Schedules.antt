@@ -5,6 +5,7 @@ use Rattle.std.proofs.lemmas.List.{append-nil, map-append}
 use Rattle.std.proofs.lemmas.List.Elements.{filter-append}
 use Rattle.std.specs.Prelude.{filter, slice_get, not, ◌&&◌}
 use Rattle.std.specs.List.{AllByRecursion as Each}
+use Rattle.std.proofs.Math.Arith.{lt_of_le-ne}
 use Rattle.mq_base.proofs.lemmas.Each.{Each-append, Each-front, Each-back, Each-weaker, Each-both, Each-map, filter-all, filter-yes, filter-no}
 use Rattle.mq_base.proofs.lemmas.Lists.{get-front, get-last, get-some}
 use Rattle.mq_core.specs.Event.{Event, time_of, is_sooner, order_key, earliest}
@@ -96,13 +97,10 @@ came_before-push visits now x (g ∷ gs) at s b = (one, came_before-push visits 
     one : CameBefore (visits ++ x ∷ []) (position_in g) (time_of g)
     one p l u = go (eqb p (length visits)) refl
       where
-        less : (a b : ℕ) → (a ≡ b → ⊥) → a < suc b → a < b
-        less a b n m = omega arith
-
         go : (c : Bool) → eqb p (length visits) ≡ c → arrival_or 0 (slice_get (visits ++ x ∷ []) p) < time_of g
         go true e = let q = ap (arrival_or 0) (ap (slice_get (visits ++ x ∷ [])) (eqb-true p (length visits) e) ∙ get-last visits x) in let t = s.0 in omega arith
         go false e =
-            let there : p < length visits = less p (length visits) (λ k. let c = eq-eqb p (length visits) k in absurd cc) (let z = size in omega arith) in
+            let there : p < length visits = lt_of_le-ne (let z = size in omega arith) (λ k. let c = eq-eqb p (length visits) k in absurd cc) in
             subst (λ o. arrival_or 0 o < time_of g) (sym (get-front visits (x ∷ []) p there)) (b.0 p l there)
 
 -- an arrival that is served

@@ -5,6 +5,7 @@ use Rattle.std.proofs.lemmas.List.{append-nil}
 use Rattle.std.specs.List.{AllByRecursion as Each}
 use Rattle.std.specs.Option.{option_map}
 use Rattle.std.specs.Prelude.{IfSome, IsSome, filter, slice_get}
+use Rattle.std.proofs.Math.Arith.{lt_of_le-ne}
 use Rattle.mq_base.proofs.lemmas.Lists.{get-some}
 use Rattle.mq_core.specs.Event.{Event, earliest, node_of}
 use Rattle.mq_core.specs.Event.Event.{Arrive, Finish}
@@ -146,10 +147,7 @@ sum-nothing (suc n) f e k l = go (eqb k n) refl (sum-nothing n f (omega arith) k
   where
     go : (b : Bool) → eqb k n ≡ b → (k < n → f k ≡ 0) → f k ≡ 0
     go true same ih = ap f (eqb-true k n same) ∙ omega arith
-    go false other ih = ih (let apart : k ≡ n → ⊥ = λ q. let c = eq-eqb k n q in absurd cc in less apart)
-      where
-        less : (k ≡ n → ⊥) → k < n
-        less apart = omega arith
+    go false other ih = ih (let apart : k ≡ n → ⊥ = λ q. let c = eq-eqb k n q in absurd cc in lt_of_le-ne (omega arith) apart)
 
 -- who has left has a fate
 fate-some : (kind : Kind) (s : Station Local) (p : ℕ) → one_if_none (leaves_with kind s p) ≡ 0 → IsSome (fate_of kind s p)

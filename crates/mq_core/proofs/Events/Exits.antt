@@ -1,6 +1,7 @@
 -- What each visit found, by the emissions with which visits leave, however a kind tells these.
-use Rattle.std.proofs.Common.{◌≡◌, ℕ, suc, ◌-◌, ◌<◌, Bool, true, false, eqb, eqb-true, eq-eqb, List, [], ◌∷◌, ◌++◌, length, Option, Some, None, sym, refl, ap, ◌∙◌, arith, length-append}
+use Rattle.std.proofs.Common.{◌≡◌, ℕ, ◌-◌, ◌<◌, Bool, true, false, eqb, eqb-true, eq-eqb, List, [], ◌∷◌, ◌++◌, length, Option, Some, None, sym, refl, ap, ◌∙◌, arith, length-append}
 use Rattle.std.specs.Prelude.{nat_lt, slice_get}
+use Rattle.std.proofs.Math.Arith.{lt_of_le-ne}
 use Rattle.mq_base.proofs.lemmas.Lists.{get-front, get-last}
 use Rattle.mq_core.specs.Event.{Event, earliest}
 use Rattle.mq_core.specs.Event.Event.{Arrive, Finish}
@@ -47,9 +48,6 @@ keeps-founds_by {L} t P Q exit there keeps leaves =
       ends = λ v server position s fs rest now h first. (keeps.ends v server position s fs rest now h.0 first, λ q. record { each = λ p l. (h.1 q).each p l ∙ sum-same p _ _ (λ k u. sym (leaves.ends v server position s fs rest now q h.0 first k p u l)) });
     }
   where
-    less : (a b : ℕ) → (a ≡ b → ⊥) → a < suc b → a < b
-    less a b n l = omega arith
-
     came : (v port job : ℕ) (s : Station L) (fs : List Event) (now : ℕ) → Q v → Fits t v port → P v s fs now → FoundsBy exit there v s → (p : ℕ) (b : Bool) → eqb p (length s.visits) ≡ b → p < length (acted t s (Arrive now v port job)).visits →
         found_or 0 (slice_get (acted t s (Arrive now v port job)).visits p) ≡ sum_below p (λ k. one_if_there (there v) (arrival_or 0 (slice_get (acted t s (Arrive now v port job)).visits p)) p (exit v (acted t s (Arrive now v port job)) k))
     came v port job s fs now q fit h founds p true e l =
@@ -80,7 +78,7 @@ keeps-founds_by {L} t P Q exit there keeps leaves =
         x = record { job = job; arrive = now; port = port; found = t.jobs v s.visits s.local }
 
         inside : p < length s.visits
-        inside = less p (length s.visits) (λ k. let c = eq-eqb p (length s.visits) k in absurd cc) (omega (arith, length-append s.visits (x ∷ [])))
+        inside = lt_of_le-ne (omega (arith, length-append s.visits (x ∷ []))) (λ k. let c = eq-eqb p (length s.visits) k in absurd cc)
 
         front : slice_get (s.visits ++ x ∷ []) p ≡ slice_get s.visits p
         front = get-front s.visits (x ∷ []) p inside

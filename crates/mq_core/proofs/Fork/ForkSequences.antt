@@ -20,9 +20,9 @@ use Rattle.mq_core.specs.declared.model.Fate.TheVariants.{Departs}
 use Rattle.mq_core.specs.Results.{fates_by, or_held}
 use Rattle.mq_base.proofs.lemmas.Lists.{get-some, some_inj}
 use Rattle.mq_core.specs.Tallies.{one_if_there}
-use Rattle.mq_core.proofs.Join.Entries.{count-push}
 use Rattle.mq_core.proofs.Fork.Forks.{copied-found, copied-position, find-back, find-front}
 use Rattle.mq_base.proofs.lemmas.Each.{Each-append, Each-weaker}
+use Rattle.mq_base.proofs.lemmas.Counts.{count-push}
 use Rattle.mq_core.proofs.Events.Areas.{sum-none}
 
 copied-time : (outputs p : ℕ) (x : Visit) → Each (λ (m : Emission). m.time ≡ x.arrive) (copied outputs p x)

@@ -6,6 +6,8 @@ use Rattle.std.proofs.lemmas.List.{map-append}
 use Rattle.std.proofs.lemmas.List.Sums.{sum_by-append, sum_by-cons}
 use Rattle.std.specs.Prelude.{filter, count_by}
 use Rattle.std.specs.List.{AllByRecursion as Each, flat_map}
+use Rattle.std.proofs.Math.Arith.{lt_of_le-ne}
+use Rattle.std.proofs.Math.Numerals.{add-one-le}
 use Rattle.mq_base.proofs.lemmas.Lists.{get-front}
 use Rattle.mq_core.specs.Event.{Event, time_of, earliest, sooner_of}
 use Rattle.mq_core.specs.Event.Event.{Arrive, Finish}
@@ -241,14 +243,11 @@ module _ (rows : Rows) (v now : ℕ) (all : List Visit) where
       go true e ih = on here h (eqb-true server finished e)
       go false e ih =
           let other : (server ≡ finished → ⊥) = (λ k. let c = eq-eqb server finished k in absurd cc) in
-          let r = ih (less server finished low other) (omega arith) in
+          let r = ih (add-one-le (lt_of_le-ne low other)) (omega arith) in
           let size : length visits - length queue ≡ length (departing rows d 0 gone) = (let a = ap length h.parts ∙ length-append gone here in let b = ap length h.waiting ∙ positions-length (length gone) here in let c = departing-length rows d 0 gone in omega arith) in
           let a = ap (λ m. series_begun rows all m ds (finishes_at rows all now finished (server + 1) ds queues).queues) size in
           let b = ap (λ m. series_begun rows all m ds queues) size in
           omega arith
-        where
-          less : (a b : ℕ) → a ≤ b → (a ≡ b → ⊥) → a + 1 ≤ b
-          less a b l n = omega arith
 
   ends-begun : (rank : ℕ → ℕ) (finished position server : ℕ) (rest : List Event) (demands : List (List Demand)) (visits : List Visit) (branches : List Branch) (endeds : List (List Visit)) (pend : ℕ → List Event) → server ≤ finished → finished < server + count_of demands →
       earliest rank (pend finished) ≡ Some (Finish now v finished position, rest) → Branching rows v server demands visits branches endeds pend now →

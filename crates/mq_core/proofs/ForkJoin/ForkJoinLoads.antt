@@ -3,6 +3,8 @@ use Rattle.std.proofs.Common.{◌≡◌, ◌⊎◌, inl, inr, ℕ, zero, suc, �
 use Rattle.std.proofs.lemmas.Bool.{ltb-true, ltb-false}
 use Rattle.std.proofs.Math.Nat.{suc-mul, add-mul, mul-le-mul_right}
 use Rattle.std.specs.Prelude.{slice_get, filter}
+use Rattle.std.proofs.Math.Arith.{lt_of_le-ne}
+use Rattle.std.proofs.Math.Numerals.{add-one-le}
 use Rattle.mq_base.proofs.lemmas.Lists.{get-some}
 use Rattle.mq_core.specs.Event.{Event, earliest, sooner_of}
 use Rattle.mq_core.specs.Event.Event.{Arrive, Finish}
@@ -158,11 +160,8 @@ module _ (rows : Rows) (v : ℕ) where
       go true e ih = on queue (someone here h (eqb-true server finished e))
       go false e ih =
           let other : (server ≡ finished → ⊥) = (λ k. let c = eq-eqb server finished k in absurd cc) in
-          let r = ih (less server finished low other) (omega arith) in
+          let r = ih (add-one-le (lt_of_le-ne low other)) (omega arith) in
           omega arith
-        where
-          less : (a b : ℕ) → a ≤ b → (a ≡ b → ⊥) → a + 1 ≤ b
-          less a b l n = omega arith
 
   branches-falls : (all : List Visit) (rank : ℕ → ℕ) (now finished position server : ℕ) (rest : List Event) (demands : List (List Demand)) (visits : List Visit) (branches : List Branch) (endeds : List (List Visit)) (pend : ℕ → List Event) → server ≤ finished → finished < server + count_of demands →
       earliest rank (pend finished) ≡ Some (Finish now v finished position, rest) → Branching rows v server demands visits branches endeds pend now →

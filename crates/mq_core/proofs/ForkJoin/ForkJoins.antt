@@ -4,6 +4,7 @@ use Rattle.std.proofs.lemmas.List.{append-nil}
 use Rattle.std.proofs.lemmas.List.Elements.{filter-append}
 use Rattle.std.specs.Prelude.{slice_get, filter}
 use Rattle.std.specs.List.{AllByRecursion as Each}
+use Rattle.std.proofs.Math.Arith.{lt_of_le-ne}
 use Rattle.mq_base.proofs.lemmas.Each.{Each-append, Each-back, Each-front, Each-both, Each-map, not_true}
 use Rattle.mq_base.proofs.lemmas.Lists.{get-front}
 use Rattle.mq_core.specs.Event.{Event, time_of, earliest}
@@ -134,11 +135,8 @@ forkjoining-arrives rows demands v port local visits emitted fs now x at soon h 
         go true e = let same : slice_get (visits ++ x ∷ []) p ≡ Some x = ap (slice_get (visits ++ x ∷ [])) (eqb-true p (length visits) e) ∙ slice_get-middle visits [] x in subst (λ o. arrival_or 0 o < time_of f) (sym same) (omega arith)
         go false e =
             let other : (p ≡ length visits → ⊥) = (λ k. let c = eq-eqb p (length visits) k in absurd cc) in
-            let inner : p < length visits = less p (length visits) other (omega (arith, length-push visits x)) in
+            let inner : p < length visits = lt_of_le-ne (omega (arith, length-push visits x)) other in
             subst (λ o. arrival_or 0 o < time_of f) (sym (get-front visits (x ∷ []) p inner)) (before p l inner)
-          where
-            less : (a b : ℕ) → (a ≡ b → ⊥) → a < suc b → a < b
-            less a b n l = omega arith
 
 -- an event that is taken out of some events, and those that are left
 pub taken-each : (P : Event → Type 0) (rank : ℕ → ℕ) (fs rest : List Event) (e : Event) → earliest rank fs ≡ Some (e, rest) → Each P fs → P e × Each P rest

@@ -1,17 +1,12 @@
 -- How many entries a join has of a row by a port, and what is taken out.
-use Rattle.std.proofs.Common.{◌≡◌, ◌⊎◌, inl, inr, ℕ, zero, suc, ◌+◌, ◌<◌, ◌≤◌, Bool, true, false, cond, eqb, eqb-true, eq-eqb, List, [], ◌∷◌, ◌++◌, length, Option, Some, None, refl, sym, ap, arith, subst, ◌∙◌}
+use Rattle.std.proofs.Common.{◌≡◌, ◌⊎◌, inl, inr, ℕ, zero, suc, ◌+◌, ◌<◌, ◌≤◌, Bool, true, false, cond, eqb, eqb-true, eq-eqb, List, [], ◌∷◌, length, Option, Some, None, refl, sym, ap, arith, subst, ◌∙◌}
 use Rattle.std.proofs.lemmas.Bool.{and_parts}
-use Rattle.std.proofs.lemmas.List.Sums.{sum_by-append, sum_by-cons}
 use Rattle.std.specs.List.{AllByRecursion as Each, list_any}
 use Rattle.std.specs.Prelude.{count_by, slice_get, ◌&&◌, ◌||◌}
+use Rattle.std.proofs.Math.Arith.{lt_of_le-ne}
 use Rattle.mq_core.specs.Kinds.Join.{has_job, is_by, is_matched, taken_out, without_first}
 use Rattle.mq_core.specs.Machine.{Visit}
-
-pub count-cons : {X : Type 0} (test : X → Bool) (x : X) (xs : List X) → count_by test (x ∷ xs) ≡ cond (test x) 1 0 + count_by test xs
-count-cons test x xs = sum_by-cons (λ y. cond (test y) 1 0) x xs
-
-pub count-push : {X : Type 0} (test : X → Bool) (xs : List X) (x : X) → count_by test (xs ++ x ∷ []) ≡ count_by test xs + cond (test x) 1 0
-count-push test xs x = let a = sum_by-append (λ y. cond (test y) 1 0) xs (x ∷ []) in let b = count-cons test x [] in omega arith
+use Rattle.mq_base.proofs.lemmas.Counts.{count-cons}
 
 -- some pass, or none
 any-count : {X : Type 0} (test : X → Bool) (xs : List X) → ((list_any test xs ≡ true) × (1 ≤ count_by test xs)) ⊎ ((list_any test xs ≡ false) × (count_by test xs ≡ 0))
@@ -100,12 +95,9 @@ matched-all visits job (suc ports) held h k l = go (eqb k ports) refl (matched-a
     some (inl c) = c.1
     some (inr c) = absurd (let f = sym first ∙ c.0 in cc)
 
-    less : (k ≡ ports → ⊥) → k < ports
-    less n = omega arith
-
     go : (b : Bool) → eqb k ports ≡ b → (is_matched visits job ports held ≡ true → (j : ℕ) → j < ports → 1 ≤ count_by (is_by visits job j) held) → 1 ≤ count_by (is_by visits job k) held
     go true e ih = let s = some (any-count (is_by visits job ports) held) in let t = ap (λ p. count_by (is_by visits job p) held) (eqb-true k ports e) in omega arith
-    go false e ih = ih others k (less (λ q. let c = eq-eqb k ports q in absurd cc))
+    go false e ih = ih others k (lt_of_le-ne (omega arith) (λ q. let c = eq-eqb k ports q in absurd cc))
 
 -- where they aren't one has none
 pub unmatched-one : (visits : List Visit) (job ports : ℕ) (held : List (ℕ × ℕ)) → is_matched visits job ports held ≡ false → (k : ℕ) × (k < ports) × (count_by (is_by visits job k) held ≡ 0)
@@ -133,9 +125,6 @@ module _ (visits : List Visit) (job : ℕ) (held : List (ℕ × ℕ)) where
   taken-own zero h k l = absurd (omega arith)
   taken-own (suc ports) h k l = go (eqb k ports) refl (taken-own ports (λ j m. h j (omega arith)))
     where
-      less : (k ≡ ports → ⊥) → k < ports
-      less n = omega arith
-
       go : (b : Bool) → eqb k ports ≡ b → ((j : ℕ) → j < ports → count_by (is_by visits job j) (taken_out visits job ports held) + 1 ≡ count_by (is_by visits job j) held) → count_by (is_by visits job k) (without_first (is_by visits job ports) (taken_out visits job ports held)) + 1 ≡ count_by (is_by visits job k) held
       go true e ih =
           let same = eqb-true k ports e in
@@ -145,7 +134,7 @@ module _ (visits : List Visit) (job : ℕ) (held : List (ℕ × ℕ)) where
           ap (λ p. count_by (is_by visits job p) (without_first (is_by visits job ports) (taken_out visits job ports held)) + 1) same ∙ (one ∙ (above ∙ ap (λ p. count_by (is_by visits job p) held) (sym same)))
       go false e ih =
           let other : k ≡ ports → ⊥ = λ q. let c = eq-eqb k ports q in absurd cc in
-          ap (λ n. n + 1) (without-other (is_by visits job ports) (is_by visits job k) (taken_out visits job ports held) (λ x. by-port visits job job ports k x (λ q. other (sym q)))) ∙ ih k (less other)
+          ap (λ n. n + 1) (without-other (is_by visits job ports) (is_by visits job k) (taken_out visits job ports held) (λ x. by-port visits job job ports k x (λ q. other (sym q)))) ∙ ih k (lt_of_le-ne (omega arith) other)
 
   pub taken-length : (ports : ℕ) → ((k : ℕ) → k < ports → 1 ≤ count_by (is_by visits job k) held) → length (taken_out visits job ports held) + ports ≡ length held
   taken-length zero h = omega arith

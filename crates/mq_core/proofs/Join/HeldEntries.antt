@@ -5,13 +5,15 @@ use Rattle.std.proofs.lemmas.List.{append-nil, drop-append-le, map-append}
 use Rattle.std.proofs.lemmas.List.Elements.{filter-append}
 use Rattle.std.specs.List.{AllByRecursion as Each, list_any}
 use Rattle.std.specs.Prelude.{count_by, filter, nat_le, slice_get, ◌&&◌, ◌==◌, ◌||◌}
+use Rattle.std.proofs.Math.Arith.{lt_of_le-ne}
 use Rattle.mq_base.proofs.lemmas.Each.{Each-append}
 use Rattle.mq_base.proofs.lemmas.Lists.{get-front, some_inj}
+use Rattle.mq_base.proofs.lemmas.Counts.{count-cons}
 use Rattle.mq_core.specs.Event.{Event}
 use Rattle.mq_core.specs.Handling.{latest}
 use Rattle.mq_core.specs.Kinds.Join.{has_entry, has_job, is_by, is_of, taken_out, without_first}
 use Rattle.mq_core.specs.Machine.{Emission, Visit}
-use Rattle.mq_core.proofs.Join.Entries.{by-job, by-port, count-cons, taken-each}
+use Rattle.mq_core.proofs.Join.Entries.{by-job, by-port, taken-each}
 use Rattle.mq_core.proofs.Join.Joinings.{Joining, of_row, row-push}
 use Rattle.mq_core.proofs.Server.Serves.{get-latest, latest-push}
 
@@ -94,9 +96,6 @@ module _ (visits : List Visit) (job : ℕ) (held : List (ℕ × ℕ)) where
   own-filter zero k l = absurd (omega arith)
   own-filter (suc ports) k l = go (eqb k ports) refl (own-filter ports k)
     where
-      less : (k ≡ ports → ⊥) → k < ports
-      less n = omega arith
-
       go : (b : Bool) → eqb k ports ≡ b → (k < ports → filter (is_by visits job k) (taken_out visits job ports held) ≡ drop 1 (filter (is_by visits job k) held)) → filter (is_by visits job k) (without_first (is_by visits job ports) (taken_out visits job ports held)) ≡ drop 1 (filter (is_by visits job k) held)
       go true e ih =
           let same = eqb-true k ports e in
@@ -105,7 +104,7 @@ module _ (visits : List Visit) (job : ℕ) (held : List (ℕ × ℕ)) where
           ∙ (ap (drop 1) (above-filter ports ports job (omega arith)) ∙ ap (λ p. drop 1 (filter (is_by visits job p) held)) (sym same)))
       go false e ih =
           let other : k ≡ ports → ⊥ = λ q. let c = eq-eqb k ports q in absurd cc in
-          without-other_filter (is_by visits job ports) (is_by visits job k) (taken_out visits job ports held) (λ x. by-port visits job job ports k x (λ q. other (sym q))) ∙ ih (less other)
+          without-other_filter (is_by visits job ports) (is_by visits job k) (taken_out visits job ports held) (λ x. by-port visits job job ports k x (λ q. other (sym q))) ∙ ih (lt_of_le-ne (omega arith) other)
 
 -- one visit more, at one of the ports
 module _ (ports : ℕ) (visits : List Visit) (held : List (ℕ × ℕ)) (emitted : List Emission) (fs : List Event) (x : Visit) (here : x.port < ports) (h : Joining ports visits held emitted fs) (entered : Entered ports visits held emitted) where

@@ -1,5 +1,6 @@
 -- That the visits to a join that haven't left are those that have an entry.
 use Rattle.mq_base.proofs.lemmas.Lists.{get-none, get-some}
+use Rattle.mq_base.proofs.lemmas.Each.{Each-get}
 use Rattle.mq_core.specs.Event.{Event}
 use Rattle.std.proofs.Common.{List, ap, arith, false, length, refl, subst, sym, true, ℕ, ◌<◌, ◌∙◌, ◌≡◌, ◌≤◌, ◌⊎◌, inl, inr}
 use Rattle.std.proofs.lemmas.Bool.{cases_lt}
@@ -20,7 +21,6 @@ use Rattle.mq_core.proofs.Events.Kept.{kept}
 use Rattle.mq_core.proofs.Join.HeldEntries.{entry-stays}
 use Rattle.mq_core.proofs.Join.JoinLaws.{Joined}
 use Rattle.mq_core.proofs.Join.Joinings.{of_row}
-use Rattle.mq_core.proofs.Join.Numbers.{port-of}
 use Rattle.mq_core.proofs.Networks.Whole.{starts-begin}
 use Rattle.mq_core.proofs.Networks.Wired.{feeds_forward}
 
@@ -41,7 +41,7 @@ behind-all ms i = go (cases_lt i (length ms))
 held-entry : (ports : ℕ) (visits : List Visit) (held : List (ℕ × ℕ)) (emitted : List Emission) (fs : List Event) (p : ℕ) → Joined ports visits held emitted fs → p < length visits → has_entry p held ≡ is_none (joined_exit visits emitted p (slice_get visits p))
 held-entry ports visits held emitted fs p h l =
     let x = get-some visits p l in
-    entry-stays ports visits held emitted p x.0 x.1 (port-of ports visits p x.0 h.ported x.1) h.entered
+    entry-stays ports visits held emitted p x.0 x.1 (Each-get (λ (v : Visit). v.port < ports) visits p x.0 h.ported x.1) h.entered
     ∙ (behind-all (of_row (x.0).job emitted) (count_by (is_of (x.0).job (x.0).port) (take p visits)) ∙ ap (λ o. is_none (joined_exit visits emitted p o)) (sym x.1))
 
 pub held-are-entries : HeldAreEntries

@@ -1,8 +1,9 @@
 -- How visits leave a join: at a visit each stays as it was, or leaves now with the match that is whole.
 use Rattle.std.proofs.Common.{◌≡◌, ◌⊎◌, inl, inr, ℕ, ◌<◌, ◌≤◌, Bool, true, false, List, [], ◌∷◌, ◌++◌, length, max, take, Option, Some, None, refl, sym, ap, arith, subst, ◌∙◌}
-use Rattle.std.proofs.lemmas.List.{append-nil}
+use Rattle.std.proofs.lemmas.List.{append-nil, take-append-le}
 use Rattle.std.specs.List.{AllByRecursion as Each}
 use Rattle.std.specs.Prelude.{count_by, slice_get}
+use Rattle.std.proofs.Math.Seq.{take-append_seam}
 use Rattle.mq_base.proofs.lemmas.Lists.{get-front, get-last, get-none}
 use Rattle.mq_core.specs.Event.{Event}
 use Rattle.mq_core.specs.Event.Event.{Arrive}
@@ -16,7 +17,6 @@ use Rattle.mq_core.specs.Tallies.{one_if_there}
 use Rattle.mq_core.proofs.Join.JoinSequences.{row-each}
 use Rattle.mq_core.proofs.Join.JoinLaws.{ExitsNow, Joined, exit-more, exits-before, exits-there, join-inside}
 use Rattle.mq_core.proofs.Join.Joinings.{of_row}
-use Rattle.mq_core.proofs.Join.Numbers.{take-front, take-first}
 use Rattle.mq_core.proofs.EachKind.ExitLaws.{ExitLaws}
 use Rattle.mq_core.proofs.EachKind.KindLaws.{after_visit}
 use Rattle.mq_core.proofs.Events.Leavings.{StaysOrLeaves, time_of_exit}
@@ -59,7 +59,7 @@ module _ (ports now v : ℕ) (local : Local) (visits : List Visit) (emitted : Li
     where
       go : (o : Option Visit) → ExitsNow now (length visits) (joined_exit visits emitted k o) (joined_exit more after k o)
       go None = inl refl
-      go (Some y) = subst (λ ys. ExitsNow now (length visits) (slice_get (of_row y.job emitted) (count_by (is_of y.job y.port) (take k visits))) (slice_get (of_row y.job after) (count_by (is_of y.job y.port) ys))) (sym (take-front visits (x ∷ []) k (omega arith))) (row y.job (count_by (is_of y.job y.port) (take k visits)))
+      go (Some y) = subst (λ ys. ExitsNow now (length visits) (slice_get (of_row y.job emitted) (count_by (is_of y.job y.port) (take k visits))) (slice_get (of_row y.job after) (count_by (is_of y.job y.port) ys))) (sym (take-append-le k visits (x ∷ []) (omega arith))) (row y.job (count_by (is_of y.job y.port) (take k visits)))
 
   -- the visit itself has not left, or leaves now
   pub exits-come : ExitsNow now (length visits) None (joined_exit more after (length visits) (slice_get more (length visits)))
@@ -67,7 +67,7 @@ module _ (ports now v : ℕ) (local : Local) (visits : List Visit) (emitted : Li
       let i = count_by (is_of x.job x.port) visits in
       let c = h.joining.counts x.job x.port here in
       let none = get-none (of_row x.job emitted) (count_by (is_of x.job x.port) visits) (omega arith) in
-      let same : take (length visits) (visits ++ x ∷ []) ≡ visits = take-first visits (x ∷ []) in
+      let same : take (length visits) (visits ++ x ∷ []) ≡ visits = take-append_seam visits (x ∷ []) in
       subst (λ o. ExitsNow now (length visits) None (joined_exit more after (length visits) o)) (sym (get-last visits x))
       (subst (λ ys. ExitsNow now (length visits) None (slice_get (of_row x.job after) (count_by (is_of x.job x.port) ys))) (sym same)
       (subst (λ o. ExitsNow now (length visits) o (slice_get (of_row x.job after) (count_by (is_of x.job x.port) visits))) none (row x.job (count_by (is_of x.job x.port) visits))))

@@ -4,12 +4,13 @@ use Rattle.std.proofs.lemmas.List.{append-nil}
 use Rattle.std.specs.Option.{option_map}
 use Rattle.std.specs.Prelude.{count_by, slice_get, ◌&&◌}
 use Rattle.mq_base.proofs.lemmas.Lists.{get-last, get-none}
+use Rattle.mq_base.proofs.lemmas.Counts.{count-push}
 use Rattle.mq_core.specs.Came.{came_of}
 use Rattle.mq_core.specs.Event.{Event}
 use Rattle.mq_core.specs.Handling.{latest}
 use Rattle.mq_core.specs.Kinds.Join.{is_item, is_matched, is_of, is_whole_at, match_of, matched_from, matches_from, matches_of}
 use Rattle.mq_core.specs.Machine.{Emission, Visit}
-use Rattle.mq_core.proofs.Join.Entries.{count-push, matched-all}
+use Rattle.mq_core.proofs.Join.Entries.{matched-all}
 use Rattle.mq_core.proofs.Join.Joinings.{Joining, counts-joined, items_of, items-count, items-length, items-push, joining-matches, joining-waits, lacks, of_row, of_row-push}
 use Rattle.mq_core.proofs.lemmas.Matches.{Grows, match-grows}
 

@@ -1,9 +1,11 @@
 -- The sequences of a join.
 use Rattle.std.proofs.Common.{◌≡◌, ℕ, zero, suc, ◌+◌, ◌<◌, Bool, true, false, cond, List, [], ◌∷◌, ◌++◌, length, map, take, Option, Some, None, refl, sym, ap, arith, subst, ◌∙◌, append_assoc}
 use Rattle.mq_base.proofs.lemmas.Lists.{some_inj}
+use Rattle.mq_base.proofs.lemmas.Counts.{count-push}
 use Rattle.std.specs.List.{AllByRecursion as Each}
 use Rattle.std.specs.Option.{option_map}
 use Rattle.std.specs.Prelude.{count_by, filter, slice_get, slice_index, ◌==◌}
+use Rattle.std.proofs.Math.Seq.{take-append_seam}
 use Rattle.mq_core.specs.Came.{came_of}
 use Rattle.mq_core.specs.SequenceLaws.{arrives_of, jobs_of}
 use Rattle.mq_core.specs.Event.{Event}
@@ -14,10 +16,8 @@ use Rattle.mq_core.specs.Tallies.{arrival_or, found_or, sum_below}
 use Rattle.mq_core.specs.declared.model.Fate.TheVariants.{Departs}
 use Rattle.mq_core.specs.Results.{fates_by, or_held}
 use Rattle.mq_core.specs.Tallies.{one_if_there}
-use Rattle.mq_core.proofs.Join.Entries.{count-push}
 use Rattle.mq_core.proofs.Join.JoinFlow.{flow_by}
 use Rattle.mq_core.proofs.Join.Joinings.{Joining, items-count, items-push, items_of, of_row}
-use Rattle.mq_core.proofs.Join.Numbers.{take-first}
 use Rattle.mq_core.proofs.Server.Serves.{length-push, slice_get-middle}
 
 -- the emission of a match is at the arrival of the visit at its position
@@ -61,7 +61,7 @@ module _ (ports : ℕ) (s : Station Local) (fs : List Event) (h : Joining ports 
   exit-place pre zs z e =
       ap (λ o. option_map (λ (m : Emission). m.position) (joined_exit s.visits s.emitted (length pre) o)) (ap (λ l. slice_get l (length pre)) e ∙ slice_get-middle pre zs z)
       ∙ (h.places z.job (index_of s.visits (length pre) z)
-      ∙ ap (λ n. match_of ports z.job n (items_of s.visits)) (ap (λ l. count_by (is_of z.job z.port) (take (length pre) l)) e ∙ (ap (count_by (is_of z.job z.port)) (take-first pre (z ∷ zs)) ∙ sym (items-count z.job z.port pre))))
+      ∙ ap (λ n. match_of ports z.job n (items_of s.visits)) (ap (λ l. count_by (is_of z.job z.port) (take (length pre) l)) e ∙ (ap (count_by (is_of z.job z.port)) (take-append_seam pre (z ∷ zs)) ∙ sym (items-count z.job z.port pre))))
 
   pub exit-time : (p : ℕ) (m : Emission) → join.exit s p ≡ Some m → slice_index (arrives_of s.visits) m.position ≡ m.time
   exit-time p m e = go (slice_get s.visits p) e

@@ -9,10 +9,11 @@ use Rattle.mq_core.specs.Event.{Event}
 use Rattle.mq_core.specs.Handling.{latest}
 use Rattle.mq_core.specs.Kinds.Join.{has_job, is_by, is_item, is_matched, is_of, match_of, taken_out}
 use Rattle.mq_core.specs.Machine.{Emission, Visit}
-use Rattle.mq_core.proofs.Join.Entries.{count-cons, count-push, matched-all, taken-each, taken-others, taken-own, unmatched-one}
+use Rattle.mq_core.proofs.Join.Entries.{matched-all, taken-each, taken-others, taken-own, unmatched-one}
 use Rattle.mq_core.proofs.lemmas.Matches.{Grows, grown-new, grown-some, match-all, match-grows, match-lacks, match-none}
 use Rattle.mq_base.proofs.lemmas.Each.{Each-append, Each-weaker}
 use Rattle.mq_base.proofs.lemmas.Lists.{get-front, get-last, get-none, get-some}
+use Rattle.mq_base.proofs.lemmas.Counts.{count-cons, count-push, at-most-one}
 use Rattle.mq_core.proofs.Server.Serves.{get-latest, latest-push}
 
 -- the emissions of a row
@@ -127,11 +128,7 @@ module _ (ports : ℕ) (visits : List Visit) (held : List (ℕ × ℕ)) (emitted
 
   -- at most one more of each
   more-count : (job k : ℕ) → count_by (is_of job k) more ≤ suc (count_by (is_of job k) visits)
-  more-count job k = let a = count-push (is_of job k) visits x in let b = one ((x.job == job) && (x.port == k)) in omega arith
-    where
-      one : (b : Bool) → cond b 1 0 ≤ 1
-      one true = omega arith
-      one false = omega arith
+  more-count job k = let a = count-push (is_of job k) visits x in let b = at-most-one ((x.job == job) && (x.port == k)) in omega arith
 
   -- no match is whole now
   pub joining-waits : is_matched more x.job ports joined ≡ false → Joining ports more joined emitted fs

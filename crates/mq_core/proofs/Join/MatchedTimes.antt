@@ -5,6 +5,7 @@ use Rattle.std.proofs.lemmas.Option.{get_or_from_slice_get, slice_get-map}
 use Rattle.std.specs.Option.{option_map}
 use Rattle.std.specs.Prelude.{count_by, slice_get, slice_index, ◌==◌}
 use Rattle.mq_base.proofs.lemmas.Lists.{get-some, some_inj}
+use Rattle.mq_base.proofs.lemmas.Counts.{count-cons}
 use Rattle.mq_core.specs.Event.{Event}
 use Rattle.mq_core.specs.Fates.{fate_of}
 use Rattle.mq_core.specs.KindTable.{behaviour_of}
@@ -21,7 +22,6 @@ use Rattle.mq_core.specs.declared.model.Kind.TheVariants.{Join}
 use Rattle.mq_core.proofs.EachKind.LawTable.{inside_of}
 use Rattle.mq_core.proofs.EachKind.StationLaws.{HasFlowed}
 use Rattle.mq_core.proofs.Fork.ForkSequences.{rise-get}
-use Rattle.mq_core.proofs.Join.Entries.{count-cons}
 use Rattle.mq_core.proofs.Join.JoinFlow.{flow_by}
 use Rattle.mq_core.proofs.Join.JoinSequences.{exit-time, row-each}
 use Rattle.mq_core.proofs.Join.Joinings.{Joining, items-count, items_of, of_row}

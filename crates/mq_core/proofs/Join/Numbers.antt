@@ -2,19 +2,22 @@
 use Rattle.std.proofs.lemmas.Bool.Decides.{nat_tests}
 use Rattle.std.proofs.Common.{◌≡◌, ◌⊎◌, inl, inr, ℕ, zero, suc, ◌+◌, ◌<◌, ◌≤◌, Bool, true, false, cond, eqb, eqb-true, eq-eqb, ltb, List, [], ◌∷◌, ◌++◌, length, take, Option, Some, None, refl, sym, ap, arith, subst, ◌∙◌, length-append}
 use Rattle.std.proofs.lemmas.Bool.{cases_lt}
-use Rattle.std.proofs.lemmas.List.{append-nil}
+use Rattle.std.proofs.lemmas.List.{append-nil, take-append-le}
 use Rattle.mq_base.proofs.lemmas.Lists.{get-front, get-last, get-none, get-some, some_inj, take-all}
 use Rattle.std.specs.List.{AllByRecursion as Each}
 use Rattle.std.specs.Prelude.{count_by, slice_get, ◌&&◌, ◌==◌}
+use Rattle.std.proofs.Math.Arith.{lt_of_le-ne}
+use Rattle.std.proofs.Math.Seq.{take-append_seam}
 use Rattle.mq_core.specs.Event.{Event}
 use Rattle.mq_core.specs.Kinds.Join.{index_of, is_matched, is_of, joined_exit, taken_out}
 use Rattle.mq_core.specs.Machine.{Emission, Visit}
 use Rattle.mq_core.specs.Tallies.{one_if_none, sum_below}
 use Rattle.mq_core.proofs.Events.Areas.{sum-both, sum-none, sum-same}
-use Rattle.mq_base.proofs.lemmas.Each.{Each-append}
+use Rattle.mq_base.proofs.lemmas.Each.{Each-append, Each-get}
+use Rattle.mq_base.proofs.lemmas.Counts.{count-push}
 use Rattle.mq_core.specs.Handling.{latest}
 use Rattle.mq_core.proofs.Events.Founds.{later-one}
-use Rattle.mq_core.proofs.Join.Entries.{count-push, matched-all, taken-length}
+use Rattle.mq_core.proofs.Join.Entries.{matched-all, taken-length}
 use Rattle.mq_core.proofs.Join.Joinings.{Joining, counts-joined, of_row, of_row-push}
 
 -- 1 where this visit is the one of a row and a port that has so many before it
@@ -29,14 +32,6 @@ take-push (z ∷ ys) zero y e = go e
     go : Some z ≡ Some y → z ∷ [] ≡ y ∷ []
     go f = ap (λ v. v ∷ []) (some_inj z y f)
 take-push (z ∷ ys) (suc n) y e = ap (λ l. z ∷ l) (take-push ys n y e)
-
-pub take-front : (ys more : List Visit) (n : ℕ) → n ≤ length ys → take n (ys ++ more) ≡ take n ys
-take-front ys more zero l = refl
-take-front [] more (suc n) l = absurd (omega arith)
-take-front (y ∷ ys) more (suc n) l = ap (λ k. y ∷ k) (take-front ys more n (omega arith))
-
-pub take-first : (ys more : List Visit) → take (length ys) (ys ++ more) ≡ ys
-take-first ys more = take-front ys more (length ys) (omega arith) ∙ take-all ys (length ys) (omega arith)
 
 -- one such visit, where there are more than so many
 hits : (job port index : ℕ) (ys : List Visit) (n : ℕ) → n ≤ length ys → sum_below n (λ p. hit job port index ys p (slice_get ys p)) ≡ cond (ltb index (count_by (is_of job port) (take n ys))) 1 0
@@ -68,9 +63,6 @@ sum-alone : (n u : ℕ) (f : ℕ → ℕ) → u < n → ((k : ℕ) → (k ≡ u 
 sum-alone zero u f l h = absurd (omega arith)
 sum-alone (suc n) u f l h = go (eqb u n) refl (sum-alone n u f)
   where
-    less : (u ≡ n → ⊥) → u < n
-    less k = omega arith
-
     go : (b : Bool) → eqb u n ≡ b → (u < n → ((k : ℕ) → (k ≡ u → ⊥) → f k ≡ 0) → sum_below n f ≡ f u) → f n + sum_below n f ≡ f u
     go true e ih =
         let same = eqb-true u n e in
@@ -79,7 +71,7 @@ sum-alone (suc n) u f l h = go (eqb u n) refl (sum-alone n u f)
         omega arith
     go false e ih =
         let other : u ≡ n → ⊥ = λ q. let c = eq-eqb u n q in absurd cc in
-        let a = ih (less other) h in
+        let a = ih (lt_of_le-ne (omega arith) other) h in
         let b = h n (λ q. other (sym q)) in
         omega arith
 
@@ -140,12 +132,6 @@ emission-more visits emitted m ports job p v of l =
                 beyond : (i ≡ length l → ⊥) → length (l ++ m ∷ []) ≤ i
                 beyond other = let size = length-append l (m ∷ []) in omega arith
 
--- the port of a visit
-pub port-of : (ports : ℕ) (ys : List Visit) (p : ℕ) (v : Visit) → Each (λ (y : Visit). y.port < ports) ys → slice_get ys p ≡ Some v → v.port < ports
-port-of ports [] p v h e = absurd cc
-port-of ports (y ∷ ys) zero v h e = subst (λ (z : Visit). z.port < ports) (some_inj y v e) h.0
-port-of ports (y ∷ ys) (suc p) v h e = port-of ports ys p v h.1 e
-
 -- one visit more, at one of the ports, where each came by one
 module _ (ports : ℕ) (visits : List Visit) (held : List (ℕ × ℕ)) (emitted : List Emission) (fs : List Event) (x : Visit) (here : x.port < ports) (ported : Each (λ (v : Visit). v.port < ports) visits) (h : Joining ports visits held emitted fs) where
   abbrev more : List Visit
@@ -168,13 +154,13 @@ module _ (ports : ℕ) (visits : List Visit) (held : List (ℕ × ℕ)) (emitted
     where
       same : (o : Option Visit) → one_if_none (joined_exit more ms p o) ≡ one_if_none (joined_exit visits ms p o)
       same None = refl
-      same (Some v) = ap (λ l. one_if_none (slice_get (of_row v.job ms) (count_by (is_of v.job v.port) l))) (take-front visits (x ∷ []) p (omega arith))
+      same (Some v) = ap (λ l. one_if_none (slice_get (of_row v.job ms) (count_by (is_of v.job v.port) l))) (take-append-le p visits (x ∷ []) (omega arith))
 
   -- it has not left by the emissions before it
   own : one_if_none (joined_exit more emitted (length visits) (slice_get more (length visits))) ≡ 1
   own =
       ap (λ o. one_if_none (joined_exit more emitted (length visits) o)) (get-last visits x)
-      ∙ (ap (λ l. one_if_none (slice_get (of_row x.job emitted) (count_by (is_of x.job x.port) l))) (take-first visits (x ∷ []))
+      ∙ (ap (λ l. one_if_none (slice_get (of_row x.job emitted) (count_by (is_of x.job x.port) l))) (take-append_seam visits (x ∷ []))
       ∙ ap one_if_none (get-none (of_row x.job emitted) (count_by (is_of x.job x.port) visits) (let c = h.counts x.job x.port here in omega arith)))
 
   pub number-joined : length held ≡ staying_by visits emitted → length joined ≡ staying_by more emitted
@@ -208,7 +194,7 @@ module _ (ports : ℕ) (visits : List Visit) (held : List (ℕ × ℕ)) (emitted
           sum-both (length more) (λ p. one_if_none (joined_exit more (emitted ++ m ∷ []) p (slice_get more p))) (λ p. sum_below ports (λ k. hit x.job k (length (of_row x.job emitted)) more p (slice_get more p))) _ (λ p. refl)
           ∙ sum-same (length more) _ _ (λ p l. let y = get-some more p l in
           subst (λ o. one_if_none (joined_exit more (emitted ++ m ∷ []) p o) + sum_below ports (λ k. hit x.job k (length (of_row x.job emitted)) more p o) ≡ one_if_none (joined_exit more emitted p o)) (sym y.1)
-          (emission-more more emitted m ports x.job p y.0 of (port-of ports more p y.0 all-ported y.1)))
+          (emission-more more emitted m ports x.job p y.0 of (Each-get (λ (v : Visit). v.port < ports) more p y.0 all-ported y.1)))
 
       all : sum_below (length more) (λ p. sum_below ports (λ k. hit x.job k (length (of_row x.job emitted)) more p (slice_get more p))) ≡ ports
       all =

@@ -6,7 +6,9 @@ use Rattle.std.proofs.lemmas.Option.{slice_get_within}
 use Rattle.std.specs.List.{AllByRecursion as Each}
 use Rattle.std.specs.Option.{option_map}
 use Rattle.std.specs.Prelude.{count_by, is_none, slice_get, ◌==◌}
+use Rattle.std.proofs.lemmas.List.{take-append-le}
 use Rattle.mq_base.proofs.lemmas.Lists.{get-front, get-none, get-some}
+use Rattle.mq_base.proofs.lemmas.Each.{Each-get}
 use Rattle.mq_core.specs.Fates.{fate_by, fate_of, leaves_with}
 use Rattle.mq_core.specs.Kinds.Join.{is_of, joined_exit}
 use Rattle.mq_core.specs.KindTable.{behaviour_of}
@@ -27,12 +29,10 @@ use Rattle.mq_core.proofs.Events.Grown.{Grown, grown-after, grown-step}
 use Rattle.mq_core.proofs.Events.Kept.{kept}
 use Rattle.mq_core.proofs.Events.Past.{IsPast, keeps-past}
 use Rattle.mq_core.proofs.Events.Settled.{after-more}
-use Rattle.mq_core.proofs.ForkJoin.ForkJoinSums.{each-at}
 use Rattle.mq_core.proofs.Join.HeldVisits.{held-are-entries}
 use Rattle.mq_core.proofs.Join.JoinExits.{join-exits}
 use Rattle.mq_core.proofs.Join.JoinSequences.{row-each}
 use Rattle.mq_core.proofs.Join.Joinings.{of_row}
-use Rattle.mq_core.proofs.Join.Numbers.{take-front}
 use Rattle.mq_core.proofs.Networks.Whole.{starts-begin}
 use Rattle.mq_core.proofs.Networks.Wired.{feeds_forward}
 
@@ -49,7 +49,7 @@ module _ (visits more : List Visit) (emitted left : List Emission) (k : ℕ) whe
     where
       go : (o : Option Visit) → joined_exit (visits ++ more) (emitted ++ left) k o ≡ joined_exit visits (emitted ++ left) k o
       go None = refl
-      go (Some x) = ap (λ l. slice_get (of_row x.job (emitted ++ left)) (count_by (is_of x.job x.port) l)) (take-front visits more k (omega arith))
+      go (Some x) = ap (λ l. slice_get (of_row x.job (emitted ++ left)) (count_by (is_of x.job x.port) l)) (take-append-le k visits more (omega arith))
 
   -- who left, left so
   exit-stays : (m : Emission) (o : Option Visit) → joined_exit visits emitted k o ≡ Some m → joined_exit visits (emitted ++ left) k o ≡ Some m
@@ -144,7 +144,7 @@ departs-as_taken_out plan rows count v position node here join inside taken =
             exit-new (before.stations v).visits grown.came (before.stations v).emitted grown.left position (λ (m : Emission). m.time ≡ now.clock) gone.0 (slice_get (before.stations v).visits position) grown.leaves none so
         go (inr l) =
             let new = behind (before.stations v).visits grown.came position own.0 (get-none (before.stations v).visits position l) (ap (λ k. slice_get k position) (sym grown.visits) ∙ own.1) in
-            let came : own.0.arrive ≡ now.clock = each-at (λ (x : Visit). x.arrive ≡ now.clock) grown.came new.0 own.0 grown.comes new.1 in
+            let came : own.0.arrive ≡ now.clock = Each-get (λ (x : Visit). x.arrive ≡ now.clock) grown.came new.0 own.0 grown.comes new.1 in
             let least = late in
             let most = (join-exits rows (length node.inputs)).among (now.stations v) position now.clock gone.0 past.left gone.1 in
             omega arith

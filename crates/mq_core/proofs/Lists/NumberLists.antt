@@ -2,13 +2,7 @@
 use Rattle.std.proofs.Common.{◌≡◌, ℕ, zero, suc, ◌+◌, ◌≤◌, List, [], ◌∷◌, Some, arith, max, fold, slice_get}
 use Rattle.std.specs.List.{AllByRecursion as Each}
 use Rattle.mq_core.specs.Tallies.{sum_below}
-
-pub greatest-from : (a : ℕ) (xs : List ℕ) → fold max a xs ≡ max a (fold max 0 xs)
-greatest-from a [] = omega arith
-greatest-from a (x ∷ xs) =
-    let one = greatest-from (max a x) xs in
-    let two = greatest-from (max 0 x) xs in
-    omega arith
+use Rattle.mq_base.proofs.lemmas.Lists.{greatest-from}
 
 pub greatest-cons : (x : ℕ) (xs : List ℕ) → fold max 0 (x ∷ xs) ≡ max x (fold max 0 xs)
 greatest-cons x xs = let one = greatest-from (max 0 x) xs in omega arith

@@ -10,9 +10,10 @@ use Rattle.mq_core.specs.Told.{IsTold}
 use Rattle.mq_core.specs.declared.model.Demand.{Demand}
 use Rattle.mq_core.specs.declared.model.Rows.{Rows}
 use Rattle.mq_core.proofs.Bounded.BoundedAsked.{asked, asked-small}
-use Rattle.mq_core.proofs.Loss.LossSequences.{loss-by, loss-over, faring-numbered, loss-even, faring-fates, faring-leaves, faring-outs, loss-stream, demands-of, even-fates, stay-admitted, when-lost}
+use Rattle.mq_core.proofs.Loss.LossSequences.{loss-by, faring-numbered, loss-even, faring-fates, faring-leaves, faring-outs, loss-stream, demands-of, even-fates, stay-admitted, when-lost}
 use Rattle.mq_core.proofs.EachKind.RecurrenceLaws.{RecurrenceLaws}
 use Rattle.mq_core.proofs.Events.Exits.{until-own}
+use Rattle.mq_core.proofs.lemmas.Over.{loss-over}
 
 pub loss-recurrence : (rows : Rows) (ports : ℕ) (places : ℕ) (demand : Demand) → RecurrenceLaws rows ports (loss places demand)
 loss-recurrence rows ports places demand =

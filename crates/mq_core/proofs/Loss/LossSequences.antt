@@ -20,6 +20,7 @@ use Rattle.mq_core.proofs.Counting.SequenceNumbers.{EachLeaves, Numbered}
 use Rattle.mq_core.proofs.lemmas.Rising.{Rises-filter, Rises-in_order_of, filter-in_order_of, same_by_key}
 use Rattle.mq_core.proofs.Counting.Stays.{FatesStay, cons}
 use Rattle.mq_core.proofs.Bounded.BoundedStations.{AreBy, AreSmall, LeaveBy}
+use Rattle.mq_core.proofs.lemmas.Over.{IsOver}
 
 -- a loss station has a fate for each visit
 pub loss-even : (places : ℕ) (left : List ℕ) (arrive demand : Visit → ℕ) (visits : List Visit) → length (loss_fates places left (map arrive visits) (map demand visits)) ≡ length visits
@@ -40,25 +41,6 @@ faring-numbered k (fate ∷ fates) [] e = absurd (omega arith)
 faring-numbered k (Departs time ∷ fates) (x ∷ xs) e = (refl, refl, faring-numbered (suc k) fates xs (omega arith))
 faring-numbered k (Lost ∷ fates) (x ∷ xs) e = (refl, refl, faring-numbered (suc k) fates xs (omega arith))
 faring-numbered k (Held ∷ fates) (x ∷ xs) e = (refl, refl, faring-numbered (suc k) fates xs (omega arith))
-
--- a visit that isn't held
-abbrev pub IsOver : Fate → Type 0
-IsOver (Departs time) = Unit {0}
-IsOver Lost = Unit {0}
-IsOver Held = ⊥
-
--- a loss station holds none of its visits for good
-pub loss-over : (places : ℕ) (left arrives demands : List ℕ) → Each IsOver (loss_fates places left arrives demands)
-loss-over places left [] demands = tt
-loss-over places left (a ∷ times) [] = tt
-loss-over places left (a ∷ times) (d ∷ ds) = go (is_admitted places left a) (λ l. loss-over places l times ds)
-  where
-    time : ℕ
-    time = max a (time_or_none (slice_get left 0)) + d
-
-    go : (b : Bool) → ((l : List ℕ) → Each IsOver (loss_fates places l times ds)) → Each IsOver (cond b (Departs time ∷ loss_fates places (time ∷ left) times ds) (Lost ∷ loss_fates places left times ds))
-    go true ih = (tt, ih (time ∷ left))
-    go false ih = (tt, ih left)
 
 -- each visit fares as it is let out
 pub faring-fates : (places : ℕ) (demand : Demand) (k : ℕ) (fates : List Fate) (visits : List Visit) → length fates ≡ length visits → Each IsOver fates → map (fate_by (Loss places demand)) (faring_from k fates visits) ≡ fates

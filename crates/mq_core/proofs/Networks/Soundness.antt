@@ -26,12 +26,6 @@ all_inputs nodes = flat_map (λ (node : Node). node.inputs) nodes
 abbrev reads : List Input → ℕ → ℕ → Bool
 reads is u out = list_any (λ (i : Input). (u == i.node) && (out == i.out)) is
 
-first : (a b : Bool) → (a && b) ≡ true → a ≡ true
-first a b h = (and_parts a b h).0
-
-second : (a b : Bool) → (a && b) ≡ true → b ≡ true
-second a b h = (and_parts a b h).1
-
 -- an output that a port reads is among the inputs
 reads-at : (is : List Input) (u out q : ℕ) → slice_get (map pair_of is) q ≡ Some (u, out) → reads is u out ≡ true
 reads-at [] u out q h = absurd cc
@@ -71,16 +65,16 @@ distinct-apart : (is js : List Input) (u out q : ℕ) → are_distinct same_inpu
 distinct-apart [] js u out q d h k = absurd cc
 distinct-apart (i ∷ is) js u out zero d h k =
     let e = some_inj (pair_of i) (u, out) h in
-    let no = first (not (list_any (same_input i) (is ++ js))) (are_distinct same_input (is ++ js)) d in
+    let no = (and_parts (not (list_any (same_input i) (is ++ js))) (are_distinct same_input (is ++ js)) d).0 in
     not-both (reads (is ++ js) u out) (subst (λ (x : ℕ × ℕ). not (reads (is ++ js) x.0 x.1) ≡ true) e no)
     (list_any-append (λ (j : Input). (u == j.node) && (out == j.out)) is js ∙ or-right (reads is u out) (reads js u out) k)
 distinct-apart (i ∷ is) js u out (suc q) d h k =
-    distinct-apart is js u out q (second (not (list_any (same_input i) (is ++ js))) (are_distinct same_input (is ++ js)) d) h k
+    distinct-apart is js u out q (and_parts (not (list_any (same_input i) (is ++ js))) (are_distinct same_input (is ++ js)) d).1 h k
 
 -- of distinct inputs those of the nodes behind the first are distinct
 distinct-behind : (is js : List Input) → are_distinct same_input (is ++ js) ≡ true → are_distinct same_input js ≡ true
 distinct-behind [] js d = d
-distinct-behind (i ∷ is) js d = distinct-behind is js (second (not (list_any (same_input i) (is ++ js))) (are_distinct same_input (is ++ js)) d)
+distinct-behind (i ∷ is) js d = distinct-behind is js (and_parts (not (list_any (same_input i) (is ++ js))) (are_distinct same_input (is ++ js)) d).1
 
 -- distinct inputs that read one output stand at one index
 distinct-index : (is js : List Input) (u out q r : ℕ) → are_distinct same_input (is ++ js) ≡ true → slice_get (map pair_of is) q ≡ Some (u, out) → slice_get (map pair_of is) r ≡ Some (u, out) → q ≡ r
@@ -91,7 +85,7 @@ distinct-index (i ∷ is) js u out zero (suc r) d h k =
 distinct-index (i ∷ is) js u out (suc q) zero d h k =
     absurd (distinct-apart (i ∷ []) (is ++ js) u out 0 d k (list_any-append (λ (j : Input). (u == j.node) && (out == j.out)) is js ∙ or-left (reads is u out) (reads js u out) (reads-at is u out q h)))
 distinct-index (i ∷ is) js u out (suc q) (suc r) d h k =
-    ap suc (distinct-index is js u out q r (second (not (list_any (same_input i) (is ++ js))) (are_distinct same_input (is ++ js)) d) h k)
+    ap suc (distinct-index is js u out q r (and_parts (not (list_any (same_input i) (is ++ js))) (are_distinct same_input (is ++ js)) d).1 h k)
 
 distinct-read_once : (nodes : List Node) → are_distinct same_input (all_inputs nodes) ≡ true → IsReadOnce nodes
 distinct-read_once [] d u out v q w r h k = absurd cc
@@ -137,8 +131,8 @@ sound-read_once net sound = distinct-read_once net.nodes (parts net sound).disti
 -- what holds of each node holds of this one
 node-at : (columns : ℕ) (all nodes : List Node) (v : ℕ) (node : Node) → list_all (is_sound_node columns all) nodes ≡ true → slice_get nodes v ≡ Some node → is_sound_node columns all node ≡ true
 node-at columns all [] v node h e = absurd cc
-node-at columns all (n ∷ nodes) zero node h e = subst (λ m. is_sound_node columns all m ≡ true) (some_inj n node e) (first (is_sound_node columns all n) (list_all (is_sound_node columns all) nodes) h)
-node-at columns all (n ∷ nodes) (suc v) node h e = node-at columns all nodes v node (second (is_sound_node columns all n) (list_all (is_sound_node columns all) nodes) h) e
+node-at columns all (n ∷ nodes) zero node h e = subst (λ m. is_sound_node columns all m ≡ true) (some_inj n node e) (and_parts (is_sound_node columns all n) (list_all (is_sound_node columns all) nodes) h).0
+node-at columns all (n ∷ nodes) (suc v) node h e = node-at columns all nodes v node (and_parts (is_sound_node columns all n) (list_all (is_sound_node columns all) nodes) h).1 e
 
 -- each node of a sound network is sound
 pub sound-node : (net : Network) → IsTrue (is_sound net) → (v : ℕ) (node : Node) → slice_get net.nodes v ≡ Some node → IsTrue (is_sound_node (length net.columns) net.nodes node)

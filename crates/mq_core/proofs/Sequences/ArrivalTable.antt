@@ -1,5 +1,5 @@
 -- What the sequences of the kinds owe to their arrivals, one row a kind.
-use Rattle.std.proofs.Common.{ap, refl, subst, sym, true, ◌∙◌, ◌≡◌}
+use Rattle.std.proofs.Common.{ap, refl, subst, sym, true, ◌∙◌, ◌≡◌, ◌≤◌}
 use Rattle.mq_core.specs.Came.{came_by}
 use Rattle.mq_core.specs.KindTable.{behaviour_of}
 use Rattle.mq_core.specs.OnceOut.{founds_of, leaving_times, once_out}
@@ -10,13 +10,14 @@ use Rattle.mq_core.specs.declared.model.Kind.{Kind}
 use Rattle.mq_core.specs.declared.model.Kind.TheVariants.{Delay, Fork, ForkJoin, Join, Loss, Server, Source, Split, Tandem, Trunk}
 use Rattle.mq_core.specs.declared.model.Rows.{Rows}
 use Rattle.mq_core.specs.declared.model.Stream.{Stream}
-use Rattle.mq_core.proofs.Bounded.BoundedKinds.{leaving-by, picked-by}
+use Rattle.mq_core.proofs.Bounded.BoundedKinds.{leaving-by}
 use Rattle.mq_core.proofs.Bounded.BoundedStations.{AreBy}
 use Rattle.mq_core.proofs.EachKind.ArrivalLaws.{ArrivalLaws}
 use Rattle.mq_core.proofs.EachKind.LawTable.{recurrence_of}
 use Rattle.mq_core.proofs.Fork.ForkArrivals.{fork-arrivals}
 use Rattle.mq_core.proofs.Join.JoinArrivals.{join-arrivals}
 use Rattle.mq_core.proofs.Sequences.SequenceOrder.{orders-keep_items}
+use Rattle.mq_core.proofs.lemmas.Picked.{Each-picked}
 
 -- whoever lets each visit out once keeps them by its recurrence
 once_arrives : (rows : Rows) (kind : Kind) → sends_once kind ≡ true → ArrivalLaws rows (behaviour_of kind)
@@ -28,7 +29,7 @@ once_arrives rows kind once =
           let times = leaving_times came.arrive (sequence_fates rows kind came) in
           subst (λ (s : Stream). AreBy limit s.time) (sym ((recurrence_of rows came.ports kind once).streams came out))
           ((orders-keep_items kind (record { job = picked out outs came.job; time = picked out outs times })).times limit
-          (picked-by limit out outs times (leaving-by limit came.arrive (sequence_fates rows kind came) early late)));
+          (Each-picked (λ time. time ≤ limit) out outs times (leaving-by limit came.arrive (sequence_fates rows kind came) early late)));
       in_time = λ leave came even. (recurrence_of rows came.ports kind once).in_time came even;
       blind = λ leave came.
           let laws = recurrence_of rows came.ports kind once in

@@ -3,6 +3,7 @@ use Rattle.std.proofs.Common.{List, None, Option, Some, [], ap, arith, fold, inl
 use Rattle.std.proofs.lemmas.Option.{slice_get_within}
 use Rattle.std.specs.List.{AllByRecursion as Each}
 use Rattle.mq_base.proofs.lemmas.Each.{Each-map}
+use Rattle.mq_base.proofs.lemmas.Lists.{get-map}
 use Rattle.mq_core.specs.Sequences.{sequence_span, greatest_time, time_of_fate, visits_by_node}
 use Rattle.mq_core.specs.Fates.{ComesAt, IsLatest, LeavesAt, fate_by, fate_of, leaves_with}
 use Rattle.mq_core.specs.KindTable.{behaviour_of}
@@ -25,11 +26,6 @@ use Rattle.mq_core.proofs.EachKind.LawTable.{exits_of}
 use Rattle.mq_core.proofs.EachKind.Span.{span-is_latest}
 use Rattle.mq_core.proofs.EachKind.StationLaws.{Reaches}
 use Rattle.mq_core.proofs.Lists.NumberLists.{greatest-bounds, greatest-least}
-
-at-map : {X : Type 0} (f : X → ℕ) (xs : List X) (i : ℕ) (x : X) → slice_get xs i ≡ Some x → slice_get (map f xs) i ≡ Some (f x)
-at-map f [] i x h = absurd cc
-at-map f (y ∷ xs) zero x h = let same : y ≡ x = cc in ap (λ z. Some (f z)) same
-at-map f (y ∷ xs) (suc i) x h = at-map f xs i x h
 
 -- the fate of a position is in the sequence
 fate-at : (kind : Kind) (s : Station Local) (k i : ℕ) (xs : List Visit) → i < length xs → slice_get (fates_from kind s k xs) i ≡ Some (or_held (fate_of kind s (k + i)))
@@ -67,11 +63,11 @@ module _ (plan : Plan) (rows : Rows) (read : IsReadFor plan.net rows) where
   sequence-within : (v : ℕ) (node : Node) → slice_get plan.net.nodes v ≡ Some node → greatest_time (visits_of node.kind (end.stations v)) ≤ sequence_span (visits_by_node end 0 plan.net.nodes)
   sequence-within v node here =
       greatest-bounds (map greatest_time (visits_by_node end 0 plan.net.nodes)) v (greatest_time (visits_of node.kind (end.stations v)))
-      (at-map greatest_time (visits_by_node end 0 plan.net.nodes) v (visits_of node.kind (end.stations v)) (sequences-of_node end plan.net.nodes v ∙ ap (option_map (λ (n : Node). visits_of n.kind (end.stations v))) here))
+      (get-map greatest_time (visits_by_node end 0 plan.net.nodes) v (visits_of node.kind (end.stations v)) (sequences-of_node end plan.net.nodes v ∙ ap (option_map (λ (n : Node). visits_of n.kind (end.stations v))) here))
 
   arrives-within : (v i : ℕ) (node : Node) (x : Visit) → slice_get plan.net.nodes v ≡ Some node → slice_get (end.stations v).visits i ≡ Some x → x.arrive ≤ sequence_span (visits_by_node end 0 plan.net.nodes)
   arrives-within v i node x here at =
-      let one = greatest-bounds (map (λ (y : Visit). y.arrive) (end.stations v).visits) i x.arrive (at-map (λ (y : Visit). y.arrive) (end.stations v).visits i x at) in
+      let one = greatest-bounds (map (λ (y : Visit). y.arrive) (end.stations v).visits) i x.arrive (get-map (λ (y : Visit). y.arrive) (end.stations v).visits i x at) in
       let two = sequence-within v node here in
       omega arith
 
@@ -87,7 +83,7 @@ module _ (plan : Plan) (rows : Rows) (read : IsReadFor plan.net rows) where
           let s = (run_of plan rows).stations v in
           let index : 0 + reached.position ≡ reached.position = omega arith in
           let fate : slice_get (fates_from node.kind s 0 s.visits) reached.position ≡ Some (Departs m.time) = fate-at node.kind s 0 reached.position s.visits (slice_get_within s.visits reached.position reached.visit reached.here) ∙ (ap (λ n. Some (or_held (fate_of node.kind s n))) index ∙ ap (λ o. Some (or_held o)) e) in
-          let one : m.time ≤ fold max 0 (map time_of_fate (fates_from node.kind s 0 s.visits)) = greatest-bounds (map time_of_fate (fates_from node.kind s 0 s.visits)) reached.position m.time (at-map time_of_fate (fates_from node.kind s 0 s.visits) reached.position (Departs m.time) fate) in
+          let one : m.time ≤ fold max 0 (map time_of_fate (fates_from node.kind s 0 s.visits)) = greatest-bounds (map time_of_fate (fates_from node.kind s 0 s.visits)) reached.position m.time (get-map time_of_fate (fates_from node.kind s 0 s.visits) reached.position (Departs m.time) fate) in
           let two = sequence-within v node here in
           omega arith
 

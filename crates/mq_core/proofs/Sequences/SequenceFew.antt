@@ -5,6 +5,7 @@ use Rattle.std.proofs.lemmas.Bool.{and_parts}
 use Rattle.std.proofs.lemmas.Option.{slice_get_within}
 use Rattle.std.specs.List.{list_all}
 use Rattle.std.specs.Prelude.{IfSome, nat_le, slice_get}
+use Rattle.std.proofs.Math.Arith.{lt_of_le-ne}
 use Rattle.mq_base.proofs.lemmas.Lists.{some_inj}
 use Rattle.mq_core.specs.Sound.{version_of}
 use Rattle.mq_core.specs.SequenceLaws.{FirstVersionCopiesNothing, NoNodeCopies, VisitsAreFew, copies_of}
@@ -76,10 +77,7 @@ sum_below-least (suc n) k f l = go (eqb k n) refl (sum_below-least n k f)
   where
     go : (b : Bool) → eqb k n ≡ b → (k < n → f k ≤ sum_below n f) → f k ≤ f n + sum_below n f
     go true e ih = let same = ap f (eqb-true k n e) in omega arith
-    go false e ih = let other : k ≡ n → ⊥ = λ q. let c = eq-eqb k n q in absurd cc in let l = ih (less other) in omega arith
-      where
-        less : (k ≡ n → ⊥) → k < n
-        less other = omega arith
+    go false e ih = let other : k ≡ n → ⊥ = λ q. let c = eq-eqb k n q in absurd cc in let l = ih (lt_of_le-ne (omega arith) other) in omega arith
 
 module _ (plan : Plan) (rows : Rows) (read : IsReadFor plan.net rows) (single : NoNodeCopies plan.net) (v : ℕ) where
   abbrev size : ℕ

@@ -2,7 +2,7 @@
 use Rattle.std.proofs.Common.{◌≡◌, ℕ, zero, suc, ◌+◌, ◌<◌, ◌≤◌, Bool, true, false, eqb, List, [], ◌∷◌, ◌++◌, length, Option, Some, None, sym, refl, subst, arith}
 use Rattle.std.specs.Prelude.{slice_get}
 use Rattle.std.specs.List.{AllByRecursion as Each}
-use Rattle.mq_base.proofs.lemmas.Each.{Each-append, Each-front, Each-back, Each-any, Each-map, Each-flat_map}
+use Rattle.mq_base.proofs.lemmas.Each.{Each-append, Each-front, Each-back, Each-any, Each-map, Each-flat_map, Each-get}
 use Rattle.mq_core.specs.SequenceLaws.{JobsAreRows}
 use Rattle.mq_core.specs.Event.{Event, time_of, node_of, earliest}
 use Rattle.mq_core.specs.Event.Event.{Arrive, Finish}
@@ -10,7 +10,6 @@ use Rattle.mq_core.specs.Machine.{Visit, Emission, Release, Service, Table, Stat
 use Rattle.mq_core.specs.Run.{run_length, starts, starts_from}
 use Rattle.mq_core.specs.StandardTable.{standard, run_of}
 use Rattle.mq_core.proofs.Events.Pending.{earliest-splits}
-use Rattle.mq_core.proofs.ForkJoin.ForkJoinSums.{each-at}
 use Rattle.mq_core.proofs.Events.Steps.{after-some, after-none, after-zero, station-other, station-own}
 
 -- an arrival of a job below n
@@ -31,7 +30,7 @@ emissions-below n now visits releases h = Each-flat_map (λ _. Unit {0}) _ _ (λ
   where
     go : (r : Release) (o : Option Visit) → slice_get visits r.position ≡ o → Each (λ (m : Emission). m.job < n) (emission_of now r.out r.position o)
     go r None e = tt
-    go r (Some x) e = (each-at (λ (y : Visit). y.job < n) visits r.position x h e, tt)
+    go r (Some x) e = (Each-get (λ (y : Visit). y.job < n) visits r.position x h e, tt)
 
 caused-below : {L : Type 0} (t : Table L) (n : ℕ) (s : Station L) (e : Event) → VisitsBelow n (visits_after t s e) → Each (BringsBelow n) (caused t s e)
 caused-below t n s e h =

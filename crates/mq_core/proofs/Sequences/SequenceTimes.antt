@@ -1,5 +1,5 @@
 -- That no visit departs before it came.
-use Rattle.std.proofs.Common.{Bool, List, None, Option, Some, [], ap, arith, cond, false, length, map, refl, true, subst, suc, sym, zero, ℕ, ◌+◌, ◌<◌, ◌∙◌, ◌∷◌, ◌≡◌, ◌≤◌}
+use Rattle.std.proofs.Common.{List, None, Option, Some, [], ap, arith, length, map, refl, subst, suc, sym, zero, ℕ, ◌+◌, ◌<◌, ◌∙◌, ◌∷◌, ◌≡◌, ◌≤◌}
 use Rattle.std.proofs.lemmas.List.{length-map}
 use Rattle.std.specs.List.{AllByRecursion as Each, zip}
 use Rattle.std.specs.Prelude.{slice_get}
@@ -15,6 +15,7 @@ use Rattle.mq_core.specs.declared.model.Fate.{Fate}
 use Rattle.mq_core.specs.declared.model.Fate.TheVariants.{Departs, Held, Lost}
 use Rattle.mq_core.specs.declared.model.Kind.{Kind}
 use Rattle.mq_base.proofs.lemmas.Lists.{some_inj}
+use Rattle.mq_base.proofs.lemmas.Counts.{at-most-one}
 use Rattle.mq_core.proofs.Counting.Stays.{FatesStay}
 use Rattle.mq_core.proofs.EachKind.StationLaws.{HasFound}
 use Rattle.mq_core.proofs.EachKind.Tallied.{founds-are-counts}
@@ -53,11 +54,7 @@ there-few b s time position (suc n) = let rest = there-few b s time position n i
   where
     most : (o : Option Emission) → one_if_there b.there time position o ≤ 1
     most None = omega arith
-    most (Some m) = go (b.there time position m)
-      where
-        go : (c : Bool) → cond c 1 0 ≤ 1
-        go true = omega arith
-        go false = omega arith
+    most (Some m) = at-most-one (b.there time position m)
 
 -- what is found in a list of what visits found, a visit found
 visit-found : (xs : List Visit) (position found : ℕ) → slice_get (map (λ (x : Visit). x.found) xs) position ≡ Some found → (position < length xs) × (found_or 0 (slice_get xs position) ≡ found)

@@ -4,7 +4,7 @@ use Rattle.std.proofs.lemmas.List.Sums.{sum_by-cons}
 use Rattle.std.proofs.lemmas.Option.{get_or_from_slice_get, slice_get_within}
 use Rattle.std.specs.Prelude.{slice_get}
 use Rattle.std.specs.List.{AllByRecursion as Each}
-use Rattle.mq_base.proofs.lemmas.Each.{Each-append, Each-front, Each-back, Each-any, Each-filter, Each-map, Each-flat_map, Each-weaker}
+use Rattle.mq_base.proofs.lemmas.Each.{Each-append, Each-front, Each-back, Each-any, Each-filter, Each-map, Each-flat_map, Each-weaker, Each-get}
 use Rattle.mq_base.proofs.lemmas.Lists.{some_inj, sum-cons}
 use Rattle.mq_core.specs.Event.{Event, time_of, node_of, earliest}
 use Rattle.mq_core.specs.Event.Event.{Arrive, Finish}
@@ -21,7 +21,6 @@ use Rattle.mq_core.proofs.Events.Pending.{earliest-splits}
 use Rattle.mq_core.proofs.Events.Steps.{after-some, after-none, after-zero, station-other, station-own}
 use Rattle.mq_core.proofs.Events.Tables.{IsFeedForward, IsPunctual}
 use Rattle.mq_core.proofs.Events.Third.{now-current}
-use Rattle.mq_core.proofs.ForkJoin.ForkJoinSums.{each-at}
 use Rattle.mq_core.proofs.Networks.Wired.{feeds_forward}
 
 -- what is said of a job by a time, and then by every later one
@@ -50,7 +49,7 @@ emissions-since P now visits releases h = Each-flat_map (λ _. Unit {0}) _ _ (λ
   where
     go : (r : Release) (o : Option Visit) → slice_get visits r.position ≡ o → Each (λ (m : Emission). P m.job m.time) (emission_of now r.out r.position o)
     go r None e = tt
-    go r (Some x) e = (each-at (λ (y : Visit). P y.job now) visits r.position x h e, tt)
+    go r (Some x) e = (Each-get (λ (y : Visit). P y.job now) visits r.position x h e, tt)
 
 caused-since : {L : Type 0} (t : Table L) (P : By) (s : Station L) (e : Event) → Each (λ (x : Visit). P x.job (time_of e)) (visits_after t s e) → Each (Brings P) (caused t s e)
 caused-since t P s e h =

@@ -3,6 +3,7 @@ use Rattle.std.proofs.Common.{◌≡◌, ℕ, zero, suc, ◌+◌, ◌<◌, ◌�
 use Rattle.std.proofs.lemmas.Bool.Decides.{nat_tests}
 use Rattle.std.proofs.lemmas.List.{append-nil}
 use Rattle.std.specs.Prelude.{slice_get, map}
+use Rattle.std.proofs.Math.Arith.{lt_of_le-ne}
 use Rattle.mq_base.proofs.lemmas.Lists.{get-some}
 use Rattle.mq_core.specs.SequenceLaws.{arrives_of, jobs_of}
 use Rattle.mq_core.specs.Machine.{Visit, Emission, emission_of}
@@ -99,14 +100,11 @@ outs-some visits f (suc out) p l u = go (eqb out p) refl (outs-some visits f out
         )
     go false e ih =
         let other : out ≡ p → ⊥ = grind (arith, nat_tests) in
-        let old = ih (omega arith) (less other) in (
+        let old = ih (omega arith) (lt_of_le-ne (omega arith) (λ q. other (sym q))) in (
           old.0,
           ap (λ o. emission_at (outs visits f out ++ emission_of (f out) 0 out o) p) x.1
               ∙ (other-behind p (outs visits f out) (record { out = 0; position = out; job = x.0.job; time = f out }) other ∙ old.1),
         )
-      where
-        less : (out ≡ p → ⊥) → p < out
-        less other = omega arith
 
 pub outs-length : (visits : List Visit) (f : ℕ → ℕ) (out : ℕ) → out ≤ length visits → length (outs visits f out) ≡ out
 outs-length visits f zero l = refl

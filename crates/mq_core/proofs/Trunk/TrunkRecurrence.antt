@@ -14,7 +14,8 @@ use Rattle.mq_core.proofs.EachKind.RecurrenceLaws.{RecurrenceLaws}
 use Rattle.mq_core.proofs.Events.Exits.{until-own}
 use Rattle.mq_core.proofs.Loss.LossSequences.{demands-of, faring-outs}
 use Rattle.mq_core.proofs.Trunk.TrunkFlow.{flow-numbered}
-use Rattle.mq_core.proofs.Trunk.TrunkSequences.{even-trunk, stay-served, trunk-by, trunk-fares, trunk-leaves, trunk-over, when-served}
+use Rattle.mq_core.proofs.Trunk.TrunkSequences.{even-trunk, stay-served, trunk-by, trunk-fares, trunk-leaves, when-served}
+use Rattle.mq_core.proofs.lemmas.Over.{trunk-over}
 
 pub trunk-recurrence : (rows : Rows) (ports servers : ℕ) (demand : Demand) → RecurrenceLaws rows ports (trunk servers demand)
 trunk-recurrence rows ports servers demand =

@@ -15,7 +15,8 @@ use Rattle.mq_core.specs.declared.model.Rows.{Rows}
 use Rattle.mq_core.proofs.Bounded.BoundedStations.{AreBy, AreSmall, LeaveBy}
 use Rattle.mq_core.proofs.Counting.SequenceNumbers.{EachLeaves}
 use Rattle.mq_core.proofs.Counting.Stays.{FatesStay, cons}
-use Rattle.mq_core.proofs.Loss.LossSequences.{IsOver, faring-fates, faring-leaves}
+use Rattle.mq_core.proofs.Loss.LossSequences.{faring-fates, faring-leaves}
+use Rattle.mq_core.proofs.lemmas.Over.{IsOver}
 
 -- a trunk group has a fate for each visit
 trunk-even : (servers : ℕ) (left : List ℕ) (arrive demand : Visit → ℕ) (visits : List Visit) → length (trunk_fates servers left (map arrive visits) (map demand visits)) ≡ length visits
@@ -31,16 +32,6 @@ trunk-even servers left arrive demand (x ∷ xs) = go (finds_server servers left
 
 pub even-trunk : (rows : Rows) (servers : ℕ) (demand : Demand) (visits : List Visit) → length (trunk_fates servers [] (map (λ (x : Visit). x.arrive) visits) (map (λ (x : Visit). demand_of_job rows demand x.job) visits)) ≡ length visits
 even-trunk rows servers demand visits = trunk-even servers [] (λ x. x.arrive) (λ x. demand_of_job rows demand x.job) visits
-
--- a trunk group holds none of its visits for good
-pub trunk-over : (servers : ℕ) (left arrives demands : List ℕ) → Each IsOver (trunk_fates servers left arrives demands)
-trunk-over servers left [] demands = tt
-trunk-over servers left (a ∷ times) [] = tt
-trunk-over servers left (a ∷ times) (d ∷ ds) = go (finds_server servers left a) (λ l. trunk-over servers l times ds)
-  where
-    go : (b : Bool) → ((l : List ℕ) → Each IsOver (trunk_fates servers l times ds)) → Each IsOver (cond b (Departs (a + d) ∷ trunk_fates servers ((a + d) ∷ left) times ds) (Lost ∷ trunk_fates servers left times ds))
-    go true ih = (tt, ih ((a + d) ∷ left))
-    go false ih = (tt, ih left)
 
 -- each visit fares as it is let out, by the outputs of a loss station
 pub trunk-fares : (servers : ℕ) (demand : Demand) (k : ℕ) (fates : List Fate) (visits : List Visit) → length fates ≡ length visits → Each IsOver fates → map (fate_by (Trunk servers demand)) (faring_from k fates visits) ≡ fates

@@ -2,9 +2,11 @@
 use Rattle.std.proofs.Common.{Bool, List, None, Option, Some, [], ap, arith, cond, eq-eqb, eqb, eqb-true, false, inl, inr, length, length-append, max, refl, subst, suc, sym, true, zero, ℕ, ◌++◌, ◌+◌, ◌-◌, ◌<◌, ◌∙◌, ◌∷◌, ◌≡◌, ◌≤◌, ◌⊎◌}
 use Rattle.std.proofs.lemmas.Bool.{cases_lt}
 use Rattle.std.proofs.lemmas.List.{append-nil}
-use Rattle.std.proofs.lemmas.List.Sums.{sum_by-append, sum_by-cons}
+use Rattle.std.proofs.lemmas.List.Sums.{sum_by-cons}
 use Rattle.mq_base.proofs.lemmas.Lists.{get-front, get-last, get-none, get-some, some_inj}
+use Rattle.mq_base.proofs.lemmas.Counts.{at-most-one, count-push}
 use Rattle.std.specs.Prelude.{count_by, slice_get, ◌&&◌}
+use Rattle.std.proofs.Math.Arith.{lt_of_le-ne}
 use Rattle.mq_core.specs.Kinds.Join.{is_item, later_place, match_of, place_from, place_or}
 
 -- a place as it was, or none, or now this one
@@ -79,11 +81,8 @@ match-none (suc ports) job i items k l h = go (place-counts job ports i 0 items)
     no None = refl
     no (Some q) = refl
 
-    less : (k ≡ ports → ⊥) → k < ports
-    less n = omega arith
-
     go : ((i < count_by (is_item job ports) items) × ((q : ℕ) × (place_from job ports i 0 items ≡ Some q))) ⊎ ((count_by (is_item job ports) items ≤ i) × (place_from job ports i 0 items ≡ None)) → (k < ports → count_by (is_item job k) items ≤ i → match_of ports job i items ≡ None) → match_of (suc ports) job i items ≡ None
-    go (inl (m, (q, e))) ih = ap (λ r. later_place (place_from job ports i 0 items) r) (ih (less (λ s. let t = ap (λ p. count_by (is_item job p) items) s in absurd (omega arith))) h) ∙ no (place_from job ports i 0 items)
+    go (inl (m, (q, e))) ih = ap (λ r. later_place (place_from job ports i 0 items) r) (ih (lt_of_le-ne (omega arith) (λ s. let t = ap (λ p. count_by (is_item job p) items) s in absurd (omega arith))) h) ∙ no (place_from job ports i 0 items)
     go (inr (m, e)) ih = ap (λ o. later_place o (match_of ports job i items)) e
 
 -- and where it isn't, one has not
@@ -126,9 +125,6 @@ pub match-least : (ports job i : ℕ) (items : List (ℕ × ℕ)) (port p q : �
 match-least zero job i items port p q l e f = absurd (omega arith)
 match-least (suc ports) job i items port p q l e f = go (eqb port ports) refl (place_from job ports i 0 items) refl (match_of ports job i items) refl (match-least ports job i items port p)
   where
-    less : (port ≡ ports → ⊥) → port < ports
-    less n = omega arith
-
     go : (b : Bool) → eqb port ports ≡ b → (o : Option ℕ) → place_from job ports i 0 items ≡ o → (r : Option ℕ) → match_of ports job i items ≡ r → ((n : ℕ) → port < ports → place_from job port i 0 items ≡ Some p → match_of ports job i items ≡ Some n → p ≤ n) → p ≤ q
     go b c None g r h ih = absurd (let none : later_place None r ≡ Some q = (λ k. later_place (sym g k) (sym h k)) ∙ f in cc)
     go b c (Some o) g None h ih = absurd (let none : later_place (Some o) None ≡ Some q = (λ k. later_place (sym g k) (sym h k)) ∙ f in cc)
@@ -138,7 +134,7 @@ match-least (suc ports) job i items port p q l e f = go (eqb port ports) refl (p
         omega arith
     go false c (Some o) g (Some r) h ih =
         let whole : max o r ≡ q = some_inj (max o r) q ((λ k. later_place (sym g k) (sym h k)) ∙ f) in
-        let rest = ih r (less (λ n. let d = eq-eqb port ports n in absurd cc)) e h in
+        let rest = ih r (lt_of_le-ne (omega arith) (λ n. let d = eq-eqb port ports n in absurd cc)) e h in
         omega arith
 
 -- so no item's match is whole before the item
@@ -187,11 +183,7 @@ module _ (ports job : ℕ) (items : List (ℕ × ℕ)) (y : ℕ × ℕ) (places 
       none = sym (h (length places)) ∙ get-none places (length places) (omega arith)
 
       one-more : (k : ℕ) → count_by (is_item job k) (items ++ y ∷ []) ≤ suc (count_by (is_item job k) items)
-      one-more k = let a = sum_by-append (λ x. cond (is_item job k x) 1 0) items (y ∷ []) in let b = sum_by-cons (λ x. cond (is_item job k x) 1 0) y [] in let c = most (is_item job k y) in omega arith
-        where
-          most : (b : Bool) → cond b 1 0 ≤ 1
-          most true = omega arith
-          most false = omega arith
+      one-more k = let a = count-push (is_item job k) items y in let b = at-most-one (is_item job k y) in omega arith
 
       go : (i < length places) ⊎ (length places ≤ i) → (b : Bool) → eqb i (length places) ≡ b → slice_get (places ++ length items ∷ []) i ≡ match_of ports job i (items ++ y ∷ [])
       go (inl u) b e = kept-place (length items ∷ []) i u

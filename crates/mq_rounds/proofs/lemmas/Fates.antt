@@ -1,30 +1,14 @@
 -- The fates that a rule gives, and what leaves by them.
-use Rattle.std.proofs.Common.{◌≡◌, ℕ, Bool, true, false, List, [], ◌∷◌, length, map, sym, refl, ap, ◌∙◌, arith}
-use Rattle.std.specs.Prelude.{⊤, if◌then◌else◌}
+use Rattle.std.proofs.Common.{◌≡◌, ℕ, List, [], ◌∷◌, length, map, sym, refl, ap, ◌∙◌, arith}
 use Rattle.std.specs.List.{AllByRecursion as Each}
 use Rattle.std.proofs.lemmas.List.{length-map}
 use Rattle.mq_core.specs.OnceOut.{leaving_times, out_of_fate}
 use Rattle.mq_core.specs.Streams.{picked}
 use Rattle.mq_core.specs.declared.model.Fate.{Fate}
 use Rattle.mq_core.specs.declared.model.Fate.TheVariants.{Departs, Held, Lost}
+use Rattle.mq_core.proofs.lemmas.Over.{IsOver}
 use Rattle.mq_rounds.specs.Rounds.{Rule, admits, departures_in, fates_by, fates_from}
 use Rattle.mq_rounds.proofs.lemmas.Guesses.{admission-length}
-
--- At such a station no visit is held.
-abbrev pub IsOver : Fate → Type 0
-IsOver (Departs time) = ⊤
-IsOver Lost = ⊤
-IsOver Held = ⊥
-
-pub over-all : (rule : Rule) (left times demands : List ℕ) → Each IsOver (fates_from rule left times demands)
-over-all rule left [] demands = tt
-over-all rule left (arrive ∷ arrives) [] = tt
-over-all rule left (arrive ∷ arrives) (demand ∷ demands) = go (rule.judges left arrive) (over-all rule (rule.departs left arrive demand ∷ left) arrives demands) (over-all rule left arrives demands)
-  where
-    go : (b : Bool) → Each IsOver (fates_from rule (rule.departs left arrive demand ∷ left) arrives demands) → Each IsOver (fates_from rule left arrives demands) →
-        Each IsOver (if b then (Departs (rule.departs left arrive demand) ∷ fates_from rule (rule.departs left arrive demand ∷ left) arrives demands) else (Lost ∷ fates_from rule left arrives demands))
-    go true h k = (tt, h)
-    go false h k = (tt, k)
 
 -- there is one fate an arrival
 pub fates-each : (rule : Rule) (left times demands : List ℕ) → length demands ≡ length times → length (fates_from rule left times demands) ≡ length times

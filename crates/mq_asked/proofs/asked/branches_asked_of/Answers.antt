@@ -1,9 +1,10 @@
 use Rattle.std.proofs.Common.{◌≤◌, ◌++◌, ◌∷◌, [], ℕ, List, All, ap, ◌∙◌, length, map, arith}
 use Rattle.mq_base.proofs.lemmas.Lists.{map-all}
+use Rattle.mq_base.proofs.lemmas.Each.{Each-get}
 use Rattle.mq_core.specs.Handling.{demand_of_job}
 use Rattle.mq_core.specs.declared.model.Demand.{Demand}
 use Rattle.mq_asked.specs.Demands.{AreAsked}
-use Rattle.mq_asked.proofs.lemmas.Lists.{Each-get, map-more}
+use Rattle.mq_asked.proofs.lemmas.Lists.{map-more}
 use Rattle.mq_asked.proofs.asked.branches_asked_of.Goals as goal
 
 pub all_asked_by-requires-clause-asked : goal.all_asked_by-requires-clause-asked

@@ -1,4 +1,4 @@
-use Rattle.mq_core.proofs.ForkJoin.ForkJoinSums.{longest-next, told-at}
+use Rattle.mq_core.proofs.lemmas.Demands.{longest-next, told-at}
 use Rattle.mq_core.proofs.demands.longest_of.Goals as goal
 
 pub sum_of-requires : goal.sum_of-requires

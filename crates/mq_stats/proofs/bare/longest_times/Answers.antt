@@ -1,7 +1,7 @@
 use Rattle.std.proofs.Common.{◌≡◌, ◌∙◌, ap, arith, get_or, length, max}
-use Rattle.mq_stats.proofs.Asked.{demands-most, longest-next, told-at}
-use Rattle.mq_stats.proofs.Backs.{back}
 use Rattle.mq_stats.proofs.bare.longest_times.Goals as goal
+use Rattle.mq_base.proofs.lemmas.Lists.{written-back}
+use Rattle.mq_core.proofs.lemmas.Demands.{demands-most, longest-next, told-at}
 
 pub branch_times-requires-clause-told : goal.branch_times-requires-clause-told
 branch_times-requires-clause-told c = λ i l. told-at c.args.rows.now c.args.branches.now (get_or c.args.job.now i 0) c.loop-at.at _ c.get.ensures (c.requires.told i l)
@@ -16,7 +16,7 @@ pub loop-at-preserved : goal.loop-at-preserved
 loop-at-preserved c =
     let had = ap length c.as_mut_slice.ensures.value in
     let long : length c.keep_greater.new.times ≡ c.loop-at.longest.len = omega (arith, c.keep_greater.ensures.even, c.as_mut_slice.ensures.len) in
-    let is = back c.keep_greater.new.times c.loop-at.longest.items c.loop-at.longest.len long in
+    let is = written-back c.keep_greater.new.times c.loop-at.longest.items c.loop-at.longest.len long in
     record {
       even = ap length is ∙ omega (arith, c.keep_greater.ensures.even, c.loop-at.invariant.even);
       greatest = λ i l.

@@ -1,7 +1,7 @@
 use Rattle.std.proofs.Common.{◌≡◌, ◌∙◌, ap, arith, get_or, length}
 use Rattle.mq_stats.proofs.Asked.{stage-at, stage-told, stages-most}
-use Rattle.mq_stats.proofs.Backs.{back}
 use Rattle.mq_stats.proofs.bare.stages_times.Goals as goal
+use Rattle.mq_base.proofs.lemmas.Lists.{written-back}
 
 pub add_demand-requires-clause-told : goal.add_demand-requires-clause-told
 add_demand-requires-clause-told c = λ i l. stage-told c.args.rows.now c.args.stages.now (get_or c.args.job.now i 0) c.loop-at.at _ c.get.ensures (c.requires.told i l).each
@@ -19,7 +19,7 @@ pub loop-at-preserved : goal.loop-at-preserved
 loop-at-preserved c =
     let had = ap length c.as_mut_slice.ensures.value in
     let long : length c.add_demand.new.times ≡ c.loop-at.times.len = omega (arith, c.add_demand.ensures.even, c.as_mut_slice.ensures.len, c.loop-at.invariant.even) in
-    let is = back c.add_demand.new.times c.loop-at.times.items c.loop-at.times.len long in
+    let is = written-back c.add_demand.new.times c.loop-at.times.items c.loop-at.times.len long in
     record {
       even = ap length is ∙ c.add_demand.ensures.even;
       sums = λ i l.

@@ -8,8 +8,8 @@ use Rattle.mq_core.specs.Sequences.{sequence_wait}
 use Rattle.mq_stats.specs.Percentiles.{departed_waits}
 use Rattle.mq_stats.proofs.Gathering.{puts}
 use Rattle.mq_stats.proofs.Steps.{adds, grows, sojourns-at, sojourns-end, waits-at, waits-end}
-use Rattle.mq_stats.proofs.Telling.{departs-get}
 use Rattle.mq_stats.proofs.in_turn.put_departed.Goals as goal
+use Rattle.mq_base.proofs.lemmas.Lists.{get-map}
 
 not-same : (i k : ℕ) → k < i → i ≢ k
 not-same i k l e = grind (arith, nat_tests)
@@ -31,7 +31,7 @@ loop-at-preserved c =
     let leaves : at < length departs = omega (arith, c.requires.visits.fates) in
     let job = slice_get-get_or jobs at 0 more in
     let arrive = slice_get-get_or arrives at 0 came in
-    let fate : slice_get fates at ≡ Some (Departs (get_or departs at 0)) = ap (λ l. slice_get l at) c.requires.fates ∙ departs-get departs at _ (slice_get-get_or departs at 0 leaves) in
+    let fate : slice_get fates at ≡ Some (Departs (get_or departs at 0)) = ap (λ l. slice_get l at) c.requires.fates ∙ get-map (λ d. Departs d) departs at _ (slice_get-get_or departs at 0 leaves) in
     let stayed : c.saturating_sub-stayed.result ≡ get_or departs at 0 - get_or arrives at 0 = c.saturating_sub-stayed.ensures in
     let waited : c.saturating_sub-waited.result ≡ sequence_wait rows kind (get_or jobs at 0) (get_or arrives at 0) (Departs (get_or departs at 0)) =
     c.saturating_sub-waited.ensures ∙ (λ k. stayed k - c.loop-at.invariant.bare at (omega arith) more k) in

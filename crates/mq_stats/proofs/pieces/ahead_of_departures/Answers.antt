@@ -3,12 +3,13 @@ use Rattle.std.specs.Prelude.{slice_get}
 use Rattle.std.specs.List.{zip}
 use Rattle.std.proofs.lemmas.List.{length-map}
 use Rattle.mq_base.proofs.lemmas.Zips.{zip-length}
+use Rattle.mq_base.proofs.lemmas.Lists.{get-map}
 use Rattle.mq_core.specs.Laws.{in_order_of}
 use Rattle.mq_core.specs.declared.model.Fate.{Fate}
 use Rattle.mq_core.specs.declared.model.Fate.TheVariants.{Departs}
 use Rattle.mq_stats.proofs.Founds.{count-next, counted-few, few-in-32, few-in-64}
 use Rattle.mq_stats.proofs.AllDepart.{departures-of}
-use Rattle.mq_stats.proofs.Telling.{all-stay, count-most, counts-next, departs-get, one-longer, zip-get}
+use Rattle.mq_stats.proofs.Telling.{all-stay, count-most, counts-next, one-longer, zip-get}
 use Rattle.mq_stats.specs.Ahead.{leaves_at_once}
 use Rattle.mq_stats.proofs.pieces.ahead_of_departures.Goals as goal
 
@@ -19,7 +20,7 @@ loop-at-preserved c =
     let once = λ (p : ℕ × Fate). leaves_at_once p.0 p.1 in
     let at = c.loop-at.at in
     let i = c.loop-at.invariant in
-    let fate = departs-get c.args.departs.now at c.get-in-loop-at.result.now c.get-in-loop-at.ensures in
+    let fate = get-map (λ d. Departs d) c.args.departs.now at c.get-in-loop-at.result.now c.get-in-loop-at.ensures in
     let go = count-next once visits at (c.get.result.now, Departs c.get-in-loop-at.result.now) (zip-get c.args.arrive.now fates at _ _ c.get.ensures fate) in
     let one = c.one_if_same_time-at_once.ensures in
     let kept = c.push_reserved-in-loop-at.ensures.items in

@@ -2,9 +2,9 @@ use Rattle.std.proofs.Common.{◌≡◌, ℕ, ◌+◌, ◌<◌, ◌≤◌, List,
 use Rattle.std.specs.Prelude.{◌==◌}
 use Rattle.std.proofs.lemmas.List.Sums.{count_by-le-length, sum_by-append}
 use Rattle.mq_base.proofs.lemmas.Each.{Each-append, Each-weaker}
+use Rattle.mq_base.proofs.lemmas.Lists.{written-back}
 use Rattle.mq_stats.specs.WaitCounts.{AreCounts}
 use Rattle.mq_stats.specs.declared.wait_counts.WaitCounts.{WaitCounts}
-use Rattle.mq_stats.proofs.Backs.{written_back}
 use Rattle.mq_stats.proofs.wait_counts.counts_added.Goals as goal
 
 -- no count is more than all
@@ -42,7 +42,7 @@ add_each-requires-clause-small c = λ at.
 pub returns : goal.returns
 returns c waits more h k =
     let new = c.add_each.new.counts in
-    let is : c.from_vec.result ≡ new = written_back new _ _ _ c.from_vec.ensures (c.add_each.ensures.room ∙ c.as_mut_slice.ensures.len) in
+    let is : c.from_vec.result ≡ new = c.from_vec.ensures ∙ written-back new _ _ (c.add_each.ensures.room ∙ c.as_mut_slice.ensures.len) in
     let long = ap length is ∙ c.add_each.ensures.room ∙ ap length c.as_mut_slice.ensures.value in
     let least = c.in_ok-counts.ensures.room.0 in
     let most = c.in_ok-counts.ensures.most 1048578 h.room (omega (arith, k.room, c.len.ensures)) in

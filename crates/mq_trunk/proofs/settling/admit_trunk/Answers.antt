@@ -2,11 +2,12 @@ use Rattle.std.proofs.Common.{◌≡◌, ℕ, List, [], sym, ap, ◌∙◌, subs
 use Rattle.mq_core.specs.Recurrences.{trunk_fates}
 use Rattle.mq_core.specs.declared.model.Fate.{Fate}
 use Rattle.mq_core.specs.declared.model.Stream.{Stream}
+use Rattle.mq_core.proofs.lemmas.Over.{trunk-over}
 use Rattle.mq_trunk.specs.Kept.{IsKept}
 use Rattle.mq_rounds.specs.Rounds.{departures_in, departures_of, fates_by}
 use Rattle.mq_rounds.proofs.lemmas.Fates.{fates-back}
 use Rattle.mq_trunk.specs.Rounds.{admission, departure_at_once}
-use Rattle.mq_trunk.proofs.Fates.{admission-is, departures-are, trunk-over}
+use Rattle.mq_trunk.proofs.Fates.{admission-is, departures-are}
 use Rattle.mq_trunk.proofs.Keeping.{kept-none}
 use Rattle.mq_trunk.proofs.settling.admit_trunk.Goals as goal
 
@@ -28,5 +29,5 @@ returns-clause-admitted g c =
       each = c.requires.load.each;
       admission = found;
       departures = left;
-      fates = (λ k. fates_by (found k) (left k)) ∙ fates-back fates (trunk-over servers arrivals.time demands);
+      fates = (λ k. fates_by (found k) (left k)) ∙ fates-back fates (trunk-over servers [] arrivals.time demands);
     }

@@ -1,10 +1,11 @@
 use Rattle.std.proofs.Common.{◌≡◌, ℕ, Bool, ◌&&◌, true, false, is_some, List, Option, Some, None, Result, Err, refl, ap, ◌∙◌, inl, inr, le_refl}
 use Rattle.std.specs.Option.{option_copied}
+use Rattle.std.proofs.lemmas.Bool.{and_parts}
 use Rattle.mq_outside.specs.declared.outside.FileFault.{FileFault}
 use Rattle.mq_outside.specs.declared.outside.FileFault.TheVariants.{Failed, TooLong}
 use Rattle.mq_outside.specs.Outside.{next_count}
 use Rattle.mq_outside.specs.Memory.{file_of, is_empty}
-use Rattle.mq_outside.proofs.ReadLemmas.{latest, told_in, contains_some, first_and, second_and, gains_file, neither}
+use Rattle.mq_outside.proofs.ReadLemmas.{latest, told_in, contains_some, gains_file, neither}
 use Rattle.mq_outside.proofs.memory.MemFilesFiles.read.Goals as goal
 
 differ : {T : Type 0} → ◌≡◌ {A = Result T FileFault} (Err Failed) (Err TooLong) → ⊥
@@ -38,7 +39,7 @@ returns-then-contains c =
       failed = λ e. refl;
       rose = λ e. rw (← faults) next.1;
       quiet = inl refl;
-      sure = λ e. absurd (contains_some _ _ fails (first_and _ _ e));
+      sure = λ e. absurd (contains_some _ _ fails (and_parts _ _ e).0);
       gains = tt;
       whole = tt;
       fits = tt;
@@ -66,7 +67,7 @@ returns-in-None c =
       failed = λ e. refl;
       rose = λ e. rw (← faults) next.1;
       quiet = inl refl;
-      sure = λ e. absurd (no_file _ none (second_and _ _ e));
+      sure = λ e. absurd (no_file _ none (and_parts _ _ e).1);
       gains = tt;
       whole = tt;
       fits = tt;
