@@ -8,7 +8,7 @@ use mq_merge::Arrivals;
 pub struct Arriving<'a, 'r> {
     pub plan: &'a Plan,
     pub rows: &'a Rows,
-    /// What left each node, by output: of one that isn't done there is none.
+    /// What left each node, by output. Of one that isn't done there is none, or what left it in a kept run, which nobody reads.
     pub outputs: &'a [List<Stream>],
     /// The nodes that are ready, at most 64, by order of declaration.
     pub ready: &'r [u32],

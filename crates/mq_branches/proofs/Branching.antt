@@ -1,6 +1,6 @@
 -- The branches of a fork-join, tier by tier.
 use Rattle.std.proofs.Common.{◌≡◌, ℕ, ◌+◌, ◌<◌, ◌≤◌, List, [], ◌∷◌, ◌++◌, length, get_or, map, take, max, Some, refl, sym, ap, ◌∙◌, subst, arith, length-append}
-use Rattle.std.proofs.lemmas.List.{length-map, map-append, map-id}
+use Rattle.std.proofs.lemmas.List.{length-map, map-append, map-id, same_from_push}
 use Rattle.std.proofs.lemmas.Option.{get_or_from_slice_get, slice_get-get_or}
 use Rattle.std.specs.Prelude.{slice_get}
 use Rattle.std.specs.List.{AllByRecursion}
@@ -154,19 +154,6 @@ tasks-few server branches tasks few e =
     let same : length tasks ≡ length branches = sym (length-map tasks task_departs) ∙ (ap length e ∙ length-map branches (next_departs server)) in
     omega arith
 
--- Behind a tier: the last of two lists, and those before it.
-cons-inj : {X : Type 0} (x y : X) (xs ys : List X) → x ∷ xs ≡ y ∷ ys → (x ≡ y) × (xs ≡ ys)
-cons-inj x y xs ys h = (cc, cc)
-
-snoc-inj : {X : Type 0} (xs ys : List X) (x y : X) → xs ++ x ∷ [] ≡ ys ++ y ∷ [] → (xs ≡ ys) × (x ≡ y)
-snoc-inj [] [] x y h = (refl, (cons-inj x y [] [] h).0)
-snoc-inj [] (b ∷ ys) x y h = let count = ap length h in let more = length-append ys (y ∷ []) in absurd (omega arith)
-snoc-inj (a ∷ xs) [] x y h = let count = ap length h in let more = length-append xs (x ∷ []) in absurd (omega arith)
-snoc-inj (a ∷ xs) (b ∷ ys) x y h =
-    let parts = cons-inj a b (xs ++ x ∷ []) (ys ++ y ∷ []) h in
-    let rest = snoc-inj xs ys x y parts.1 in
-    ((λ k. parts.0 k ∷ rest.0 k), rest.1)
-
 -- what is kept while branches are put to those behind the tier, from the back
 pub record AreAdvancing (arrive : List ℕ) (demands : List (List (List ℕ))) (server : ℕ) (branches : List Branch) (lists : List (List ℕ)) (done : Passage) : Type 0 where
   pub running : AllByRecursion (IsRunning arrive server) branches
@@ -195,7 +182,7 @@ advancing-begins arrive demands server passage done branches lists was b d n l =
 last-lists : (arrive : List ℕ) (demands : List (List (List ℕ))) (server : ℕ) (branches rest : List Branch) (branch : Branch) (lists others : List (List ℕ)) (departs : List ℕ) (done : Passage) → AreAdvancing arrive demands server branches lists done → branches ≡ rest ++ branch ∷ [] → lists ≡ others ++ departs ∷ [] →
     (others ≡ map (next_departs server) rest) × (departs ≡ next_departs server branch)
 last-lists arrive demands server branches rest branch lists others departs done was b d =
-    snoc-inj others (map (next_departs server) rest) departs (next_departs server branch) (sym d ∙ (was.same ∙ (ap (map (next_departs server)) b ∙ map-append (next_departs server) rest (branch ∷ []))))
+    same_from_push others (map (next_departs server) rest) departs (next_departs server branch) (sym d ∙ (was.same ∙ (ap (map (next_departs server)) b ∙ map-append (next_departs server) rest (branch ∷ []))))
 
 pub last-through : (arrive : List ℕ) (demands : List (List (List ℕ))) (server : ℕ) (branches rest : List Branch) (branch : Branch) (lists others : List (List ℕ)) (departs : List ℕ) (done : Passage) → AreAdvancing arrive demands server branches lists done → branches ≡ rest ++ branch ∷ [] → lists ≡ others ++ departs ∷ [] →
     IsThrough arrive (server + 1) branch.servers.now departs

@@ -25,7 +25,7 @@ pub struct Branch<'a> {
     pub servers: &'a List<Asked<'a>>,
 }
 
-/// A fork-join while its jobs pass through the branches.
+/// A fork-join while its jobs go through the branches.
 #[derive(Drop)]
 pub struct Passage<'a> {
     /// The branches that have a server left.

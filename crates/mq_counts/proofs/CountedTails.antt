@@ -17,7 +17,7 @@ use Rattle.mq_counts.specs.declared.tail_pieces.NodeWaits.{NodeWaits}
 use Rattle.mq_counts.specs.declared.totals.NodeVisits.{NodeVisits}
 use Rattle.mq_stats.specs.Numbers.{visits_between}
 use Rattle.mq_stats.specs.Percentiles.{ArePercentiles, waits_at}
-use Rattle.mq_stats.specs.WaitCounts.{AreCounts, WaitsJoin}
+use Rattle.mq_stats.specs.WaitCounts.{AreWaitCounts, WaitsJoin}
 use Rattle.mq_stats.specs.declared.blocks.BlockCount.{BlockCount}
 use Rattle.mq_stats.specs.declared.tails.Percentiles.{Percentiles}
 use Rattle.mq_stats.specs.declared.wait_counts.WaitCounts.{WaitCounts}
@@ -27,31 +27,31 @@ pub counts-at : (node : NodeWaits) (group : List (Option WaitCounts)) (b : ℕ) 
 counts-at node group b counts all here = among-all (IsPieceCounts node) (counted_pieces node) group b counts all here
 
 -- the counts of the waits of a piece, where there are some
-pub counts-there : (node : NodeWaits) (group : List (Option WaitCounts)) (b : ℕ) (counts : WaitCounts) → AreAll (IsPieceCounts node) (counted_pieces node) group → slice_get group b ≡ Some (Some counts) → AreCounts (waits_in_piece node b) counts
+pub counts-there : (node : NodeWaits) (group : List (Option WaitCounts)) (b : ℕ) (counts : WaitCounts) → AreAll (IsPieceCounts node) (counted_pieces node) group → slice_get group b ≡ Some (Some counts) → AreWaitCounts (waits_in_piece node b) counts
 counts-there node group b counts all here = (counts-at node group b (Some counts) all here).waits
 
 -- the counts of the waits before a piece
-abbrev pub AreCountsBefore : NodeWaits → ℕ → WaitCounts → Type 0
-AreCountsBefore node b counts = AreCounts (waits_at node.rows.now node.kind.now (visits_between 0 (start_of node.size (length (visits_in node.visits).job) b) (visits_in node.visits))) counts
+abbrev pub AreWaitCountsBefore : NodeWaits → ℕ → WaitCounts → Type 0
+AreWaitCountsBefore node b counts = AreWaitCounts (waits_at node.rows.now node.kind.now (visits_between 0 (start_of node.size (length (visits_in node.visits).job) b) (visits_in node.visits))) counts
 
 -- no wait is before the first
-pub counts-none : WaitsJoin → (node : NodeWaits) (sum : WaitCounts) → AreCounts [] sum → AreCountsBefore node 0 sum
+pub counts-none : WaitsJoin → (node : NodeWaits) (sum : WaitCounts) → AreWaitCounts [] sum → AreWaitCountsBefore node 0 sum
 counts-none law node sum h =
     let none : 0 ≡ start_of node.size (length (visits_in node.visits).job) 0 = omega arith in
-    subst (λ n. AreCounts (waits_at node.rows.now node.kind.now (visits_between 0 n (visits_in node.visits))) sum) none h
+    subst (λ n. AreWaitCounts (waits_at node.rows.now node.kind.now (visits_between 0 n (visits_in node.visits))) sum) none h
 
-pub counts-more : WaitsJoin → (node : NodeWaits) (b : ℕ) (sum piece sum' : WaitCounts) → IsWaited node → AreCountsBefore node b sum → AreCounts (waits_in_piece node b) piece →
-    ((waits more : List ℕ) → AreCounts waits sum → AreCounts more piece → AreCounts (waits ++ more) sum') → AreCountsBefore node (b + 1) sum'
+pub counts-more : WaitsJoin → (node : NodeWaits) (b : ℕ) (sum piece sum' : WaitCounts) → IsWaited node → AreWaitCountsBefore node b sum → AreWaitCounts (waits_in_piece node b) piece →
+    ((waits more : List ℕ) → AreWaitCounts waits sum → AreWaitCounts more piece → AreWaitCounts (waits ++ more) sum') → AreWaitCountsBefore node (b + 1) sum'
 counts-more law node b sum piece sum' waited before its added =
     let count = length (visits_in node.visits).job in
     let first : 0 ≤ start_of node.size count b = omega arith in
     let rises : start_of node.size count b ≤ start_of node.size count (b + 1) = omega arith in
     let within : start_of node.size count (b + 1) ≤ count = omega arith in
-    subst (λ (waits : List ℕ). AreCounts waits sum')
+    subst (λ (waits : List ℕ). AreWaitCounts waits sum')
     (law.join node.rows.now node.kind.now (visits_in node.visits) waited.visits.visits 0 (start_of node.size count b) (start_of node.size count (b + 1)) first rises within) (added _ _ before its)
 
 -- together they are no more than came
-pub counts-few : WaitsJoin → (node : NodeWaits) (b : ℕ) (sum piece : WaitCounts) → IsWaited node → AreCountsBefore node b sum → AreCounts (waits_in_piece node b) piece → sum.many + piece.many ≤ 1048576
+pub counts-few : WaitsJoin → (node : NodeWaits) (b : ℕ) (sum piece : WaitCounts) → IsWaited node → AreWaitCountsBefore node b sum → AreWaitCounts (waits_in_piece node b) piece → sum.many + piece.many ≤ 1048576
 counts-few law node b sum piece waited before its =
     let jobs = (visits_in node.visits).job in
     let count = length jobs in
@@ -70,11 +70,11 @@ counts-few law node b sum piece waited before its =
 some-pieces : (most pieces : ℕ) → 0 < most → cond {A = ℕ} (most == 0) 0 pieces ≡ pieces
 some-pieces most pieces l = grind (arith, nat_tests)
 
-pub counts-all : WaitsJoin → (node : NodeWaits) (b : ℕ) (sum : WaitCounts) → IsWaited node → 0 < node.most → b ≡ counted_pieces node → AreCountsBefore node b sum → AreCounts (waits_at node.rows.now node.kind.now (visits_in node.visits)) sum
+pub counts-all : WaitsJoin → (node : NodeWaits) (b : ℕ) (sum : WaitCounts) → IsWaited node → 0 < node.most → b ≡ counted_pieces node → AreWaitCountsBefore node b sum → AreWaitCounts (waits_at node.rows.now node.kind.now (visits_in node.visits)) sum
 counts-all law node b sum waited some e before =
     let count = length (visits_in node.visits).job in
     let end : start_of node.size count b ≡ count = ap (start_of node.size count) (e ∙ some-pieces node.most (pieces_in node.size count) some) ∙ pieces-all node.size count (let least = waited.least in omega arith) in
-    subst (λ v. AreCounts (waits_at node.rows.now node.kind.now v) sum) (ap (λ n. visits_between 0 n (visits_in node.visits)) end ∙ law.whole node.rows.now node.kind.now (visits_in node.visits) waited.visits.visits) before
+    subst (λ v. AreWaitCounts (waits_at node.rows.now node.kind.now v) sum) (ap (λ n. visits_between 0 n (visits_in node.visits)) end ∙ law.whole node.rows.now node.kind.now (visits_in node.visits) waited.visits.visits) before
 
 -- Nodes. Few visits make few pieces.
 at-most : (b : Bool) (n : ℕ) → n ≤ 128 → cond b 0 n ≤ 128
@@ -141,5 +141,5 @@ counted-more nodes v counted counted' tail so_far at grown =
     }
 
 -- the counts that were made with the totals of the node at an index are those of its waits
-pub sum-at : (nodes : List NodeVisits) (v : ℕ) (its : NodeWaits) (sum : BlockCount) (node : NodeVisits) → slice_get nodes v ≡ Some node → AreWaitsIn nodes v its → IsSumIn nodes v sum → IfSome sum.waits (AreCounts (waits_at its.rows.now its.kind.now (visits_in its.visits)))
-sum-at nodes v its sum node there at are = subst (λ (waits : List ℕ). IfSome sum.waits (AreCounts waits)) (sym (at node there)) (are node there).waits
+pub sum-at : (nodes : List NodeVisits) (v : ℕ) (its : NodeWaits) (sum : BlockCount) (node : NodeVisits) → slice_get nodes v ≡ Some node → AreWaitsIn nodes v its → IsSumIn nodes v sum → IfSome sum.waits (AreWaitCounts (waits_at its.rows.now its.kind.now (visits_in its.visits)))
+sum-at nodes v its sum node there at are = subst (λ (waits : List ℕ). IfSome sum.waits (AreWaitCounts waits)) (sym (at node there)) (are node there).waits

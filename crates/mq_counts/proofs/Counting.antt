@@ -49,12 +49,12 @@ visits-in-all rows all i visits so_far e = subst (λ n. AreVisitsIn rows all n v
 -- What is told of the node at an index.
 pub count-at : (nodes : List Node) (rows : Rows) (form : ℕ) (all : List NodeSequences) (visits : List NodeVisits) (sums : List BlockCount) (streams : List NodeStreams) (i : ℕ) (its : NodeVisits) (sum : BlockCount) (node : NodeStreams) (count : NodeCount) →
     AreVisitsIn rows all (length all) visits → AreSumsOf visits sums → AreNodeStreams nodes rows all (length all) streams → slice_get visits i ≡ Some its → slice_get sums i ≡ Some sum → slice_get streams i ≡ Some node →
-    count.totals ≡ sum.totals → count.last ≡ its.span → AreExitsAt node count.exits → (form ≡ 2 → IsTailIn visits i count.tail) → IsCountIn nodes rows form all i count
+    count.totals ≡ sum.totals → count.last ≡ its.last → AreExitsAt node count.exits → (form ≡ 2 → IsTailIn visits i count.tail) → IsCountIn nodes rows form all i count
 count-at nodes rows form all visits sums streams i its sum node count visited summed parted here here' here'' same last exits tail sequences there =
     let are = visited.each i its here sequences there in
     let counted : IsSumOf its sum = among-all (IsSumIn visits) (length visits) sums i sum summed here' its here in
     record {
-      last = last ∙ are.span;
+      last = last ∙ are.last;
       totals = ap totals_from same ∙ counted.totals ∙ (λ k. sequence_totals (are.table k) (are.kind k) (are.visits k) (sym last k));
       small = subst AreSmall (sym same) counted.small;
       tail = λ e. subst (λ (waits : List ℕ). ArePercentiles waits count.tail) (λ k. waits_at (are.table k) (are.kind k) (are.visits k)) (tail e its here);

@@ -20,7 +20,7 @@ piece-at node group b block all here = among-all (IsPieceCount node) (pieces_of 
 
 -- what is counted of the visits before a piece
 abbrev pub AreBefore : NodeVisits → ℕ → BlockCount → Type 0
-AreBefore node b sum = IsBlock node.rows.now node.kind.now (visits_in node.visits) node.span (counted_to node.tails) 0 (start_of 16384 (length (visits_in node.visits).job) b) sum
+AreBefore node b sum = IsBlock node.rows.now node.kind.now (visits_in node.visits) node.last (counted_to node.tails) 0 (start_of 16384 (length (visits_in node.visits).job) b) sum
 
 -- behind them comes the piece, before the next
 pub neighbours : (node : NodeVisits) (b : ℕ) (sum piece : BlockCount) → IsVisited node → AreBefore node b sum → IsPieceCount node b piece → AreNeighbours sum piece
@@ -30,7 +30,7 @@ neighbours node b sum piece visited before its =
       rows = node.rows.now;
       kind = node.kind.now;
       visits = visits_in node.visits;
-      span = node.span;
+      span = node.last;
       most = counted_to node.tails;
       from = 0;
       middle = start_of 16384 count b;
@@ -49,17 +49,17 @@ unfolding neighbours
 before-more node b sum piece sum' visited before its added = added (neighbours node b sum piece visited before its)
 
 -- no visit stands before the first piece
-pub before-none : (node : NodeVisits) (sum : BlockCount) → IsBlock node.rows.now node.kind.now (visits_in node.visits) node.span (counted_to node.tails) 0 0 sum → AreBefore node 0 sum
+pub before-none : (node : NodeVisits) (sum : BlockCount) → IsBlock node.rows.now node.kind.now (visits_in node.visits) node.last (counted_to node.tails) 0 0 sum → AreBefore node 0 sum
 before-none node sum h =
     let none : 0 ≡ start_of 16384 (length (visits_in node.visits).job) 0 = omega arith in
-    subst (λ n. IsBlock node.rows.now node.kind.now (visits_in node.visits) node.span (counted_to node.tails) 0 n sum) none h
+    subst (λ n. IsBlock node.rows.now node.kind.now (visits_in node.visits) node.last (counted_to node.tails) 0 n sum) none h
 
 -- the pieces are all visits
 pub before-all : WaitsJoin → (node : NodeVisits) (b : ℕ) (sum : BlockCount) → IsVisited node → b ≡ pieces_of node → AreBefore node b sum → IsSumOf node sum
 before-all law node b sum visited e before =
     let count = length (visits_in node.visits).job in
     let end : start_of 16384 count b ≡ count = ap (start_of 16384 count) e ∙ pieces-all 16384 count (omega arith) in
-    subst (λ v. IsBlockOf node.rows.now node.kind.now v node.span (counted_to node.tails) sum) (ap (λ n. visits_between 0 n (visits_in node.visits)) end ∙ law.whole node.rows.now node.kind.now (visits_in node.visits) visited.visits) before
+    subst (λ v. IsBlockOf node.rows.now node.kind.now v node.last (counted_to node.tails) sum) (ap (λ n. visits_between 0 n (visits_in node.visits)) end ∙ law.whole node.rows.now node.kind.now (visits_in node.visits) visited.visits) before
 
 -- Nodes. Few visits make few pieces.
 pieces-few : (all : List NodeVisits) → Each IsVisited all → total_size pieces_of all ≤ length all * 128

@@ -61,7 +61,7 @@ pub record IsVisitsIn (rows : Rows) (sequences : NodeSequences) (its : NodeVisit
   pub table : its.rows.now ≡ rows
   pub kind : its.kind.now ≡ sequences.kind.now
   pub visits : visits_in its.visits ≡ visits_in sequences.visits
-  pub span : its.span ≡ last_event (visits_in sequences.visits) (streams_in sequences.streams)
+  pub last : its.last ≡ last_event (visits_in sequences.visits) (streams_in sequences.streams)
 
 -- those of the first of these, as many as this
 pub record AreVisitsIn (rows : Rows) (all : List NodeSequences) (count : ℕ) (visits : List NodeVisits) : Type 0 where

@@ -8,7 +8,7 @@ use Rattle.mq_counts.specs.declared.tail_pieces.NodeWaits.{NodeWaits}
 use Rattle.mq_counts.specs.declared.totals.NodeVisits.{NodeVisits}
 use Rattle.mq_stats.specs.Numbers.{visits_between}
 use Rattle.mq_stats.specs.Percentiles.{longest_wait, waits_at}
-use Rattle.mq_stats.specs.WaitCounts.{AreCounts}
+use Rattle.mq_stats.specs.WaitCounts.{AreWaitCounts}
 use Rattle.mq_stats.specs.declared.wait_counts.WaitCounts.{WaitCounts}
 
 -- visits to a node, a bound up to which a table can count, and how many visits a piece may have: no fewer than a table counts ticks
@@ -36,7 +36,7 @@ waits_in_piece node b = waits_at node.rows.now node.kind.now (visits_in_piece no
 -- the counts of these waits, exactly where none is longer than can be counted
 pub record IsPieceCounts (node : NodeWaits) (b : ℕ) (counts : Option WaitCounts) : Type 0 where
   pub told : IsSome counts ↔ (longest_wait node.rows.now node.kind.now (visits_in_piece node b) ≤ node.most)
-  pub waits : IfSome counts (AreCounts (waits_in_piece node b))
+  pub waits : IfSome counts (AreWaitCounts (waits_in_piece node b))
 
 -- the waits of these visits are those at a node
 abbrev pub AreWaitsIn : List NodeVisits → ℕ → NodeWaits → Type 0

@@ -30,11 +30,11 @@ counted_to tails = cond tails 16384 0
 abbrev pub IsPieceCount : NodeVisits → ℕ → BlockCount → Type 0
 IsPieceCount node b block =
     let count = length (visits_in node.visits).job in
-    IsBlock node.rows.now node.kind.now (visits_in node.visits) node.span (counted_to node.tails) (start_of 16384 count b) (start_of 16384 count (b + 1)) block
+    IsBlock node.rows.now node.kind.now (visits_in node.visits) node.last (counted_to node.tails) (start_of 16384 count b) (start_of 16384 count (b + 1)) block
 
 -- what is counted of all of them
 abbrev pub IsSumOf : NodeVisits → BlockCount → Type 0
-IsSumOf node sum = IsBlockOf node.rows.now node.kind.now (visits_in node.visits) node.span (counted_to node.tails) sum
+IsSumOf node sum = IsBlockOf node.rows.now node.kind.now (visits_in node.visits) node.last (counted_to node.tails) sum
 
 -- the same of the node at an index
 abbrev pub IsSumIn : List NodeVisits → ℕ → BlockCount → Type 0

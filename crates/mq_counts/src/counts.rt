@@ -82,7 +82,7 @@ fn node_visits<'a>(rows: &'a Rows, sequences: &NodeSequences<'a>, tails: bool) -
         rows,
         kind: sequences.kind,
         visits: sequences.visits,
-        span: last_seen(&sequences.visits, &sequences.streams),
+        last: last_seen(&sequences.visits, &sequences.streams),
         tails,
     }
 }
@@ -160,7 +160,7 @@ fn counts_at(
         match exits_at(alloc, parted, at) {
             Ok(exits) => counts.push(NodeCount {
                 totals: sums.get(at).totals,
-                last: visits.get(at).span,
+                last: visits.get(at).last,
                 tail: tail_told(tails, form, at),
                 exits,
             })?,

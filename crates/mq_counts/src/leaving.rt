@@ -33,7 +33,7 @@ pub struct NodeStreams<'a> {
     pub streams: SeenStreams<'a>,
     /// Whether some input reads it, by output.
     pub read: List<bool>,
-    /// How many jobs the longest of the others has.
+    /// None of the others has more jobs than this.
     pub most: u32,
 }
 

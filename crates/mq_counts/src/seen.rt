@@ -10,7 +10,7 @@ ghost use Rattle.mq_stats.specs.Exits.{IsExitOf, stream_between};
 ghost use Rattle.mq_stats.specs.Lasts.{last_event};
 ghost use Rattle.mq_stats.specs.Numbers.{AreLeaving, visits_between};
 ghost use Rattle.mq_stats.specs.Percentiles.{ArePercentiles, longest_wait, waits_at};
-ghost use Rattle.mq_stats.specs.WaitCounts.{AreCounts};
+ghost use Rattle.mq_stats.specs.WaitCounts.{AreWaitCounts};
 
 use mq_base::{List, OutOfMemory};
 use mq_core::{Kind, Rows, Stream, Visits};
@@ -78,7 +78,7 @@ pub fn block_seen(
     match *visits {
         SeenVisits::Kept(visits) => { count_block(alloc, rows, kind, visits, span, most, from, to) }
         SeenVisits::InTurn(arrivals, departs) => count_in_turn(
-            alloc, rows, kind, arrivals, departs, span, most, from, to,
+            alloc, rows, kind, arrivals, departs, most, from, to,
         ),
     }
 }
@@ -98,7 +98,7 @@ pub fn waits_seen(
     requires order { from ≤ to }
     requires within { to ≤ length (visits_in visits.now).job }
     ensures told { IfOk result (λ counts. IsSome counts ↔ (longest_wait rows.now kind.now (visits_between from to (visits_in visits.now)) ≤ most)) }
-    ensures counts { IfOk result (λ counts. IfSome counts (AreCounts (waits_at rows.now kind.now (visits_between from to (visits_in visits.now))))) }
+    ensures counts { IfOk result (λ counts. IfSome counts (AreWaitCounts (waits_at rows.now kind.now (visits_between from to (visits_in visits.now))))) }
 {
     match *visits {
         SeenVisits::Kept(visits) => count_between(alloc, rows, kind, visits, most, from, to),

@@ -3,7 +3,7 @@ ghost use Rattle.std.specs.Prelude.{◌≡◌, ◌↔◌, ◌<◌, ◌≤◌, �
 ghost use Rattle.std.specs.List.{AllByRecursion};
 ghost use Rattle.mq_crew.specs.Crew.{AreAll, AreGroups};
 ghost use Rattle.mq_stats.specs.Percentiles.{ArePercentiles, waits_at};
-ghost use Rattle.mq_stats.specs.WaitCounts.{AreCounts};
+ghost use Rattle.mq_stats.specs.WaitCounts.{AreWaitCounts};
 ghost use Rattle.mq_counts.specs.Seen.{visits_in};
 ghost use Rattle.mq_counts.specs.TailPieces.{AreNodeWaits, IsPieceCounts, IsWaited, counted_pieces};
 ghost use Rattle.mq_counts.specs.Tails.{AreCountedOf, AreKnown};
@@ -126,9 +126,9 @@ fn waits_by_node<'a, 'b>(
 
 // The percentiles of the waits of these counts, exactly where there are some.
 fn tail_of(counts: &Option<WaitCounts>) -> Option<Percentiles>
-    requires { (waits : Items ℕ) × IfSome counts.now (AreCounts waits) }
+    requires { (waits : Items ℕ) × IfSome counts.now (AreWaitCounts waits) }
     ensures told { IsSome result ↔ IsSome counts.now }
-    ensures percentiles { (waits : Items ℕ) → IfSome counts.now (AreCounts waits) → IfSome result (ArePercentiles waits) }
+    ensures percentiles { (waits : Items ℕ) → IfSome counts.now (AreWaitCounts waits) → IfSome result (ArePercentiles waits) }
 {
     match counts {
         Some(counts) => counted_percentiles(counts),
@@ -171,7 +171,7 @@ fn counted_at(
     group: &List<Option<WaitCounts>>,
 ) -> Result<Option<Percentiles>, OutOfMemory>
     requires waited { IsWaited node.now }
-    requires sum { IfSome sum.now.waits (AreCounts (waits_at node.now.rows.now node.now.kind.now (visits_in node.now.visits))) }
+    requires sum { IfSome sum.now.waits (AreWaitCounts (waits_at node.now.rows.now node.now.kind.now (visits_in node.now.visits))) }
     requires group { AreAll (IsPieceCounts node.now) (counted_pieces node.now) group.now }
     ensures { IfOk result (λ tail. IfSome tail (ArePercentiles (waits_at node.now.rows.now node.now.kind.now (visits_in node.now.visits)))) }
 {

@@ -17,14 +17,14 @@ use std::thread::Threads;
 // How many visits are a piece: what is read of them fits a processor's own memory.
 pub const PIECE: u32 = 16_384;
 
-/// The visits to a node of this kind, which are counted up to this span, in ticks. A piece of them is what is counted of
-/// so many neighbours.
+/// The visits to a node of this kind. A piece of them is what is counted of so many neighbours.
 #[derive(Clone, Copy)]
 pub struct NodeVisits<'a> {
     pub rows: &'a Rows,
     pub kind: &'a Kind,
     pub visits: SeenVisits<'a>,
-    pub span: u64,
+    /// The time up to which they are counted, in ticks: that of the last event at the node.
+    pub last: u64,
     /// Whether the waits are counted with the totals, where none has more ticks than a piece has visits.
     pub tails: bool,
 }
@@ -60,7 +60,7 @@ fn block_of(alloc: Global, node: &NodeVisits, from: u32, to: u32) -> Result<Bloc
     requires visited { IsVisited node.now }
     requires order { from ≤ to }
     requires within { to ≤ length (visits_in node.now.visits).job }
-    ensures { IfOk result (IsBlock node.now.rows.now node.now.kind.now (visits_in node.now.visits) node.now.span (counted_to node.now.tails) from to) }
+    ensures { IfOk result (IsBlock node.now.rows.now node.now.kind.now (visits_in node.now.visits) node.now.last (counted_to node.now.tails) from to) }
 {
     let most = counted_up_to(node.tails);
     block_seen(
@@ -68,7 +68,7 @@ fn block_of(alloc: Global, node: &NodeVisits, from: u32, to: u32) -> Result<Bloc
         node.rows,
         node.kind,
         &node.visits,
-        node.span,
+        node.last,
         most,
         from,
         to,

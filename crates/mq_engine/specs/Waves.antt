@@ -29,7 +29,7 @@ pub record IsSide (s : Arriving) : Type 0 where
   pub some : 1 ≤ s.workers
   pub most : s.workers ≤ 64
 
--- what each of these nodes gives
+-- as many as these nodes, and each is what one of them gives
 pub record AreGiven (s : Arriving) (given : List Given) : Type 0 where
   pub len : length given ≡ length s.ready.now
   pub known : AllByRecursion (IsGiven s.plan.now s.rows.now s.ready.now) given
@@ -52,7 +52,7 @@ IsApartOf s v = Contains s.ready.now v × CanGather s.plan.now s.rows.now s.outp
 abbrev pub IsStationOf : Arriving → ℕ → Type 0
 IsStationOf s v = Contains s.ready.now v × CanWork s.plan.now s.rows.now s.outputs.now v
 
--- so they are told apart
+-- nodes told apart by how they are worked out, each of them one of these
 pub record AreSorted (s : Arriving) (wave : Wave) : Type 0 where
   pub crowded : AllByRecursion (IsResultOf s.plan.now s.rows.now s.ready.now) wave.crowded
   pub apart : AllByRecursion (IsApartOf s) wave.apart.items

@@ -11,7 +11,7 @@ ghost use Rattle.mq_kept.specs.declared.former.Nodes.{Nodes as TheNodes};
 
 use crate::checkpoints::Checkpoints;
 use crate::former::{Former, Nodes, come_back, no_lists, put_at};
-use crate::nodes::{NodeRun, Past, node_run};
+use crate::nodes::{FormerRun, NodeRun, node_run};
 use mq_arrivals::Arriving;
 use mq_base::{List, Steps};
 use mq_core::{Plan, Rows, Run, runs_are_of_networks};
@@ -32,9 +32,9 @@ pub struct Redone {
     pub all: u64,
 }
 
-/// A whole run, and what is kept of its nodes.
+/// A new run, and what is kept of its nodes.
 #[derive(Drop)]
-pub struct Whole {
+pub struct NewRun {
     pub run: Run,
     pub checkpoints: List<Checkpoints>,
     pub redone: Redone,
@@ -60,7 +60,7 @@ pub fn run_again<R: Threads + Sync, L: Ledger>(
     workers: u32,
     block: u32,
     steps: &mut Steps<L>,
-) -> Result<Whole, RunRefusal>
+) -> Result<NewRun, RunRefusal>
     requires read { IsReadFor plan.now.net rows.now }
     requires some { 1 ≤ workers }
     requires most { workers ≤ 64 }
@@ -97,7 +97,7 @@ pub fn run_again<R: Threads + Sync, L: Ledger>(
             workers,
             block,
         };
-        let past = Past {
+        let past = FormerRun {
             earlier,
             formers: worked.formers.as_slice(),
         };
@@ -109,7 +109,7 @@ pub fn run_again<R: Threads + Sync, L: Ledger>(
             }
         }
     }
-    Ok(whole_of(worked))
+    Ok(new_run(worked))
 }
 
 // The nodes, of which those that are worked out so far have what the new run has, and how much of it was done again.
@@ -157,7 +157,7 @@ fn undone(alloc: Global, worked: SoFar, fault: RunFault) -> RunRefusal
 }
 
 // All nodes are worked out.
-fn whole_of(worked: SoFar) -> Whole
+fn new_run(worked: SoFar) -> NewRun
     ensures visits { result.run.visits ≡ worked.nodes.visits.items }
     ensures outputs { result.run.outputs ≡ worked.nodes.outputs.items }
     ensures checkpoints { result.checkpoints ≡ worked.nodes.checkpoints.items }
@@ -169,7 +169,7 @@ fn whole_of(worked: SoFar) -> Whole
         redone,
     } = worked;
     drop(formers);
-    Whole {
+    NewRun {
         run: Run {
             visits: List::from_vec(nodes.visits),
             outputs: List::from_vec(nodes.outputs),

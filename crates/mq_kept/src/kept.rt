@@ -7,7 +7,7 @@ ghost use Rattle.mq_engine.specs.Answer.{IsCause};
 ghost use Rattle.mq_kept.specs.Keeping.{IsKeptRun};
 ghost use Rattle.mq_kept.specs.NodeRuns.{AreKept};
 
-use crate::again::{Redone, Whole, run_again};
+use crate::again::{NewRun, Redone, run_again};
 use crate::checkpoints::Checkpoints;
 use crate::former::{Nodes, all_same, no_nodes};
 use mq_alike::again_is_bounded;
@@ -186,7 +186,7 @@ fn begun<R: Threads + Sync, L: Ledger>(
     workers: u32,
     block: u32,
     blank: Blank,
-) -> Result<Whole, RunFault>
+) -> Result<NewRun, RunFault>
     requires read { IsReadFor plan.now.net rows.now }
     requires some { 1 ≤ workers }
     requires most { workers ≤ 64 }

@@ -42,9 +42,9 @@ use std::alloc::Global;
 use std::sync::ledger::Ledger;
 use std::thread::Threads;
 
-/// The kept run, behind which a node is worked out.
+/// The way back to the kept run, behind which a node is worked out.
 #[derive(Clone, Copy)]
-pub struct Past<'a> {
+pub struct FormerRun<'a> {
     /// How the rows come back to those of it, where a run is kept.
     pub earlier: Option<&'a FormerRows>,
     /// How each node comes back to what it had in it, by node.
@@ -74,7 +74,7 @@ pub fn node_run<R: Threads + Sync, L: Ledger>(
     rt: &R,
     alloc: Global,
     arriving: &Arriving,
-    past: &Past,
+    past: &FormerRun,
     lists: NodeLists,
     steps: &mut Steps<L>,
 ) -> Result<NodeRun, NodeRefusal>
@@ -114,7 +114,7 @@ fn apart_run<R: Threads + Sync>(
     rt: &R,
     alloc: Global,
     arriving: &Arriving,
-    past: &Past,
+    past: &FormerRun,
     number: u32,
     lists: NodeLists,
 ) -> Result<NodeRun, NodeRefusal>
@@ -142,7 +142,7 @@ fn apart_run<R: Threads + Sync>(
 }
 
 // Whether a run is kept, in which each port of a node reads the same.
-fn reads_the_same(past: &Past, node: &Node) -> bool
+fn reads_the_same(past: &FormerRun, node: &Node) -> bool
     requires { (port : ℕ) (input : Port) → slice_get node.now.inputs port ≡ Some input → input.node < length past.now.formers.now }
     ensures kept { result ≡ true → (former : Bor TheFormer) × (past.now.earlier ≡ Some former) }
     ensures same { result ≡ true → (port : ℕ) (input : Port) → slice_get node.now.inputs port ≡ Some input → slice_get past.now.formers.now input.node ≡ Some Same }
@@ -227,7 +227,7 @@ fn station_run<R: Threads + Sync, L: Ledger>(
     rt: &R,
     alloc: Global,
     arriving: &Arriving,
-    past: &Past,
+    past: &FormerRun,
     number: u32,
     lists: NodeLists,
     steps: &mut Steps<L>,
@@ -260,12 +260,20 @@ fn station_run<R: Threads + Sync, L: Ledger>(
 }
 
 // How the rows come back to those of the kept run, where a run is kept and the node is a source.
-fn edits_of_source<'a>(past: &Past<'a>, kind: &Kind) -> Option<&'a FormerRows>
+fn edits_of_source<'a>(past: &FormerRun<'a>, kind: &Kind) -> Option<&'a FormerRows>
     ensures { IfSome result (λ former. (kind.now ≡ Source) × (past.now.earlier ≡ Some former)) }
 {
     match kind {
         Kind::Source => past.earlier,
-        _ => None,
+        Kind::Server(_)
+        | Kind::Delay(_)
+        | Kind::Loss { .. }
+        | Kind::Tandem(_)
+        | Kind::ForkJoin(_)
+        | Kind::Split(_)
+        | Kind::Fork { .. }
+        | Kind::Join
+        | Kind::Trunk { .. } => None,
     }
 }
 
@@ -274,7 +282,7 @@ fn whole_run<R: Threads + Sync, L: Ledger>(
     rt: &R,
     alloc: Global,
     arriving: &Arriving,
-    past: &Past,
+    past: &FormerRun,
     number: u32,
     lists: NodeLists,
     steps: &mut Steps<L>,
@@ -372,7 +380,7 @@ fn held_at<'a, R: Threads + Sync>(
 }
 
 // How many first visits to a node are the same as the kept ones: none where no run is kept.
-fn alike_at(past: &Past, rows: &Rows, kind: &Kind, lists: &NodeLists, arrivals: &Stream) -> u32
+fn alike_at(past: &FormerRun, rows: &Rows, kind: &Kind, lists: &NodeLists, arrivals: &Stream) -> u32
     requires none { past.now.earlier ≡ None → lists.now.visits.job ≡ [] }
     requires earlier { HaveDemands (kept_rows rows.now (earlier_rows rows.now past.now.earlier)) kind.now lists.now.visits.job }
     requires even { length lists.now.visits.arrive ≡ length lists.now.visits.job }
@@ -388,7 +396,7 @@ fn alike_at(past: &Past, rows: &Rows, kind: &Kind, lists: &NodeLists, arrivals: 
 }
 
 // Whether a run is kept in which a node has no difference, of whose visits so many are the same as the kept ones.
-fn is_unchanged(past: &Past, same: u32, visits: u32, count: u32) -> bool
+fn is_unchanged(past: &FormerRun, same: u32, visits: u32, count: u32) -> bool
     ensures yes { result ≡ true → ((former : Bor TheFormer) × (past.now.earlier ≡ Some former)) × (same ≡ visits) × (same ≡ count) }
     ensures no { result ≡ false → (past.now.earlier ≡ None) ⊎ (((same == visits) && (same == count)) ≡ false) }
 {
@@ -397,7 +405,7 @@ fn is_unchanged(past: &Past, same: u32, visits: u32, count: u32) -> bool
 
 // Whether a run is kept, in which a node of this kind can be edited in place: it doesn't become shorter. Where less than half
 // stays it is made anew, on all workers.
-fn can_redo_tail(past: &Past, kind: &Kind, same: u32, visits: u32, count: u32) -> bool
+fn can_redo_tail(past: &FormerRun, kind: &Kind, same: u32, visits: u32, count: u32) -> bool
     ensures { result ≡ true → ((former : Bor TheFormer) × (past.now.earlier ≡ Some former)) × HasTail kind.now × (visits ≤ count) }
 {
     past.earlier.is_some() && has_tail(kind) && visits <= count && count / 2 <= same

@@ -24,7 +24,7 @@ use Rattle.mq_core.specs.declared.model.Fate.TheVariants.{Departs, Held, Lost}
 use Rattle.mq_stats.proofs.Founds.{founds-next, rises-at}
 use Rattle.mq_stats.proofs.Ordered.{as-many}
 use Rattle.mq_stats.proofs.Passing.{none-passed, passed-later, passed-yes, rises-get, up_to}
-use Rattle.mq_stats.specs.Ahead.{AreCounts, IsAhead, departure_times, leaves_at_once, departure_order}
+use Rattle.mq_stats.specs.Ahead.{AreCountsBefore, IsAhead, departure_times, leaves_at_once, departure_order}
 use Rattle.mq_stats.specs.Departures.{departures_from, stays}
 use Rattle.mq_stats.specs.declared.pieces.AheadTable.{AheadTable}
 
@@ -186,7 +186,7 @@ come-by i time times h g =
     omega arith
 
 -- a count at an index
-pub counted : {X : Type 0} (test : X → Bool) (items : List X) (counts : List ℕ) (index count : ℕ) → AreCounts test items counts → slice_get counts index ≡ Some count → count ≡ count_by test (take index items)
+pub counted : {X : Type 0} (test : X → Bool) (items : List X) (counts : List ℕ) (index count : ℕ) → AreCountsBefore test items counts → slice_get counts index ≡ Some count → count ≡ count_by test (take index items)
 counted test items counts index count h g =
     let within = slice_get_within counts index count g in
     let many = h.many in

@@ -33,7 +33,7 @@ leaves_at_once arrive Lost = false
 leaves_at_once arrive Held = false
 
 -- for each index, and for the end, for how many of the items before it a test holds
-pub record AreCounts {X : Type 0} (test : X → Bool) (items : List X) (counts : List ℕ) : Type 0 where
+pub record AreCountsBefore {X : Type 0} (test : X → Bool) (items : List X) (counts : List ℕ) : Type 0 where
   pub many : length counts ≡ length items + 1
   pub at_indices : (index : ℕ) → index ≤ length items → slice_get counts index ≡ Some (count_by test (take index items))
 
@@ -41,5 +41,5 @@ pub record AreCounts {X : Type 0} (test : X → Bool) (items : List X) (counts :
 pub record IsAhead (arrive : List ℕ) (fate : List Fate) (ahead : AheadTable) : Type 0 where
   pub comings : AreComings arrive fate
   pub leaving : ahead.leaving ≡ departure_order fate
-  pub kept : AreCounts stays fate ahead.kept
-  pub still : AreCounts (λ (p : ℕ × Fate). leaves_at_once p.0 p.1) (zip arrive fate) ahead.still
+  pub kept : AreCountsBefore stays fate ahead.kept
+  pub still : AreCountsBefore (λ (p : ℕ × Fate). leaves_at_once p.0 p.1) (zip arrive fate) ahead.still

@@ -6,7 +6,7 @@ use Rattle.mq_core.specs.declared.model.Rows.{Rows}
 use Rattle.mq_core.specs.declared.model.Visits.{Visits}
 use Rattle.mq_stats.specs.Numbers.{AreSmall, AreVisits, totals_from, visits_between}
 use Rattle.mq_stats.specs.Percentiles.{waits_at}
-use Rattle.mq_stats.specs.WaitCounts.{AreCounts}
+use Rattle.mq_stats.specs.WaitCounts.{AreWaitCounts}
 use Rattle.mq_stats.specs.declared.blocks.BlockCount.{BlockCount}
 
 -- the totals of visits to a node, and the counts of their waits, exactly where none is longer than this
@@ -14,7 +14,7 @@ pub record IsBlockOf (rows : Rows) (kind : Kind) (visits : Visits) (span most : 
   pub totals : totals_from block.totals ≡ sequence_totals rows kind visits span
   pub small : AreSmall block.totals
   pub told : IsSome block.waits ↔ (block.totals.longest ≤ most)
-  pub waits : IfSome block.waits (AreCounts (waits_at rows kind visits))
+  pub waits : IfSome block.waits (AreWaitCounts (waits_at rows kind visits))
 
 -- the same of the visits from a position up to another
 abbrev pub IsBlock : Rows → Kind → Visits → ℕ → ℕ → ℕ → ℕ → BlockCount → Type 0

@@ -11,7 +11,7 @@ use Rattle.mq_stats.specs.declared.exits.Exit.{Exit}
 abbrev pub stream_between : ℕ → ℕ → Stream → Stream
 stream_between from to stream = record { job = between from to stream.job; time = between from to stream.time }
 
--- what leaves is what leaves by this stream, and the sum is of fewer than 2^64 ticks a job
+-- what leaves is what leaves by this stream, and the sum is of at most 2^64 ticks a job
 pub record IsExitOf (rows : Rows) (stream : Stream) (exit : Exit) : Type 0 where
   pub told : (exit.count, exit.sojourn) ≡ sequence_exit rows stream
   pub small : exit.sojourn ≤ exit.count * 2 ^ 64

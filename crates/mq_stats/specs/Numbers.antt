@@ -50,7 +50,7 @@ totals_from totals =
       peak = totals.peak;
     }
 
--- the totals of no more visits than 1,048,576, with sums of fewer than 2^64 ticks a visit
+-- the totals of no more visits than 1,048,576, with sums of at most 2^64 ticks a visit
 pub record AreSmall (totals : NodeTotals) : Type 0 where
   pub few : totals.came ≤ 1048576
   pub left : totals.left ≤ totals.came

@@ -10,7 +10,7 @@ use Rattle.mq_stats.specs.declared.wait_counts.WaitCounts.{WaitCounts}
 
 -- They are the counts of these waits: of each number of ticks at its own index, with one index more behind the longest of them. There is room for
 -- some, and for no more than so many.
-pub record AreCounts (waits : List ℕ) (counts : WaitCounts) : Type 0 where
+pub record AreWaitCounts (waits : List ℕ) (counts : WaitCounts) : Type 0 where
   pub many : counts.many ≡ length waits
   pub few : counts.many ≤ 1048576
   pub some : 1 < length counts.counts

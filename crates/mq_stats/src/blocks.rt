@@ -3,7 +3,7 @@ ghost use Rattle.std.specs.Prelude.{◌≡◌, ◌↔◌, ◌+◌, ◌++◌, ◌
 ghost use Rattle.mq_core.specs.Results.{peak_of};
 ghost use Rattle.mq_stats.specs.Blocks.{AreNeighbours, IsBlock, IsBlockOf};
 ghost use Rattle.mq_stats.specs.Numbers.{AreVisits, visits_of_columns};
-ghost use Rattle.mq_stats.specs.WaitCounts.{AreCounts};
+ghost use Rattle.mq_stats.specs.WaitCounts.{AreWaitCounts};
 ghost use Rattle.mq_stats.specs.Waits.{AreWaiting};
 
 use crate::bare::bare_times;
@@ -89,9 +89,9 @@ fn waits_added(
     before: Option<WaitCounts>,
     after: &Option<WaitCounts>,
 ) -> Result<Option<WaitCounts>, OutOfMemory>
-    requires { (waits : Items ℕ) × (more : Items ℕ) × (length waits + length more ≤ 1048576) × IfSome before (AreCounts waits) × IfSome after.now (AreCounts more) }
+    requires { (waits : Items ℕ) × (more : Items ℕ) × (length waits + length more ≤ 1048576) × IfSome before (AreWaitCounts waits) × IfSome after.now (AreWaitCounts more) }
     ensures told { IfOk result (λ both. IsSome both ↔ (IsSome before × IsSome after.now)) }
-    ensures counts { IfOk result (λ both. (waits more : Items ℕ) → IfSome before (AreCounts waits) → IfSome after.now (AreCounts more) → IfSome both (AreCounts (waits ++ more))) }
+    ensures counts { IfOk result (λ both. (waits more : Items ℕ) → IfSome before (AreWaitCounts waits) → IfSome after.now (AreWaitCounts more) → IfSome both (AreWaitCounts (waits ++ more))) }
 {
     let Some(before) = before else {
         return Ok(None);

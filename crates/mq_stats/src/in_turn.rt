@@ -9,7 +9,7 @@ ghost use Rattle.mq_stats.specs.Blocks.{IsBlock, IsBlockOf};
 ghost use Rattle.mq_stats.specs.InTurn.{KeepTurn, visits_in_turn};
 ghost use Rattle.mq_stats.specs.Numbers.{AreVisits, visits_between, visits_of_columns};
 ghost use Rattle.mq_stats.specs.Percentiles.{ArePercentiles, longest_wait, waits_at};
-ghost use Rattle.mq_stats.specs.WaitCounts.{AreCounts};
+ghost use Rattle.mq_stats.specs.WaitCounts.{AreWaitCounts};
 ghost use Rattle.mq_stats.specs.Waits.{AreWaiting, departed_waits_in, waits_in};
 
 use crate::bare::bare_times;
@@ -99,14 +99,14 @@ fn count_departed(
     })
 }
 
-/// What `count_block` tells, of visits whose jobs leave in the order in which they came, of what came and when each departs.
+/// What `count_block` tells, of visits whose jobs leave in the order in which they came, of what came and when each departs: since nobody is
+/// held, it is the same whatever the span is.
 pub fn count_in_turn(
     alloc: Global,
     rows: &Rows,
     kind: &Kind,
     arrivals: &Stream,
     departs: &List<u64>,
-    span: u64,
     most: u32,
     from: u32,
     to: u32,
@@ -116,7 +116,7 @@ pub fn count_in_turn(
     requires most { most ≤ 1048576 }
     requires order { from ≤ to }
     requires within { to ≤ length arrivals.now.job }
-    ensures { IfOk result (IsBlock rows.now kind.now (visits_in_turn arrivals.now departs.now) span most from to) }
+    ensures { (span : ℕ) → IfOk result (IsBlock rows.now kind.now (visits_in_turn arrivals.now departs.now) span most from to) }
 {
     let leave = part(departs, from, to);
     let waiting = Waiting {
@@ -153,7 +153,7 @@ pub fn waits_in_turn(
     requires order { from ≤ to }
     requires within { to ≤ length arrivals.now.job }
     ensures told { IfOk result (λ counts. IsSome counts ↔ (longest_wait rows.now kind.now (visits_between from to (visits_in_turn arrivals.now departs.now)) ≤ most)) }
-    ensures counts { IfOk result (λ counts. IfSome counts (AreCounts (waits_at rows.now kind.now (visits_between from to (visits_in_turn arrivals.now departs.now))))) }
+    ensures counts { IfOk result (λ counts. IfSome counts (AreWaitCounts (waits_at rows.now kind.now (visits_between from to (visits_in_turn arrivals.now departs.now))))) }
 {
     let waiting = Waiting {
         rows,

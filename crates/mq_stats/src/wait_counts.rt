@@ -4,7 +4,7 @@ ghost use Rattle.std.specs.List.{AllByRecursion};
 ghost use Rattle.mq_stats.specs.Numbers.{AreVisits, visits_between};
 ghost use Rattle.mq_stats.specs.Percentiles.{ArePercentiles, hundredths, longest_wait, waits_at};
 ghost use Rattle.mq_stats.specs.Tables.{own_counts};
-ghost use Rattle.mq_stats.specs.WaitCounts.{AreCounts, WaitsJoin};
+ghost use Rattle.mq_stats.specs.WaitCounts.{AreWaitCounts, WaitsJoin};
 ghost use Rattle.mq_stats.specs.Waits.{AreWaiting, departed_waits_in, waits_in};
 
 use crate::tails::{Percentiles, counted};
@@ -41,7 +41,7 @@ pub fn count_waits(table: &mut [u32], waits: &[u64])
 
 /// The counts of no waits.
 pub fn no_counts(alloc: Global) -> Result<WaitCounts, OutOfMemory>
-    ensures { IfOk result (AreCounts []) }
+    ensures { IfOk result (AreWaitCounts []) }
 {
     let table = vec![in alloc; 0u32; 2]?;
     Ok(WaitCounts {
@@ -61,7 +61,7 @@ pub fn counts_of(
     requires longest { AllByRecursion (λ wait. wait ≤ longest) waits.now }
     requires most { most ≤ 1048576 }
     ensures told { IfOk result (λ counts. IsSome counts ↔ (longest ≤ most)) }
-    ensures counts { IfOk result (λ counts. IfSome counts (AreCounts waits.now)) }
+    ensures counts { IfOk result (λ counts. IfSome counts (AreWaitCounts waits.now)) }
 {
     if longest > most as u64 {
         return Ok(None);
@@ -83,7 +83,7 @@ pub fn counts_of_columns(
     requires visits { AreWaiting waiting.now }
     requires most { most ≤ 1048576 }
     ensures told { IfOk result (λ counts. IsSome counts ↔ (fold max 0 (waits_in waiting.now) ≤ most)) }
-    ensures counts { IfOk result (λ counts. IfSome counts (AreCounts (departed_waits_in waiting.now))) }
+    ensures counts { IfOk result (λ counts. IfSome counts (AreWaitCounts (departed_waits_in waiting.now))) }
 {
     let told = waits_of(alloc, waiting)?;
     let counts = counts_of(alloc, told.waits.as_slice(), told.longest, most);
@@ -107,7 +107,7 @@ pub fn count_between(
     requires order { from ≤ to }
     requires within { to ≤ length visits.now.job }
     ensures told { IfOk result (λ counts. IsSome counts ↔ (longest_wait rows.now kind.now (visits_between from to visits.now) ≤ most)) }
-    ensures counts { IfOk result (λ counts. IfSome counts (AreCounts (waits_at rows.now kind.now (visits_between from to visits.now)))) }
+    ensures counts { IfOk result (λ counts. IfSome counts (AreWaitCounts (waits_at rows.now kind.now (visits_between from to visits.now)))) }
 {
     let waiting = Waiting {
         rows,
@@ -154,10 +154,10 @@ pub fn counts_added(
     before: WaitCounts,
     after: &WaitCounts,
 ) -> Result<WaitCounts, OutOfMemory>
-    requires before { (waits : Items ℕ) × AreCounts waits before }
-    requires after { (waits : Items ℕ) × AreCounts waits after.now }
+    requires before { (waits : Items ℕ) × AreWaitCounts waits before }
+    requires after { (waits : Items ℕ) × AreWaitCounts waits after.now }
     requires few { before.many + after.now.many ≤ 1048576 }
-    ensures { IfOk result (λ both. (waits more : Items ℕ) → AreCounts waits before → AreCounts more after.now → AreCounts (waits ++ more) both) }
+    ensures { IfOk result (λ both. (waits more : Items ℕ) → AreWaitCounts waits before → AreWaitCounts more after.now → AreWaitCounts (waits ++ more) both) }
 {
     let WaitCounts { many, counts } = before;
     let mut counts = with_room(alloc, counts, after.counts.len())?;
@@ -174,8 +174,8 @@ pub fn counted_percentiles(counts: &WaitCounts) -> Option<Percentiles>
     requires room { length counts.now.counts ≤ 1048578 }
     requires few { counts.now.many ≤ 1048576 }
     ensures told { IsSome result ↔ (hundredths 99 counts.now.many ≤ own_counts counts.now.counts) }
-    ensures counts { (waits : Items ℕ) → AreCounts waits counts.now → IsSome result }
-    ensures percentiles { (waits : Items ℕ) → AreCounts waits counts.now → IfSome result (ArePercentiles waits) }
+    ensures counts { (waits : Items ℕ) → AreWaitCounts waits counts.now → IsSome result }
+    ensures percentiles { (waits : Items ℕ) → AreWaitCounts waits counts.now → IfSome result (ArePercentiles waits) }
 {
     counted(counts.counts.as_slice(), counts.many as usize)
 }

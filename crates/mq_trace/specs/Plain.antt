@@ -23,7 +23,8 @@ is_line_end c = (c == 13) || (c == 10)
 abbrev pub is_plain : ℕ → Bool
 is_plain c = not ((c == 34) || (c == 44) || (c == 13) || (c == 10))
 
--- a text begins with this field, as it stands or between quotes, and this is left behind it
+-- A text begins with these bytes of a field, as they stand or between quotes, and this is left behind them. Where no quotes stand around them
+-- more of the field may follow: what is left says whether it ends there.
 abbrev pub IsField : List ℕ → List ℕ → List ℕ → Type 0
 IsField text field rest = ((list_all is_plain field ≡ true) × (text ≡ field ++ rest)) ⊎ ((has_quote field ≡ false) × (text ≡ 34 ∷ (field ++ 34 ∷ rest)))
 

@@ -1,6 +1,5 @@
 // Squares as pieces, by several workers and through gates that count and hold.
-ghost use Rattle.std.specs.Prelude.{◌≡◌, ℕ, ◌+◌, ◌*◌, ◌<◌, ◌≤◌, ◌^◌, length, IfOk};
-ghost use Rattle.mq_crew.specs.Crew.{AreAll, IsLastOf, total_size};
+ghost use Rattle.std.specs.Prelude.{◌≡◌, ◌+◌, ◌*◌, ◌<◌, ◌≤◌, ◌^◌, length, IfOk};
 
 use super::meeting::Meeting;
 use mq_base::{List, OutOfMemory};

@@ -1,7 +1,6 @@
 // The single pass against the recurrence, and through gates that count and hold.
-ghost use Rattle.std.specs.Prelude.{◌≡◌, ◌*◌, ◌^◌, ◌≤◌, length, All, IfOk};
+ghost use Rattle.std.specs.Prelude.{◌≡◌, ◌*◌, ◌≤◌, length, IfOk};
 ghost use Rattle.mq_core.specs.Sequences.{IsSoundLoad};
-ghost use Rattle.mq_crew.specs.Crew.{IsLastOf};
 
 use super::meeting::Meeting;
 use mq_base::{List, OutOfMemory};

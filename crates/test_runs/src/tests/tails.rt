@@ -1,10 +1,10 @@
 // Worked percentiles of the waits at a node.
-ghost use Rattle.std.specs.Prelude.{◌≡◌, ◌≤◌, ℕ, List as Items, length};
+ghost use Rattle.std.specs.Prelude.{ℕ, List as Items};
 ghost use Rattle.mq_core.specs.Asked.{HasDemands};
 ghost use Rattle.mq_core.specs.Told.{IsTold};
 ghost use Rattle.mq_core.specs.declared.model.Demand.TheVariants.{Column};
 ghost use Rattle.mq_stats.specs.Numbers.{AreVisits};
-ghost use Rattle.mq_stats.specs.WaitCounts.{AreCounts};
+ghost use Rattle.mq_stats.specs.WaitCounts.{AreWaitCounts};
 
 use super::stats::{Columns, HELD, SERVED, list, three_case};
 use super::totals::are_visits;
@@ -24,8 +24,8 @@ fn sum_is(
     many: u32,
     wanted: &[u32],
 ) -> Result<bool, OutOfMemory>
-    requires before { (waits : Items ℕ) × AreCounts waits before }
-    requires after { (waits : Items ℕ) × AreCounts waits after.now }
+    requires before { (waits : Items ℕ) × AreWaitCounts waits before }
+    requires after { (waits : Items ℕ) × AreWaitCounts waits after.now }
 {
     if before.many > 10 || after.many > 10 {
         return Ok(false);

@@ -248,7 +248,7 @@ fn counted_so(
         return Ok(false);
     }
     let (arrivals, departs) = (&turn.arrivals, &turn.departs);
-    let count = count_in_turn(alloc, &turn.rows, kind, arrivals, departs, 10, 10, from, to)?;
+    let count = count_in_turn(alloc, &turn.rows, kind, arrivals, departs, 10, from, to)?;
     Ok(count.totals == *wanted && count.waits.is_some())
 }
 

@@ -142,14 +142,14 @@ pub returns-clause-kept : goal.returns-clause-kept
 returns-clause-kept g c =
     let end = c.len-rank-end.ensures in
     let last = c.loop-rank-test.false in
-    subst (λ (p : List Visits × List (List Stream) × List Checkpoints). AreKept c.args.plan.now c.args.rows.now c.args.block (record { visits = p.0; outputs = p.1 }) p.2) (λ i. (sym c.whole_of.ensures.visits i, sym c.whole_of.ensures.outputs i, sym c.whole_of.ensures.checkpoints i))
+    subst (λ (p : List Visits × List (List Stream) × List Checkpoints). AreKept c.args.plan.now c.args.rows.now c.args.block (record { visits = p.0; outputs = p.1 }) p.2) (λ i. (sym c.new_run.ensures.visits i, sym c.new_run.ensures.outputs i, sym c.new_run.ensures.checkpoints i))
     (all-kept c.core_laws.ensures c.args.plan.now c.args.rows.now c.args.block (earlier_rows c.args.rows.now c.args.earlier) c.args.nodes c.loop-rank.worked c.loop-rank.rank c.requires.read (omega arith) c.loop-rank.invariant.worked)
 
 pub returns-clause-redone : goal.returns-clause-redone
 returns-clause-redone g c =
     let end = c.len-rank-end.ensures in
     let last = c.loop-rank-test.false in
-    c.whole_of.ensures.redone ∙ all-redone c.core_laws.ensures c.args.plan.now c.args.rows.now c.args.block (earlier_rows c.args.rows.now c.args.earlier) c.args.nodes c.loop-rank.worked c.loop-rank.rank c.requires.read (omega arith) c.loop-rank.invariant.worked
+    c.new_run.ensures.redone ∙ all-redone c.core_laws.ensures c.args.plan.now c.args.rows.now c.args.block (earlier_rows c.args.rows.now c.args.earlier) c.args.nodes c.loop-rank.worked c.loop-rank.rank c.requires.read (omega arith) c.loop-rank.invariant.worked
 
 pub returns-clause-counted : goal.returns-clause-counted
 returns-clause-counted g c =

@@ -3,7 +3,7 @@ use Rattle.std.specs.Prelude.{IfSome}
 use Rattle.mq_base.proofs.lemmas.Between.{length-between}
 use Rattle.mq_stats.specs.Numbers.{added_totals, visits_between}
 use Rattle.mq_stats.specs.Percentiles.{waits_at}
-use Rattle.mq_stats.specs.WaitCounts.{AreCounts}
+use Rattle.mq_stats.specs.WaitCounts.{AreWaitCounts}
 use Rattle.mq_stats.proofs.Joins.{totals-join}
 use Rattle.mq_stats.proofs.WaitsJoin.{waits-join}
 use Rattle.mq_stats.proofs.blocks.blocks_added.Goals as goal
@@ -37,7 +37,7 @@ returns-clause-block c = λ blocks.
         λ within. some.1 (blocks.first.told.1 (omega arith), blocks.second.told.1 (omega arith)),
       );
       waits =
-          subst (λ (waits : List ℕ). IfSome c.in_ok-waits.waits (AreCounts waits))
+          subst (λ (waits : List ℕ). IfSome c.in_ok-waits.waits (AreWaitCounts waits))
           (waits-join.join blocks.rows blocks.kind blocks.visits blocks.sound blocks.from blocks.middle blocks.to blocks.order blocks.next blocks.within)
           (c.in_ok-waits.ensures.counts _ _ blocks.first.waits blocks.second.waits);
     }

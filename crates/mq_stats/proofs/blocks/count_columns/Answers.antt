@@ -1,6 +1,6 @@
 use Rattle.std.proofs.Common.{◌≡◌, ◌≤◌, ℕ, List, ap, sym, subst, ◌∙◌}
 use Rattle.std.specs.Prelude.{◌↔◌, IfSome, IsSome}
-use Rattle.mq_stats.specs.WaitCounts.{AreCounts}
+use Rattle.mq_stats.specs.WaitCounts.{AreWaitCounts}
 use Rattle.mq_stats.proofs.blocks.count_columns.Goals as goal
 
 pub returns : goal.returns
@@ -11,5 +11,5 @@ returns c found is =
       totals = c.totals_of.ensures.totals found is;
       small = c.totals_of.ensures.small;
       told = subst (λ (n : ℕ). IsSome c.in_ok-waits.waits ↔ (n ≤ c.args.most)) longest c.in_ok-waits.ensures.told;
-      waits = subst (λ (waits : List ℕ). IfSome c.in_ok-waits.waits (AreCounts waits)) (c.as_slice-2.ensures ∙ told.waits) c.in_ok-waits.ensures.counts;
+      waits = subst (λ (waits : List ℕ). IfSome c.in_ok-waits.waits (AreWaitCounts waits)) (c.as_slice-2.ensures ∙ told.waits) c.in_ok-waits.ensures.counts;
     }

@@ -2,7 +2,7 @@ use Rattle.std.proofs.Common.{◌≡◌, ◌≤◌, ◌∙◌, ℕ, List, ap, ar
 use Rattle.std.specs.Prelude.{IfSome, count_by}
 use Rattle.std.specs.List.{AllByRecursion as Each}
 use Rattle.mq_core.specs.Results.{is_departed, is_held, is_lost}
-use Rattle.mq_stats.specs.WaitCounts.{AreCounts}
+use Rattle.mq_stats.specs.WaitCounts.{AreWaitCounts}
 use Rattle.mq_stats.specs.Waits.{departed_waits_in}
 use Rattle.mq_stats.proofs.Held.{fates-counted}
 use Rattle.mq_stats.proofs.InTurn.{none-stays}
@@ -53,5 +53,5 @@ returns c =
         area = told.small_stay;
       };
       told = c.in_ok-counts.ensures.told;
-      waits = subst (λ (waits : List ℕ). IfSome c.in_ok-counts.counts (AreCounts waits)) whole c.in_ok-counts.ensures.counts;
+      waits = subst (λ (waits : List ℕ). IfSome c.in_ok-counts.counts (AreWaitCounts waits)) whole c.in_ok-counts.ensures.counts;
     }

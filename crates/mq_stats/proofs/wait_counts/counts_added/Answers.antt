@@ -3,18 +3,18 @@ use Rattle.std.specs.Prelude.{◌==◌}
 use Rattle.std.proofs.lemmas.List.Sums.{count_by-le-length, sum_by-append}
 use Rattle.mq_base.proofs.lemmas.Each.{Each-append, Each-weaker}
 use Rattle.mq_base.proofs.lemmas.Lists.{written-back}
-use Rattle.mq_stats.specs.WaitCounts.{AreCounts}
+use Rattle.mq_stats.specs.WaitCounts.{AreWaitCounts}
 use Rattle.mq_stats.specs.declared.wait_counts.WaitCounts.{WaitCounts}
 use Rattle.mq_stats.proofs.wait_counts.counts_added.Goals as goal
 
 -- no count is more than all
-few : (waits : List ℕ) (counts : WaitCounts) → AreCounts waits counts → (at : ℕ) → get_or counts.counts at 0 ≤ counts.many
+few : (waits : List ℕ) (counts : WaitCounts) → AreWaitCounts waits counts → (at : ℕ) → get_or counts.counts at 0 ≤ counts.many
 few waits counts h at = omega (arith, h.many, h.each at, count_by-le-length (λ w. w == at) waits)
 
 -- the counts of both, where each is a sum
 sums : (waits more : List ℕ) (before after both : WaitCounts) → before.many + after.many ≤ 1048576 → both.many ≡ before.many + after.many → 1 < length both.counts → length both.counts ≤ 1048578
-    → length before.counts ≤ length both.counts → length after.counts ≤ length both.counts → ((at : ℕ) → get_or both.counts at 0 ≡ get_or before.counts at 0 + get_or after.counts at 0) → AreCounts waits before → AreCounts more after
-    → AreCounts (waits ++ more) both
+    → length before.counts ≤ length both.counts → length after.counts ≤ length both.counts → ((at : ℕ) → get_or both.counts at 0 ≡ get_or before.counts at 0 + get_or after.counts at 0) → AreWaitCounts waits before → AreWaitCounts more after
+    → AreWaitCounts (waits ++ more) both
 sums waits more before after both small many some room first_fits second_fits each h k =
     let first : before.many ≡ length waits = h.many in
     let second : after.many ≡ length more = k.many in
