@@ -1,5 +1,6 @@
 -- The servers of a fork-join in one list, and which of them begin a branch.
-use Rattle.std.proofs.Common.{◌≡◌, ℕ, suc, ◌+◌, ◌≤◌, true, false, List, [], ◌∷◌, ◌++◌, length, length-append, map, take, Some, slice_get, refl, sym, ap, ◌∙◌, arith, append_assoc}
+use Rattle.std.proofs.Common.{◌≡◌, ◌==◌, Bool, ℕ, zero, suc, ◌+◌, ◌≤◌, true, false, List, [], ◌∷◌, ◌++◌, length, length-append, map, take, Some, slice_get, refl, sym, ap, ◌∙◌, arith, append_assoc}
+use Rattle.std.proofs.Math.Dec.{eqb-suc-zero}
 use Rattle.std.specs.Prelude.{replicate}
 use Rattle.std.specs.List.{AllByRecursion as Each, flat_map}
 use Rattle.std.proofs.lemmas.List.{append-nil, length-map, map-append}
@@ -40,6 +41,18 @@ module _ {X : Type 0} where
   pub some-server : (branches : List (List X)) → 1 ≤ length branches → Each (λ servers. 1 ≤ servers) (map length branches) → 1 ≤ length (flat_map (λ b. b) branches)
   some-server [] some h = absurd (omega arith)
   some-server (branch ∷ branches) some h = let a = length-append branch (flat_map (λ b. b) branches) in let b = h.0 in omega arith
+
+falses-more : (n : ℕ) → replicate (suc n) false ≡ replicate n false ++ false ∷ []
+falses-more zero = refl
+falses-more (suc n) = ap (λ bs. false ∷ bs) (falses-more n)
+
+servers-next : (n : ℕ) → begins_with (suc n) ≡ begins_with n ++ (n == 0) ∷ []
+servers-next zero = refl
+servers-next (suc n) = ap (λ bs. true ∷ bs) (falses-more n ∙ ap (λ (b : Bool). replicate n false ++ b ∷ []) (sym (eqb-suc-zero n)))
+
+-- one server more
+pub servers-more : (n : ℕ) → begins_with (n + 1) ≡ begins_with n ++ (n == 0) ∷ []
+servers-more n = let e : n + 1 ≡ suc n = omega arith in ap begins_with e ∙ servers-next n
 
 module _ {X Y : Type 0} (f : X → Y) where
   falses-map : (xs : List X) → map (λ _. false) (map f xs) ≡ map (λ _. false) xs

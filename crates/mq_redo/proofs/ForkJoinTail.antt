@@ -1,5 +1,5 @@
 -- The last jobs of a fork-join, behind the blocks that stay.
-use Rattle.std.proofs.Common.{◌≡◌, ℕ, ◌+◌, ◌*◌, ◌<◌, ◌≤◌, All, Bool, List, [], ◌∷◌, ◌++◌, drop, fold, get_or, length, map, max, take, refl, sym, ap, ◌∙◌, subst, arith, Some, slice_get}
+use Rattle.std.proofs.Common.{◌≡◌, ℕ, ◌+◌, ◌*◌, ◌<◌, ◌≤◌, All, List, ◌∷◌, ◌++◌, drop, fold, get_or, length, map, max, take, refl, sym, ap, ◌∙◌, subst, arith, Some, slice_get}
 use Rattle.std.specs.Prelude.{replicate}
 use Rattle.std.specs.List.{flat_map}
 use Rattle.std.proofs.lemmas.List.{get_or-drop, length-drop, length-map}
@@ -19,7 +19,7 @@ use Rattle.mq_forkjoin.specs.Fronts.{CanServe, jobs_act, one_job}
 use Rattle.mq_forkjoin.specs.Runs.{IsForkJoinLoad, asked_at, job_run, range_run}
 use Rattle.mq_forkjoin.specs.Servers.{begins_of, servers_of}
 use Rattle.mq_forkjoin.specs.declared.step.ForkJoinStep.{ForkJoinStep}
-use Rattle.mq_scan.specs.Folds.{carries_after, fold_to}
+use Rattle.mq_scan.specs.Folds.{fold_to}
 use Rattle.mq_scan.specs.declared.blocks.Blocks.{Blocks}
 use Rattle.mq_stations.proofs.lemmas.Lists.{Each-get_or}
 use Rattle.mq_stations.proofs.lemmas.StageFacts.{demands-told, forkjoin-departs, loads-sound, sound-branches}

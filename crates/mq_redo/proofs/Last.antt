@@ -1,5 +1,5 @@
 -- The last jobs of a station: what they ask for, what they do, and that it fits.
-use Rattle.std.proofs.Common.{◌≡◌, ℕ, zero, suc, ◌+◌, ◌-◌, ◌^◌, ◌<◌, ◌≤◌, All, Bool, cond, List, [], ◌∷◌, drop, get_or, length, map, max, refl, sym, ap, ◌∙◌, subst, arith, Some, slice_get}
+use Rattle.std.proofs.Common.{◌≡◌, ℕ, zero, suc, ◌+◌, ◌^◌, ◌<◌, ◌≤◌, All, Bool, cond, List, [], ◌∷◌, drop, get_or, length, map, max, refl, sym, ap, ◌∙◌, subst, arith, Some, slice_get}
 use Rattle.std.specs.Prelude.{replicate}
 use Rattle.std.proofs.lemmas.List.{drop-drop, drop-map, get_or-drop, length-drop}
 use Rattle.std.proofs.lemmas.List.Elements.{All-drop, All-map, All-weaker}

@@ -1,5 +1,5 @@
 -- The last jobs of a server, behind the blocks that stay.
-use Rattle.std.proofs.Common.{◌≡◌, ℕ, ◌+◌, ◌*◌, ◌<◌, ◌≤◌, List, ◌∷◌, ◌++◌, drop, length, map, take, refl, sym, ap, ◌∙◌, subst, arith, Some, slice_get}
+use Rattle.std.proofs.Common.{◌≡◌, ℕ, ◌*◌, ◌<◌, ◌≤◌, List, ◌∷◌, ◌++◌, drop, length, map, take, refl, sym, ap, ◌∙◌, subst, arith, Some, slice_get}
 use Rattle.std.proofs.lemmas.List.{length-drop}
 use Rattle.mq_alike.specs.Again.{AlikeIsFirst, Coming}
 use Rattle.mq_core.specs.Handling.{demand_of_job}
@@ -13,7 +13,7 @@ use Rattle.mq_maxplus.specs.Maxplus.{CanAct, affine_act, mp_or_zero}
 use Rattle.mq_maxplus.specs.declared.affine.Affine.{Affine}
 use Rattle.mq_maxplus.specs.declared.mp.Mp.{Mp}
 use Rattle.mq_maxplus.specs.declared.mp.Mp.TheVariants.{Void}
-use Rattle.mq_scan.specs.Folds.{carries_after, fold_to}
+use Rattle.mq_scan.specs.Folds.{fold_to}
 use Rattle.mq_scan.specs.declared.blocks.Blocks.{Blocks}
 use Rattle.mq_server.proofs.Recurrence.{all-departures}
 use Rattle.mq_server.specs.Bounds.{late-enough, spans_act}

@@ -3,7 +3,7 @@ use Rattle.std.proofs.Common.{◌≡◌, ℕ, zero, suc, ◌+◌, ◌-◌, ◌*�
 use Rattle.std.proofs.Math.ListN.{get_or-append}
 use Rattle.std.proofs.Math.Nat.{mul-le-mul_right}
 use Rattle.std.proofs.lemmas.Bool.{cases_lt}
-use Rattle.std.proofs.lemmas.List.{get_or-append_right, length-take-le, map-append, take-map}
+use Rattle.std.proofs.lemmas.List.{get_or-append_right, map-append, take-map}
 use Rattle.std.proofs.lemmas.Option.{get_or_from_slice_get, slice_get_within}
 use Rattle.mq_base.proofs.lemmas.Lists.{some_inj}
 use Rattle.mq_core.specs.declared.model.Fate.{Fate}
@@ -12,9 +12,9 @@ use Rattle.mq_scan.proofs.Spans.{times-append}
 use Rattle.mq_scan.specs.Folds.{carries_after, fold_to}
 use Rattle.mq_scan.specs.declared.blocks.Blocks.{Blocks}
 use Rattle.mq_redo.specs.Doing.{AreBehind, AreDone, AreStaying}
-use Rattle.mq_redo.specs.Staying.{IsKeptScan, IsKeptStation}
+use Rattle.mq_redo.specs.Staying.{IsKeptScan}
 use Rattle.mq_redo.proofs.Doing.{fold-same, staying-done}
-use Rattle.mq_redo.proofs.Staying.{departs_inj, staying}
+use Rattle.mq_redo.proofs.Staying.{staying}
 
 -- two cuts of as many indices have as many blocks
 blocks-within : (block n a b : ℕ) → n ≤ b * block → a * block < n + block → a ≤ b

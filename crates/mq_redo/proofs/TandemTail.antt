@@ -1,9 +1,8 @@
 -- The last jobs of a tandem, behind the blocks that stay.
-use Rattle.std.proofs.Common.{◌≡◌, ℕ, ◌+◌, ◌*◌, ◌<◌, ◌≤◌, All, List, [], ◌∷◌, ◌++◌, drop, length, map, take, refl, sym, ap, ◌∙◌, subst, arith, Some, slice_get}
+use Rattle.std.proofs.Common.{◌≡◌, ℕ, ◌+◌, ◌*◌, ◌<◌, ◌≤◌, List, ◌∷◌, ◌++◌, drop, length, map, take, refl, sym, ap, ◌∙◌, subst, arith, Some, slice_get}
 use Rattle.std.proofs.lemmas.List.{length-drop}
 use Rattle.mq_alike.specs.Again.{AlikeIsFirst, Coming}
 use Rattle.mq_core.specs.Handling.{demand_of_job}
-use Rattle.mq_core.specs.Sequences.{IsSoundLoad}
 use Rattle.mq_core.specs.declared.model.Fate.{Fate}
 use Rattle.mq_core.specs.declared.model.Fate.TheVariants.{Departs}
 use Rattle.mq_core.specs.declared.model.Kind.TheVariants.{Tandem}
@@ -12,7 +11,7 @@ use Rattle.mq_core.specs.declared.model.Stage.{Stage}
 use Rattle.mq_core.specs.declared.model.Stream.{Stream}
 use Rattle.mq_maxplus.specs.Matrices.{matrix_act}
 use Rattle.mq_maxplus.specs.declared.mp.Mp.{Mp}
-use Rattle.mq_scan.specs.Folds.{carries_after, fold_to}
+use Rattle.mq_scan.specs.Folds.{fold_to}
 use Rattle.mq_scan.specs.declared.blocks.Blocks.{Blocks}
 use Rattle.mq_stations.proofs.lemmas.StageFacts.{demands-told, loads-sound, stages-are, tandem-served}
 use Rattle.mq_stations.specs.Leaving.{AreServed, IsLoad}

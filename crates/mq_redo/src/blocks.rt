@@ -80,20 +80,23 @@ fn push_read<P: Timed>(
     Ok(())
 }
 
-/// All blocks of a cut of a station's jobs, where the first are done: those behind them are done one after another.
-/// Each of these counts one step, also where memory runs out. It refuses for want of memory alone.
-pub fn redone<P: Timed, L: Ledger>(
+// All blocks of a cut of a station's jobs, where the first are done and `before` is the carry before all of them: those behind
+// the first are done one after another. Each of these counts one step, also where memory runs out. It refuses for want of
+// memory alone.
+fn redone<P: Timed, L: Ledger>(
     alloc: Global,
     step: &P,
     blocks: &Blocks,
+    before: P::Carry,
     kept: Done<P::Carry>,
     steps: &mut Steps<L>,
 ) -> Result<Done<P::Carry>, OutOfMemory>
     requires all { blocks.now.n ≡ P.size step.now }
-    requires few { blocks.now.block ≤ 65536 }
+    requires acts { MayAct P.acted P.can_act (P.part step.now) (P.size step.now) before }
+    requires reads { (n : ℕ) → n ≤ P.size step.now → P.can_time step.now (fold_to P.acted before (P.part step.now) n) }
     requires inside { length kept.carries.items * blocks.now.block ≤ blocks.now.n }
-    requires kept { AreDone (P.time_of step.now) P.acted (P.start step.now) (P.part step.now) blocks.now (length kept.carries.items) kept.times.items kept.carries.items }
-    ensures done { IfOk result (λ done. AreDone (P.time_of step.now) P.acted (P.start step.now) (P.part step.now) blocks.now blocks.now.blocks done.times.items done.carries.items) }
+    requires kept { AreDone (P.time_of step.now) P.acted before (P.part step.now) blocks.now (length kept.carries.items) kept.times.items kept.carries.items }
+    ensures done { IfOk result (λ done. AreDone (P.time_of step.now) P.acted before (P.part step.now) blocks.now blocks.now.blocks done.times.items done.carries.items) }
     ensures steps { steps.old ≤ steps.new }
     ensures spent { steps.new + length kept.carries.items ≤ steps.old + blocks.now.blocks }
     ensures counted { OnOk result (steps.new + length kept.carries.items ≡ steps.old + blocks.now.blocks) }
@@ -106,14 +109,29 @@ pub fn redone<P: Timed, L: Ledger>(
     let first = carries.len() as u32;
     let mut carry = match carries.last() {
         Some(carry) => *carry,
-        None => step.first(),
+        None => before,
     };
+    // Calls of `drop` in place of `?`: each is proved once for a type.
     'parts: for b in first..count {
         let (from, to) = blocks.range(b);
-        let after = redo_block(alloc, step, from, to, carry, steps)?;
-        push_read(step, &after, &mut times)?;
+        let Ok(after) = through_block(alloc, step, from, to, carry, steps) else {
+            drop(times);
+            drop(carries);
+            return Err(OutOfMemory);
+        };
+        let Ok(()) = push_read(step, &after, &mut times) else {
+            drop(after);
+            drop(times);
+            drop(carries);
+            return Err(OutOfMemory);
+        };
         carry = *after.get((to - from - 1) as usize);
-        carries.push(carry)?;
+        drop(after);
+        let Ok(()) = carries.push(carry) else {
+            drop(times);
+            drop(carries);
+            return Err(OutOfMemory);
+        };
     }
     Ok(Done { times, carries })
 }
@@ -135,17 +153,12 @@ pub fn redone_last<P: Timed, L: Ledger>(
     ensures spent { steps.new ≤ steps.old + blocks.now.blocks }
     ensures counted { OnOk result (steps.new ≡ steps.old + blocks.now.blocks) }
 {
-    let mut times = Vec::with_capacity(alloc, blocks.n as usize)?;
-    let mut carries = Vec::with_capacity(alloc, blocks.blocks as usize)?;
-    let mut carry = before;
-    'parts: for b in 0..blocks.blocks {
-        let (from, to) = blocks.range(b);
-        let after = through_block(alloc, step, from, to, carry, steps)?;
-        push_read(step, &after, &mut times)?;
-        carry = *after.get((to - from - 1) as usize);
-        carries.push(carry)?;
-    }
-    Ok(Done { times, carries })
+    let times = Vec::with_capacity(alloc, blocks.n as usize)?;
+    let Ok(carries) = Vec::with_capacity(alloc, blocks.blocks as usize) else {
+        drop(times);
+        return Err(OutOfMemory);
+    };
+    redone(alloc, step, blocks, before, Done { times, carries }, steps)
 }
 
 /// All blocks of a cut of a station's jobs, where so many first blocks of an earlier run stay: `times` is what was read
@@ -161,7 +174,6 @@ pub fn redone_behind<P: Timed, L: Ledger>(
     steps: &mut Steps<L>,
 ) -> Result<Done<P::Carry>, OutOfMemory>
     requires all { blocks.now.n ≡ P.size step.now }
-    requires few { blocks.now.block ≤ 65536 }
     requires inside { first * blocks.now.block ≤ blocks.now.n }
     requires stays { AreStaying (P.time_of step.now) P.acted (P.start step.now) (P.part step.now) blocks.now.block first times.items carries.now }
     ensures done { IfOk result (λ done. AreDone (P.time_of step.now) P.acted (P.start step.now) (P.part step.now) blocks.now blocks.now.blocks done.times.items done.carries.items) }
@@ -175,6 +187,7 @@ pub fn redone_behind<P: Timed, L: Ledger>(
         alloc,
         step,
         blocks,
+        step.first(),
         Done {
             times,
             carries: kept,

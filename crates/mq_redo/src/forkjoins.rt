@@ -49,13 +49,30 @@ pub fn branched_behind<L: Ledger>(
 {
     let last = last_of(alloc, arrivals, first * blocks.block)?;
     let behind = last.stream();
-    let asked = branch_demands(alloc, branches)?;
-    let demands = all_asked_of(alloc, rows, &asked, &behind.job)?;
-    let begins = branch_begins(alloc, branches)?;
-    branched_last(
+    let Ok(asked) = branch_demands(alloc, branches) else {
+        drop(last);
+        return Err(OutOfMemory);
+    };
+    let Ok(demands) = all_asked_of(alloc, rows, &asked, &behind.job) else {
+        drop(asked);
+        drop(last);
+        return Err(OutOfMemory);
+    };
+    let Ok(begins) = branch_begins(alloc, branches) else {
+        drop(demands);
+        drop(asked);
+        drop(last);
+        return Err(OutOfMemory);
+    };
+    let done = branched_last(
         alloc, rows, branches, arrivals, behind, &asked, &demands, &begins, blocks, carries, first,
         steps,
-    )
+    );
+    drop(begins);
+    drop(demands);
+    drop(asked);
+    drop(last);
+    done
 }
 
 // The same, of the jobs behind those blocks and what they ask for.

@@ -57,16 +57,31 @@ pub fn routed_again<L: Ledger>(
     let values = values_of(alloc, rows, route, arrivals.job.as_slice())?;
     let step = RouteStep::new(route, &values);
     done_are_kept(&step);
-    let stay = first_outs(alloc, outs, first * blocks.block, jobs)?;
-    let done = redone_behind(alloc, &step, blocks, stay, carries, first, steps)?;
-    let outs = narrow_outs(alloc, &done.times)?;
-    let streams = streams_by(
+    // Calls of `drop` in place of `?`: each is proved once for a type.
+    let Ok(stay) = first_outs(alloc, outs, first * blocks.block, jobs) else {
+        drop(values);
+        return Err(OutOfMemory);
+    };
+    let Ok(done) = redone_behind(alloc, &step, blocks, stay, carries, first, steps) else {
+        drop(values);
+        return Err(OutOfMemory);
+    };
+    drop(values);
+    let Ok(outs) = narrow_outs(alloc, &done.times) else {
+        drop(done);
+        return Err(OutOfMemory);
+    };
+    let Ok(streams) = streams_by(
         alloc,
         arrivals.job.as_slice(),
         arrivals.time.as_slice(),
         &outs,
         route,
-    )?;
+    ) else {
+        drop(outs);
+        drop(done);
+        return Err(OutOfMemory);
+    };
     Ok(Rerouted {
         outs,
         carries: done.carries,

@@ -46,13 +46,30 @@ pub fn staged_behind<L: Ledger>(
 {
     let last = last_of(alloc, arrivals, first * blocks.block)?;
     let behind = last.stream();
-    let asked = stage_demands(alloc, stages)?;
-    let demands = all_asked_of(alloc, rows, &asked, &behind.job)?;
-    let places = stage_places(alloc, stages)?;
-    staged_last(
+    let Ok(asked) = stage_demands(alloc, stages) else {
+        drop(last);
+        return Err(OutOfMemory);
+    };
+    let Ok(demands) = all_asked_of(alloc, rows, &asked, &behind.job) else {
+        drop(asked);
+        drop(last);
+        return Err(OutOfMemory);
+    };
+    let Ok(places) = stage_places(alloc, stages) else {
+        drop(demands);
+        drop(asked);
+        drop(last);
+        return Err(OutOfMemory);
+    };
+    let done = staged_last(
         alloc, rows, stages, arrivals, behind, &asked, &demands, &places, blocks, carries, first,
         steps,
-    )
+    );
+    drop(places);
+    drop(demands);
+    drop(asked);
+    drop(last);
+    done
 }
 
 // The same, of the jobs behind those blocks and what they ask for.

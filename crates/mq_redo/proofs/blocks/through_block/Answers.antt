@@ -29,3 +29,14 @@ acts-preserved g c =
           ∙ ((λ i. c.acts.invariant.after i ++ (carry ∙ ap (fold_to g.P.Step.acted c.args.carry part) {x = suc n} {y = suc (0 + n)} (omega arith)) i ∷ [])
           ∙ (sym (carries-more g.P.Step.acted c.args.carry part 0 n) ∙ ap (carries_after g.P.Step.acted c.args.carry part 0) next));
     }
+
+pub returns-clause-after : goal.returns-clause-after
+returns-clause-after g c =
+    let part : ℕ → g.row.P-Summary.Denot = λ k. g.P.Step.part c.args.step.now (c.args.from + k) in
+    let within = c.acts.invariant.within in
+    let last = c.acts-test.false in
+    let all : c.acts.at - c.args.from ≡ c.args.to - c.args.from = omega arith in
+    c.from_vec.ensures ∙ (c.acts.invariant.after ∙ ap (carries_after g.P.Step.acted c.args.carry part 0) all)
+
+pub returns-clause-step : goal.returns-clause-step
+returns-clause-step g c = c.tick.ensures

@@ -1,4 +1,5 @@
-use Rattle.std.proofs.Common.{◌≡◌, ◌∙◌, ◌++◌, ◌∷◌, [], ℕ, List, ap, sym, Some, slice_get}
+use Rattle.std.proofs.Common.{◌≡◌, ◌∙◌, ◌++◌, ◌∷◌, [], ℕ, List, ap, arith, length, sym, Some, slice_get}
+use Rattle.std.proofs.lemmas.List.{length-map}
 use Rattle.mq_base.proofs.lemmas.Lists.{take-at}
 use Rattle.mq_core.specs.declared.model.Fate.{Fate}
 use Rattle.mq_core.specs.declared.model.Fate.TheVariants.{Departs, Held, Lost}
@@ -10,6 +11,14 @@ lost-none time e = absurd cc
 
 held-none : (time : ℕ) → Held ≡ Departs time → ⊥
 held-none time e = absurd cc
+
+pub at-requires : goal.at-requires
+at-requires c =
+    let h = c.requires in
+    let many : length c.args.fates.now ≡ length h.0 = ap length h.1 ∙ length-map h.0 (λ time. Departs time) in
+    let inside = c.visits-test.true in
+    let few = h.2 in
+    omega arith
 
 pub unreachable-requires : goal.unreachable-requires
 unreachable-requires c =

@@ -1,21 +1,17 @@
-use Rattle.std.proofs.Common.{◌≡◌, ◌∙◌, ◌+◌, ◌-◌, ◌*◌, ◌≤◌, All, Bool, ◌∷◌, ℕ, List, slice_get, ap, drop, length, map, refl, sym, subst, arith}
+use Rattle.std.proofs.Common.{◌≡◌, ◌∙◌, ◌+◌, ◌*◌, ◌≤◌, Bool, ◌∷◌, ℕ, List, slice_get, ap, drop, length, map, refl, sym, subst, arith}
 use Rattle.std.specs.List.{flat_map}
 use Rattle.std.proofs.lemmas.Result.{IfOk-weaker, on_ok_weaker}
 use Rattle.std.proofs.lemmas.List.{length-drop, length-map}
 use Rattle.std.proofs.lemmas.List.Elements.{All-drop}
 use Rattle.mq_core.specs.Handling.{demand_of_job}
-use Rattle.mq_core.specs.Sequences.{IsSoundLoad}
-use Rattle.mq_core.specs.Told.{AreTold}
 use Rattle.mq_core.specs.declared.model.Demand.{Demand}
 use Rattle.mq_core.specs.declared.model.Fate.TheVariants.{Departs}
 use Rattle.mq_core.specs.declared.model.Stream.{Stream}
 use Rattle.mq_forkjoin.specs.Runs.{IsForkJoinLoad}
 use Rattle.mq_forkjoin.specs.Servers.{begins_of}
-use Rattle.mq_stations.proofs.lemmas.StageFacts.{demands-asked, demands-told}
-use Rattle.mq_asked.specs.Demands.{AreAsked}
 use Rattle.mq_redo.specs.Branches.{asks_at_servers}
 use Rattle.mq_redo.proofs.ForkJoinTail.{acts, few-kept, forkjoin-load, served, served-behind, station}
-use Rattle.mq_redo.proofs.Last.{asked-last, loads-last, told-last}
+use Rattle.mq_redo.proofs.Last.{asked-last, loads-last}
 use Rattle.mq_redo.proofs.Tails.{blocks-behind}
 use Rattle.mq_redo.proofs.forkjoins.branched_last.Goals as goal
 

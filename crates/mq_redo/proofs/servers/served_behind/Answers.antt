@@ -1,14 +1,12 @@
-use Rattle.std.proofs.Common.{◌≡◌, ◌∙◌, ◌+◌, ◌-◌, ◌*◌, ◌≤◌, ◌∷◌, ℕ, List, slice_get, ap, drop, length, map, refl, sym, subst, arith}
+use Rattle.std.proofs.Common.{◌≡◌, ◌∙◌, ◌+◌, ◌*◌, ◌≤◌, ◌∷◌, ℕ, List, slice_get, ap, length, map, refl, sym, subst, arith}
 use Rattle.std.proofs.lemmas.List.{drop-map, length-drop}
 use Rattle.mq_core.specs.Handling.{demand_of_job}
 use Rattle.mq_core.specs.Sequences.{IsSoundLoad}
-use Rattle.mq_core.specs.Told.{IsTold}
 use Rattle.mq_core.specs.declared.model.Fate.TheVariants.{Departs}
 use Rattle.mq_core.specs.declared.model.Kind.TheVariants.{Server}
 use Rattle.mq_core.specs.declared.model.Stream.{Stream}
-use Rattle.mq_stations.proofs.lemmas.Leaves.{asked-each, load-sound}
-use Rattle.mq_asked.specs.Demands.{AreAsked}
-use Rattle.mq_redo.proofs.Last.{sound-last, told-last}
+use Rattle.mq_stations.proofs.lemmas.Leaves.{load-sound}
+use Rattle.mq_redo.proofs.Last.{sound-last}
 use Rattle.mq_redo.proofs.ServerTail.{acts, few-kept, served, served-behind, station}
 use Rattle.mq_redo.proofs.Tails.{blocks-behind}
 use Rattle.mq_redo.proofs.servers.served_behind.Goals as goal

@@ -1,18 +1,16 @@
-use Rattle.std.proofs.Common.{◌≡◌, ◌∙◌, ◌+◌, ◌-◌, ◌*◌, ◌≤◌, All, [], ◌∷◌, ℕ, List, slice_get, ap, drop, length, map, refl, sym, subst, arith}
+use Rattle.std.proofs.Common.{◌≡◌, ◌∙◌, ◌+◌, ◌*◌, ◌≤◌, All, ◌∷◌, ℕ, List, slice_get, ap, drop, length, map, refl, sym, subst, arith}
 use Rattle.std.proofs.lemmas.Result.{IfOk-weaker, on_ok_weaker}
 use Rattle.std.proofs.lemmas.List.{length-drop}
 use Rattle.mq_core.specs.Handling.{demand_of_job}
 use Rattle.mq_core.specs.Sequences.{IsSoundLoad}
-use Rattle.mq_core.specs.Told.{AreTold}
 use Rattle.mq_core.specs.declared.model.Demand.{Demand}
 use Rattle.mq_core.specs.declared.model.Fate.TheVariants.{Departs}
 use Rattle.mq_core.specs.declared.model.Stage.{Stage}
 use Rattle.mq_core.specs.declared.model.Stream.{Stream}
-use Rattle.mq_stations.proofs.lemmas.StageFacts.{demands-asked, demands-told, stages-are}
-use Rattle.mq_asked.specs.Demands.{AreAsked}
+use Rattle.mq_stations.proofs.lemmas.StageFacts.{stages-are}
 use Rattle.mq_tandem.specs.Rows.{none_kept}
 use Rattle.mq_redo.specs.Stages.{asks_at_stages, places_of}
-use Rattle.mq_redo.proofs.Last.{asked-last, loads-last, told-last}
+use Rattle.mq_redo.proofs.Last.{asked-last, loads-last}
 use Rattle.mq_redo.proofs.TandemTail.{acts, few-kept, reads, served, served-behind, station, tandem-load}
 use Rattle.mq_redo.proofs.Tails.{blocks-behind}
 use Rattle.mq_redo.proofs.tandems.staged_last.Goals as goal
