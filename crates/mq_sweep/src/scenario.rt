@@ -1,5 +1,5 @@
 // One model over the trace.
-ghost use Rattle.std.specs.Prelude.{◌≡◌, ◌++◌, IfOk};
+ghost use Rattle.std.specs.Prelude.{◌≡◌, ◌≢◌, ◌++◌, IfOk, OnOk};
 ghost use Rattle.mq_sweep.specs.Book.{IsEntryOf};
 
 use crate::Entry;
@@ -25,6 +25,29 @@ fn joined(alloc: Global, first: &[u8], second: &[u8]) -> Result<List<u8>, OutOfM
     Ok(List::from_vec(both))
 }
 
+// What a run with this outcome put into two sinks in memory, one after the other. There is none where it or one of them ran out
+// of memory. It borrows all, so that none of them waits at its exits.
+fn text_of(
+    alloc: Global,
+    outcome: &Outcome,
+    out: &MemSink,
+    err: &MemSink,
+) -> Result<List<u8>, OutOfMemory>
+    ensures ran { OnOk result (outcome.now ≢ Outcome.Memory) }
+    ensures out_calm { OnOk result (out.now.faults ≡ 0) }
+    ensures err_calm { OnOk result (err.now.faults ≡ 0) }
+    ensures text { IfOk result (λ text. text ≡ out.now.taken ++ err.now.taken) }
+{
+    match outcome {
+        Outcome::Memory => return Err(OutOfMemory),
+        _ => {}
+    }
+    if out.faults() != 0 || err.faults() != 0 {
+        return Err(OutOfMemory);
+    }
+    joined(alloc, out.bytes(), err.bytes())
+}
+
 /// What the run of a model over a trace gives: by one worker, with form 2 of the report and no lines of jobs. Where one of
 /// the two sinks in memory counts a fault, memory ran out.
 pub fn run_scenario<R: Threads + Sync>(
@@ -43,18 +66,20 @@ pub fn run_scenario<R: Threads + Sync>(
     let outcome = simulate_bytes(
         rt, alloc, model, trace, 1, BLOCK, FORM, false, &mut out, &mut err,
     );
-    match outcome {
-        Outcome::Memory => return Err(OutOfMemory),
-        _ => {}
-    }
-    if out.faults() != 0 || err.faults() != 0 {
+    let Ok(text) = text_of(alloc, &outcome, &out, &err) else {
+        drop(out);
+        drop(err);
         return Err(OutOfMemory);
-    }
-    let text = joined(alloc, out.bytes(), err.bytes())?;
-    let model = List::from_vec(Vec::from_slice(alloc, model)?);
+    };
+    drop(out);
+    drop(err);
+    let Ok(model) = Vec::from_slice(alloc, model) else {
+        drop(text);
+        return Err(OutOfMemory);
+    };
     Ok(Entry {
         number,
-        model,
+        model: List::from_vec(model),
         status: outcome.status(),
         text,
     })

@@ -10,6 +10,9 @@ puts_three t s f o o' a b x h = rw (append_assoc a b x) h
 puts_four : {S : Type 0} (t : S → Option (List ℕ)) (s f : S → ℕ) (o o' : S) (a b x y : List ℕ) → PutsLine t s f o o' (a ++ (b ++ (x ++ y))) → PutsLine t s f o o' (a ++ b ++ x ++ y)
 puts_four t s f o o' a b x y h = rw (append_assoc (a ++ b) x y ∙ append_assoc a b (x ++ y)) h
 
+pub returns-in-Usage : goal.returns-in-Usage
+returns-in-Usage g c = rw c.in-Usage.is c.put_pieces-in-Usage.ensures
+
 pub returns-in-TooLong : goal.returns-in-TooLong
 returns-in-TooLong g c =
     rw c.in-TooLong.is (puts_four _ _ _ _ _ (codes "mpsweep: file ") (decimal c.in-TooLong.word) (codes " is too long") (10 ∷ []) c.put_pieces-in-TooLong.ensures)

@@ -17,16 +17,15 @@ returns-clause-right g c =
     let out' : SinkState = c.simulate_bytes-outcome.new.out in
     let err : SinkState = c.new-err.result in
     let err' : SinkState = c.simulate_bytes-outcome.new.err in
-    let out_calm : out'.faults ≡ 0 = sym c.faults.ensures ∙ c.if-faults-ne0.false in
-    let err_calm : err'.faults ≡ 0 = sym c.faults-else-faults-ne0.ensures ∙ c.if-faults-ne0-2.false in
+    let told = c.in-Ok.ensures in
     let done : Finished trace model o out'.taken err'.taken =
     finished trace model o out out' err err' (record { before = Some out.taken; now = Some out'.taken; sure_before = sure_bytes out; sure_now = sure_bytes out' }) c.new-out.ensures.taken c.new-err.ensures.taken refl refl
-    c.simulate_bytes-outcome.ensures.ends c.simulate_bytes-outcome.ensures.writes c.in_default.not-Memory
-    (λ e. calm out.faults out'.faults c.new-out.ensures.faults out_calm (out_rose out out' o (scenario_answer trace model) c.simulate_bytes-outcome.ensures.writes e)) c.simulate_bytes-outcome.ensures.unread
-    (λ a e. c.simulate_bytes-outcome.ensures.line.whole (λ rose. calm err.faults err'.faults c.new-err.ensures.faults err_calm rose)
+    c.simulate_bytes-outcome.ensures.ends c.simulate_bytes-outcome.ensures.writes told.ran
+    (λ e. calm out.faults out'.faults c.new-out.ensures.faults told.out_calm (out_rose out out' o (scenario_answer trace model) c.simulate_bytes-outcome.ensures.writes e)) c.simulate_bytes-outcome.ensures.unread
+    (λ a e. c.simulate_bytes-outcome.ensures.line.whole (λ rose. calm err.faults err'.faults c.new-err.ensures.faults told.err_calm rose)
     ∙ ap (λ (p : Outcome). append_known (Some err.taken) (line_text (name_of (network_in model) p) p)) e) in
-    let same : c.from_vec-model.result ≡ model = c.from_vec-model.ensures ∙ c.in_ok-from_slice.ensures.items in
+    let same : c.from_vec.result ≡ model = c.from_vec.ensures ∙ c.in-Ok-from_slice.ensures.items in
     record {
       status = c.status.ensures ∙ (done.status ∙ ap (λ (m : List ℕ). scenario_status trace m) (sym same));
-      text = c.in_ok-text.ensures ∙ (ap₂ (λ (x : List ℕ) (y : List ℕ). x ++ y) c.bytes.ensures c.bytes-2.ensures ∙ (done.text ∙ ap (λ (m : List ℕ). scenario_text trace m) (sym same)));
+      text = told.text ∙ (done.text ∙ ap (λ (m : List ℕ). scenario_text trace m) (sym same));
     }
