@@ -9,6 +9,8 @@ use Rattle.mq_base.proofs.lemmas.Lists.{drop_at, get-some, some_inj}
 use Rattle.mq_core.specs.Theorems.{IsReadFor}
 use Rattle.mq_core.specs.declared.model.Network.{Network}
 use Rattle.mq_core.specs.declared.model.Rows.{Rows}
+use Rattle.std.proofs.lemmas.Option.{slice_get-map}
+use Rattle.std.specs.Option.{option_map}
 use Rattle.mq_edits.specs.Edited.{AreEditsFor, edited_columns, edited_list, number_of}
 use Rattle.mq_edits.specs.Former.{CanEdit, HasRoom, IsFormerOf, StaysUpTo, columns_before, first_set, list_before, rows_before}
 use Rattle.mq_edits.specs.declared.former.FormerRows.{FormerRows}
@@ -125,13 +127,8 @@ next_is done all now i x is long less at =
     sym (next_item done all now i is long less) ∙ there now i x (omega arith) at
 
 -- an item of a mapped list
-get_map : {X Y : Type 0} (f : X → Y) (all : List X) (i : ℕ) (x : X) → slice_get all i ≡ Some x → slice_get (map f all) i ≡ Some (f x)
-get_map f [] i x at = absurd cc
-get_map f (z ∷ all) zero x at = let same : z ≡ x = cc in ap (λ w. Some (f w)) same
-get_map f (z ∷ all) (suc i) x at = get_map f all i x at
-
 pub mapped_is : {X Y : Type 0} (f : X → Y) (all : List X) (mapped : List Y) (i : ℕ) (x : X) (y : Y) → mapped ≡ map f all → slice_get all i ≡ Some x → slice_get mapped i ≡ Some y → y ≡ f x
-mapped_is f all mapped i x y is at there = some_inj y (f x) (sym there ∙ ap (λ l. slice_get l i) is ∙ get_map f all i x at)
+mapped_is f all mapped i x y is at there = some_inj y (f x) (sym there ∙ ap (λ l. slice_get l i) is ∙ slice_get-map f all i ∙ ap (option_map f) at)
 
 -- all are done
 pub all_done : {X : Type 0} (done all now : List X) (i : ℕ) → length all ≤ i → now ≡ done ++ drop i all → now ≡ done

@@ -27,7 +27,7 @@ use Rattle.mq_engine.specs.declared.progress.Stand.{Stand}
 use Rattle.mq_engine.specs.declared.progress.Stand.TheVariants.{Waiting, Done, Crowded, Late}
 use Rattle.mq_engine.proofs.Lists.{filter-none, has-index}
 
-all-pass : {X : Type 0} (test : X → Bool) (xs : List X) → ((k : ℕ) (x : X) → slice_get xs k ≡ Some x → test x ≡ true) → list_all test xs ≡ true
+pub all-pass : {X : Type 0} (test : X → Bool) (xs : List X) → ((k : ℕ) (x : X) → slice_get xs k ≡ Some x → test x ≡ true) → list_all test xs ≡ true
 all-pass test [] h = refl
 all-pass test (x ∷ xs) h = (λ k. h 0 x refl k && all-pass test xs (λ j y e. h (suc j) y e) k)
 

@@ -1,10 +1,10 @@
 -- Where a node has no difference its jobs ask for the same, and what is kept of it stays.
-use Rattle.std.proofs.Common.{◌≡◌, ◌==◌, ℕ, Bool, true, List, [], ◌∷◌, ◌++◌, length, map, refl, sym, ap, ◌∙◌, subst, arith, eqb-true}
+use Rattle.std.proofs.Common.{◌≡◌, ◌==◌, ℕ, true, List, [], ◌∷◌, ◌++◌, length, map, refl, sym, ap, ◌∙◌, subst, arith, eqb-true}
 use Rattle.std.specs.Prelude.{fold, max, replicate, slice_index}
 use Rattle.std.specs.List.{AllByRecursion as Each, flat_map, list_all}
-use Rattle.std.proofs.lemmas.Bool.{and_parts}
 use Rattle.std.proofs.lemmas.List.{map-append}
 use Rattle.std.proofs.lemmas.Option.{get_or_from_slice_get}
+use Rattle.mq_alike.proofs.Asking.{demands-each, of-first, one-each}
 use Rattle.mq_alike.specs.Again.{AlikeBelow, Coming, alike, asks_same, same_demand}
 use Rattle.mq_core.specs.Handling.{demand_of_job}
 use Rattle.mq_core.specs.Kinds.Split.{output_at, route_value}
@@ -33,19 +33,6 @@ use Rattle.mq_redo.specs.Staying.{IsKeptScan, IsKeptStation}
 use Rattle.mq_server.specs.Jobs.{job}
 use Rattle.mq_tandem.specs.Rows.{job_matrix, none_kept}
 
--- one demand
-one-each : (rows rows' : Rows) (demand : Demand) (jobs : List ℕ) → Each (λ job. same_demand rows rows' job demand ≡ true) jobs → map (demand_of_job rows demand) jobs ≡ map (demand_of_job rows' demand) jobs
-one-each rows rows' demand [] h = refl
-one-each rows rows' demand (job ∷ jobs) h = (λ i. eqb-true (demand_of_job rows demand job) (demand_of_job rows' demand job) h.0 i ∷ one-each rows rows' demand jobs h.1 i)
-
--- jobs that pass all tests of a list pass the first, and those behind it
-of-first : {X : Type 0} (test : ℕ → X → Bool) (x : X) (xs : List X) (jobs : List ℕ) → Each (λ job. list_all (test job) (x ∷ xs) ≡ true) jobs → Each (λ job. test job x ≡ true) jobs × Each (λ job. list_all (test job) xs ≡ true) jobs
-of-first test x xs [] h = (tt, tt)
-of-first test x xs (job ∷ jobs) h =
-    let parts = and_parts (test job x) (list_all (test job) xs) h.0 in
-    let more = of-first test x xs jobs h.1 in
-    ((parts.0, more.0), (parts.1, more.1))
-
 -- the demands of all stages
 stages-each : (rows rows' : Rows) (stages : List Stage) (jobs : List ℕ) → Each (λ job. list_all (λ (stage : Stage). same_demand rows rows' job stage.demand) stages ≡ true) jobs → asks_at_stages rows stages jobs ≡ asks_at_stages rows' stages jobs
 stages-each rows rows' [] jobs h = refl
@@ -53,13 +40,7 @@ stages-each rows rows' (stage ∷ stages) jobs h =
     let parts = of-first (λ job (stage : Stage). same_demand rows rows' job stage.demand) stage stages jobs h in
     (λ i. one-each rows rows' stage.demand jobs parts.0 i ∷ stages-each rows rows' stages jobs parts.1 i)
 
--- those of a branch, and of all branches
-demands-each : (rows rows' : Rows) (demands : List Demand) (jobs : List ℕ) → Each (λ job. list_all (same_demand rows rows' job) demands ≡ true) jobs → map (λ demand. map (demand_of_job rows demand) jobs) demands ≡ map (λ demand. map (demand_of_job rows' demand) jobs) demands
-demands-each rows rows' [] jobs h = refl
-demands-each rows rows' (demand ∷ demands) jobs h =
-    let parts = of-first (λ job demand. same_demand rows rows' job demand) demand demands jobs h in
-    (λ i. one-each rows rows' demand jobs parts.0 i ∷ demands-each rows rows' demands jobs parts.1 i)
-
+-- those of all branches
 servers-each : (rows rows' : Rows) (branches : List (List Demand)) (jobs : List ℕ) → Each (λ job. list_all (λ demands. list_all (same_demand rows rows' job) demands) branches ≡ true) jobs → asks_at_servers rows branches jobs ≡ asks_at_servers rows' branches jobs
 servers-each rows rows' [] jobs h = refl
 servers-each rows rows' (demands ∷ branches) jobs h =

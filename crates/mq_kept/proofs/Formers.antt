@@ -1,5 +1,6 @@
 -- How nodes come back to what they had before.
 use Rattle.std.proofs.Common.{◌≡◌, ◌≢◌, ℕ, ◌+◌, ◌<◌, ◌⊎◌, inl, inr, All, List, [], length, set, Some, sym, ap, ◌∙◌, subst, arith}
+use Rattle.std.proofs.lemmas.Bool.{cases_eq}
 use Rattle.std.specs.Prelude.{slice_get}
 use Rattle.std.proofs.lemmas.List.{length-set, same_lists, set-set}
 use Rattle.std.proofs.lemmas.Option.{get_or_from_slice_get, slice_get_within}
@@ -10,7 +11,6 @@ use Rattle.mq_kept.specs.declared.former.Former.{Former}
 use Rattle.mq_kept.specs.declared.former.Former.TheVariants.{Same}
 use Rattle.mq_kept.specs.declared.former.NodeLists.{NodeLists}
 use Rattle.mq_kept.specs.declared.former.Nodes.{Nodes}
-use Rattle.mq_kept.proofs.Ranks.{decide-eq}
 
 -- each node has lists, and no others
 pub lists-there : (count : ℕ) (nodes : Nodes) (v : ℕ) → AreNodes count nodes → v < count → (lists : NodeLists) × HasLists nodes v lists
@@ -66,7 +66,7 @@ module _ (nodes nodes' : Nodes) (v : ℕ) (lists : NodeLists) (p : IsPut nodes v
   comes-put before formers formers' c n inside long others back =
       record {
         count = subst (λ m. AreNodes m before) (sym long) c.count;
-        each = λ w was now former a b e. each w was now former a b e (decide-eq w v);
+        each = λ w was now former a b e. each w was now former a b e (cases_eq w v);
       }
     where
       each : (w : ℕ) (was now : NodeLists) (former : Former) → HasLists before w was → HasLists nodes' w now → slice_get formers' w ≡ Some former → (w ≡ v) ⊎ (w ≢ v) → lists_before former now ≡ was
@@ -78,7 +78,7 @@ module _ (nodes nodes' : Nodes) (v : ℕ) (lists : NodeLists) (p : IsPut nodes v
   -- and so fit, where that one does
   pub fits-put : (formers formers' : List Former) → AllFit nodes formers → AreNodes (length formers) nodes → v < length formers → ((w : ℕ) → w ≢ v → slice_get formers' w ≡ slice_get formers w) →
       ((former : Former) → slice_get formers' v ≡ Some former → FitsIn former lists) → AllFit nodes' formers'
-  fits-put formers formers' fit n inside others here = λ w now former b e. each w now former b e (decide-eq w v)
+  fits-put formers formers' fit n inside others here = λ w now former b e. each w now former b e (cases_eq w v)
     where
       each : (w : ℕ) (now : NodeLists) (former : Former) → HasLists nodes' w now → slice_get formers' w ≡ Some former → (w ≡ v) ⊎ (w ≢ v) → FitsIn former now
       each w now former b e (inl same) =
@@ -116,7 +116,7 @@ fits-first nodes formers same = λ v now former a e. subst (λ (f : Former). Fit
 
 -- one more has what it had
 pub same-more : (formers : List Former) (at : ℕ) → at < length formers → ((w : ℕ) → w < at → slice_get formers w ≡ Some Same) → (w : ℕ) → w < at + 1 → slice_get (set formers at Same) w ≡ Some Same
-same-more formers at l same w less = go (decide-eq w at)
+same-more formers at l same w less = go (cases_eq w at)
   where
     go : (w ≡ at) ⊎ (w ≢ at) → slice_get (set formers at Same) w ≡ Some Same
     go (inl e) = ap (slice_get (set formers at Same)) e ∙ get-set_same formers at Same l

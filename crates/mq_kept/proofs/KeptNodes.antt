@@ -1,5 +1,6 @@
 -- What is kept of the nodes, as far as a run has come by rank.
 use Rattle.std.proofs.Common.{◌≡◌, ◌≢◌, ℕ, ◌+◌, ◌<◌, ◌≤◌, ◌⊎◌, inl, inr, List, length, set, Some, sym, ap, ◌∙◌, subst, arith}
+use Rattle.std.proofs.lemmas.Bool.{cases_eq}
 use Rattle.std.specs.Prelude.{slice_get}
 use Rattle.std.proofs.lemmas.List.{length-set}
 use Rattle.mq_base.proofs.lemmas.Lists.{get-set_other, get-set_same, some_inj}
@@ -15,7 +16,7 @@ use Rattle.mq_core.specs.declared.model.Visits.{Visits}
 use Rattle.mq_kept.specs.KeptNodes.{AreCheckpoints, IsKeptNode, coming_of}
 use Rattle.mq_kept.specs.NodeRuns.{coming_to}
 use Rattle.mq_kept.specs.declared.checkpoints.Checkpoints.{Checkpoints}
-use Rattle.mq_kept.proofs.Ranks.{decide-eq, has-rank, rank-below}
+use Rattle.mq_kept.proofs.Ranks.{has-rank, rank-below}
 
 -- this is kept of the nodes below a rank
 pub record AreCheckpointsTo (plan : Plan) (rows : Rows) (block : ℕ) (visits : List Visits) (checkpoints : List Checkpoints) (rank : ℕ) : Type 0 where
@@ -35,7 +36,7 @@ pub checkpoints-more : (plan : Plan) (rows : Rows) (block : ℕ) (visits : List 
 checkpoints-more plan rows block visits checkpoints rank v node came kept was here there in_visits in_checkpoints is_kept =
     record {
       count = length-set checkpoints v kept ∙ was.count;
-      each = λ q w other seen points l e a b c. each q w other seen points l e a b c (decide-eq w v);
+      each = λ q w other seen points l e a b c. each q w other seen points l e a b c (cases_eq w v);
     }
   where
     each : (q w : ℕ) (other : Node) (seen : Visits) (points : Checkpoints) → q < rank + 1 → slice_get plan.order q ≡ Some w → slice_get plan.net.nodes w ≡ Some other → slice_get (set visits v came) w ≡ Some seen → slice_get (set checkpoints v kept) w ≡ Some points → (w ≡ v) ⊎ (w ≢ v) →

@@ -3,7 +3,7 @@ use Rattle.std.proofs.Common.{◌≡◌, ◌≢◌, ℕ, zero, suc, ◌+◌, ◌
 use Rattle.std.specs.Prelude.{◌==◌, ◌&&◌, ◌||◌, slice_get, sum_by}
 use Rattle.std.specs.Option.{option_map}
 use Rattle.std.specs.List.{list_all}
-use Rattle.std.proofs.lemmas.Bool.{cases_lt}
+use Rattle.std.proofs.lemmas.Bool.{cases_eq, cases_lt}
 use Rattle.std.proofs.lemmas.Bool.Decides.{nat_tests}
 use Rattle.std.proofs.lemmas.List.{get_or-replicate, length-replicate, length-set}
 use Rattle.std.proofs.lemmas.List.Sums.{sum_by_more, sum_by-take-le}
@@ -28,7 +28,7 @@ use Rattle.mq_engine.specs.Progress.{AreEarly, HasAll, IsReached, Tells, is_done
 use Rattle.mq_engine.specs.Waves.{IsWave}
 use Rattle.mq_engine.specs.declared.progress.Stand.{Stand}
 use Rattle.mq_engine.specs.declared.progress.Stand.TheVariants.{Waiting, Done, Crowded, Late}
-use Rattle.mq_engine.proofs.Endings.{each-done, none-refused, reached-stands, run-done}
+use Rattle.mq_engine.proofs.Endings.{all-pass, each-done, none-refused, reached-stands, run-done}
 use Rattle.mq_engine.proofs.Lists.{has-index}
 use Rattle.mq_engine.proofs.Waves.{has-all, put-keeps}
 use Rattle.mq_stations.specs.Leaving.{IsEarlyStream}
@@ -65,10 +65,6 @@ done-begins laws plan rows visits outputs came left early =
       waits = λ q v l e. get-replicate (length plan.net.nodes) v Waiting (laws.ranks plan q v e).inside;
     }
 
-all-pass : {X : Type 0} (test : X → Bool) (xs : List X) → ((k : ℕ) (x : X) → slice_get xs k ≡ Some x → test x ≡ true) → list_all test xs ≡ true
-all-pass test [] h = refl
-all-pass test (x ∷ xs) h = (λ k. h 0 x refl k && all-pass test xs (λ j y e. h (suc j) y e) k)
-
 -- a front of a list has what stands in it
 has-front : (xs : List ℕ) (q k n : ℕ) → k < q → slice_get xs k ≡ Some n → has (take q xs) n ≡ true
 has-front [] q k n l e = absurd cc
@@ -82,13 +78,6 @@ has-front (x ∷ xs) (suc q) (suc k) n l e = go (x == n) (has-front xs q k n (om
     go : (b : Bool) → has (take q xs) n ≡ true → (b || has (take q xs) n) ≡ true
     go true h = refl
     go false h = h
-
-pub decide-eq : (a b : ℕ) → (a ≡ b) ⊎ (a ≢ b)
-decide-eq a b = go (a == b) refl
-  where
-    go : (t : Bool) → (a == b) ≡ t → (a ≡ b) ⊎ (a ≢ b)
-    go true e = inl (grind (arith, nat_tests))
-    go false e = inr (λ s. grind (arith, nat_tests))
 
 -- of the nodes below the next rank, another than the one at this stands below it
 pub rank-below : (plan : Plan) (rank q v w : ℕ) → q < rank + 1 → slice_get plan.order rank ≡ Some v → slice_get plan.order q ≡ Some w → w ≢ v → q < rank
@@ -144,8 +133,8 @@ module _ (laws : CoreLaws) (plan : Plan) (rows : Rows) (visits : List Visits) (o
           came = length-set visits v came ∙ d.reached.came;
           left = length-set outputs v [] ∙ d.reached.left;
           stand = d.reached.stand;
-          told = λ w node at there e. told w node at there e (decide-eq w v);
-          early = λ u out streams stream a b. early u out streams stream a b (decide-eq u v);
+          told = λ w node at there e. told w node at there e (cases_eq w v);
+          early = λ u out streams stream a b. early u out streams stream a b (cases_eq u v);
         };
         done = d.done;
         waits = d.waits;
@@ -176,7 +165,7 @@ module _ (laws : CoreLaws) (plan : Plan) (rows : Rows) (visits : List Visits) (o
       record {
         stands = set d.stands v Done;
         reached = put-keeps plan rows (record { number = v; ending = OnTime came left }) visits (set visits v came) outputs (set outputs v left) d.stands (set d.stands v Done) d.reached (node, there, known) (refl, refl, refl);
-        done = λ q w l g. done w (decide-eq w v) (λ apart. d.done q w (rank-below plan rank q v w l here g apart) g);
+        done = λ q w l g. done w (cases_eq w v) (λ apart. d.done q w (rank-below plan rank q v w l here g apart) g);
         waits = λ q w l g. get-set_other d.stands v w Done (later-apart q w l g) ∙ d.waits q w (omega arith) g;
       }
     where

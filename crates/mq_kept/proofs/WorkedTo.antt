@@ -1,5 +1,6 @@
 -- What a run that goes by rank has worked out in the place of a kept one, node after node.
 use Rattle.std.proofs.Common.{◌≡◌, ◌≢◌, ℕ, ◌+◌, ◌*◌, ◌^◌, ◌<◌, ◌≤◌, ◌⊎◌, inl, inr, All, List, length, set, take, Option, Some, None, refl, sym, ap, ◌∙◌, subst, arith}
+use Rattle.std.proofs.lemmas.Bool.{cases_eq}
 use Rattle.std.specs.Prelude.{slice_get, sum_by}
 use Rattle.std.proofs.lemmas.List.{length-set}
 use Rattle.std.proofs.lemmas.Option.{slice_get-get_or, slice_get_within}
@@ -35,7 +36,7 @@ use Rattle.mq_kept.specs.declared.nodes.NodeRun.{NodeRun}
 use Rattle.mq_kept.proofs.CameBefore.{kept-came}
 use Rattle.mq_kept.proofs.Formers.{comes-first, comes-put, fits-first, fits-put, lists-there, put-count}
 use Rattle.mq_kept.proofs.KeptNodes.{AreCheckpointsTo, coming-net, checkpoints-all, checkpoints-begin, checkpoints-more}
-use Rattle.mq_kept.proofs.Ranks.{IsDoneTo, decide-eq, done-begins, inside, is-fine, is-run, later-apart, more, rank-below, read-before, refuses, sum-more, sum-within}
+use Rattle.mq_kept.proofs.Ranks.{IsDoneTo, done-begins, inside, is-fine, is-run, later-apart, more, rank-below, read-before, refuses, sum-more, sum-within}
 
 -- how much of a node is done again and worked, and how many blocks it has
 abbrev pub again_at_node : Plan → Rows → ℕ → Option Rows → ℕ → ℕ
@@ -203,7 +204,7 @@ module _ (laws : CoreLaws) (plan : Plan) (rows : Rows) (block : ℕ) (old : Opti
               (λ was former g e. subst (λ f. lists_before f gives.lists ≡ was) (some_inj gives.former former (sym former-here ∙ e)) (back ∙ has-first lists was h g));
           fit = fits-put worked.nodes worked'.nodes v gives.lists put worked.formers.items worked'.formers.items w.fit w.count in-formers former-other (λ former e. subst (λ f. FitsIn f gives.lists) (some_inj gives.former former (sym former-here ∙ e)) fits);
           waits = λ q u l e. former-other u (later-apart laws plan rows worked.nodes.visits.items worked.nodes.outputs.items rank v w.done here q u l e) ∙ w.waits q u (omega arith) e;
-          stayed = λ q u l e g. stayed-more q u l e g (decide-eq u v);
+          stayed = λ q u l e g. stayed-more q u l e g (cases_eq u v);
           again = again_is ∙ ((λ i. w.again i + again i) ∙ sym (sum-more (again_at_node plan rows block old) plan.order rank v here));
           all = all_is ∙ ((λ i. w.all i + all i) ∙ sym (sum-more (blocks_at_node plan rows block) plan.order rank v here));
           again_few = let so_far = w.again_few in let is = again_is in omega arith;

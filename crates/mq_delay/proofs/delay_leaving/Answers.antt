@@ -1,4 +1,4 @@
-use Rattle.mq_delay.proofs.Leaving.{times-in_order}
+use Rattle.mq_merge.proofs.Sorted.{times-in_order}
 use Rattle.mq_delay.proofs.delay_leaving.Goals as goal
 
 pub returns-clause-times : goal.returns-clause-times
