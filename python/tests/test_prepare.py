@@ -364,6 +364,9 @@ class Values(Test):
         self.assertEqual((made.sources, made.left), (["buro", "buro_2", "zed", "zed"], {"who is empty": 1}))
         both = prepare(rows, "when", source="who", rename=["Büro=one", "buro=one", "Z=one"])
         self.assertEqual((both.sources, both.names), (["one"] * 4, ["one"]))
+        # One whose rows are all left out may be renamed too.
+        late = prepare(table("8:00,a,1", "x,B,1", "8:01", "8:02,C,1"), "when", format="clock", source="who", rename=["B=b", "C=c"], model="model 1\nsource a\n")
+        self.assertEqual((late.names, sum(late.left.values())), (["a"], 3))
         self.assertEqual((prepare(rows, "when").names, prepare(rows, "when", source="calls").names), (["jobs"], ["calls"]))
 
 

@@ -123,6 +123,13 @@ class Refusals(InFolder):
             ("--constant wrap long: no length of time: it is a number and one of us, ms, s, sec, min, h, d", table(ROW), "--constant", "wrap=long"),
             ("--empty 800000d is more than 2^36 ticks", table(ROW), "--empty", "800000d"),
             ("--rename a=B: it is OLD=NEW, where NEW is a small letter, then small letters, digits and underscores", table(ROW), "--rename", "a=B"),
+            ("--rename a: it is given twice", table(ROW), "--source", "who", "--rename", "a=b", "--rename", " a=c"),
+            ("--rename says nothing without a column of --source", table(ROW), "--rename", "a=b"),
+            ("--rename says nothing without a column of --source", table(ROW), "--rename", "jobs=b", "--source", "calls"),
+            ("there is no source 'B' for --rename; it has 'a', 'b'", table(ROW, "8:01,b,1", "8:02,a,1"), "--source", "who", "--rename", "B=c"),
+            # As the export has it, and not as it is called.
+            ("there is no source 'sales' for --rename; it has 'Sales'", table("8:00, Sales ,1"), "--source", "who", "--rename", "sales=c"),
+            ("there is no source 'x' for --rename; it has none", table("25:00,,1", "25:01"), "--format", "clock", "--source", "who", "--rename", "x=c"),
             ("1 record before --begin 9:00, where time 0 is to be", table(ROW), "--begin", "9:00"),
             ("--begin noon: no ISO 8601 time", table(ROW), "--begin", "noon"),
             ("--begin 2026-03-02: it has a day, and the times have none", table(ROW), "--begin", "2026-03-02"),
@@ -155,6 +162,7 @@ class Refusals(InFolder):
             ("the model names d, which no --demand, --end, --constant or --code gives",),
             ("the model has no source b (--source)", "--demand", "long=d", "--source", "b"),
             ("no row is left; 1 row: who: the model has no source b (row 2, 'b')", "--demand", "long=d", "--source", "who"),
+            ("there is no source 'c' for --rename; it has 'b'", "--demand", "long=d", "--source", "who", "--rename", "c=a"),
         ):
             self.assertEqual(planner(*words, *more), (1, "", f"planner: {export}: {line}\n"))
         model.write_bytes(b"model 1\nsource \xff\n")
@@ -180,6 +188,11 @@ class Limits(Test):
         with self.assertRaisesRegex(ValueError, "64 sources, where a model has at most 63: give one name for all, or --rename several to one"):
             prepare(table(*rows), "when", source="who")
         self.assertEqual(len(prepare(table(*rows[1:]), "when", source="who").names), 63)
+
+    def test_sources_that_are_listed(self):
+        rows = [f"8:00,s{it},1" for it in range(23)]
+        with self.assertRaisesRegex(ValueError, "there is no source 'S1' for --rename; it has 's0', .*'s19' and 3 more$"):
+            prepare(table(*rows), "when", source="who", rename=["S1=x"])
 
     def test_columns(self):
         constants = [f"c{it}=1s" for it in range(17)]

@@ -11,6 +11,8 @@ from .zones import Zone
 
 # What a trace has at most.
 COLUMNS = 16
+# So many sources of an export are told, of which a wrong column may have as many as rows.
+LISTED = 20
 
 
 class Plan:
@@ -152,7 +154,11 @@ class Plan:
     def sources(self, source, rename):
         """Who sends jobs, and so all that is asked."""
         header, known = self.export.header, sources(self.model) if self.model else None
-        column, only, renamed = None, source or "jobs", dict(_renamed(it) for it in rename)
+        column, only, renamed = None, source or "jobs", {}
+        for old, new in map(_renamed, rename):
+            if old in renamed:
+                raise ValueError(f"--rename {old}: it is given twice")
+            renamed[old] = new
         if source in header:
             column, only = self.export.column(source), None
         elif not is_name(only) or source and only.casefold() in map(str.casefold, header):
@@ -161,7 +167,22 @@ class Plan:
             raise ValueError(f"the model has no source {only} (--source)")
         elif source:
             self.told.append(f"all records are of the source {source}")
+        if renamed and column is None:
+            raise ValueError("--rename says nothing without a column of --source")
         self.records = Records(len(header), self.time, self.answered, self.columns, column, only, renamed, known)
+
+    def judge_renames(self):
+        """Looks at the names that were given once all rows are read. Raises ValueError for that of a source that no row has; one whose rows are all
+        left out is there too."""
+        if self.records.renamed.keys() <= self.records.names.keys():
+            return
+        column = self.records.source
+        found = dict.fromkeys(row[column].strip() for row in self.export.rows()[0] if column < len(row))
+        listed = [repr(it) for it in found if it]
+        for old in self.records.renamed:
+            if old not in found:
+                more = f" and {len(listed) - LISTED} more" if listed[LISTED:] else ""
+                raise ValueError(f"there is no source {old!r} for --rename; it has {', '.join(listed[:LISTED]) or 'none'}{more}")
 
 
 def _renamed(word):

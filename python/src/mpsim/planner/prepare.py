@@ -50,7 +50,7 @@ def words(parser):
     add("--constant", action="append", default=[], metavar="NAME=LENGTH", help="a service that all have, as wrap=90s")
     add("--code", action="append", default=[], metavar="COLUMN[=NAME]", help="a column of words as numbers from 0, for a split")
     add("--empty", metavar="LENGTH", help="what an empty service is; else its row is left out")
-    add("--rename", action="append", default=[], metavar="OLD=NEW", help="a name for a source")
+    add("--rename", action="append", default=[], metavar="OLD=NEW", help="a name for a source, which is OLD in the export")
     add("--decimal", choices=[".", ","], help="the decimal mark; else it is found")
     add("--delimiter", metavar="CHARACTER", help="else it is found; \\t is a tab")
     add("--encoding", metavar="NAME", help="else UTF-8, UTF-16 with a mark, or Windows-1252, which has what Latin-1 has")
@@ -227,6 +227,7 @@ def _read_some(plan, rows, number, made):
 
 def _finished(plan, rows, begin):
     """The trace of rows that are read."""
+    plan.judge_renames()
     left = [
         f"{counted(count, 'row')}: {why}" + (f" ({where})" if count == 1 else f"; the first is {where}")
         for why, (count, where) in sorted(rows.left.items(), key=lambda it: -it[1][0])
