@@ -131,6 +131,9 @@ class Days(InFolder):
         self.assertEqual(planner("days", model, trace, "--every", "0")[0], 1)
         self.assertEqual(planner("days", model, trace, "--every", "10", "--open", "8:00")[0], 1)
         self.refuses('"8 o\'clock": no time of the day as h:mm or h:mm:ss', "days", model, trace, "--open", "8 o'clock")
+        why = "and days go from midnight to midnight: --every cuts shifts"
+        for opens, closes in ("18:00", "8:00"), ("8:00", "08:00:00"), ("24:00", "24:00"), ("8:00 pm", "12:00 pm"):
+            self.refuses(f"--close {closes} isn't later than --open {opens}, {why}", "days", model, trace, "--open", opens, "--close", closes)
         # Without a line feed it is a model all the same, and no path.
         cr = self.file("cr.txt", TOLD.replace("\n", "\r"))
         shown = TOLD.replace("\n", "\\r").removesuffix("\\r")
@@ -142,6 +145,21 @@ class Days(InFolder):
         self.refuses(told, "days", model, self.trace([(20260302080017, 1)]))
         self.refuses(f"{self.folder}/absent: No such file or directory", "days", model, self.folder / "absent")
         self.assertEqual(self.tells("days", model, self.trace([])).count("\n"), 1)
+
+    def test_no_day_is_left(self):
+        """A header alone, and a line that says so. A day closes at midnight at the latest, and at the earliest."""
+        trace, model = self.trace([(0, 60), (DAY, 30)]), self.file("m.txt", TOLD)
+        for words in ("--open", "23:00"), ("--close", "8:00"), ("--close", "0:00"), ("--open", "24:00"), ("--open", "8:00:01", "--close", "24:00"):
+            left = "planner: 2 records before a day opens or after it closes, left out: no day is left\n"
+            self.assertEqual(self.tells("days", model, trace, *words, error=left).count("\n"), 1)
+        told = rows_of(self.tells("days", model, trace, "--open", "8:00", "--close", "24:00", "--node", "desk"), "day")
+        self.assertEqual(list(told), ["2026-03-27", "2026-03-28"])
+
+    def test_a_shift_over_midnight(self):
+        """From 18 o'clock to 2 o'clock, by pieces of a day from 18 o'clock on, which is time 0."""
+        trace, model = self.trace([(0, 10), (7 * HOUR, 10), (DAY + 1, 5), (DAY + 8 * HOUR, 5)]), self.file("m.txt", DESK)
+        told = rows_of(self.tells("days", model, trace, "--every", DAY, "--node", "desk"), "day")
+        self.assertEqual({day: it["in"] for day, it in told.items()}, {"0..86399": "2", "86400..172799": "2"})
 
 
 class Hours(InFolder):

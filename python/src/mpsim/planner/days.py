@@ -34,7 +34,7 @@ def words(parser):
     parser.add_argument("trace")
     parser.add_argument("--node", action="append", default=[], metavar="NAME", help="rows of this node, or pool, alone; may be repeated")
     parser.add_argument("--open", metavar="H:MM", help="time 0 of each day; else it is the first record of the day")
-    parser.add_argument("--close", metavar="H:MM", help="records of this time and later are left out, and counted")
+    parser.add_argument("--close", metavar="H:MM", help="later than --open; records of this time and later are left out, and counted")
     parser.add_argument("--every", type=int, metavar="TICKS", help="no days, but pieces of so many ticks from time 0 on")
     calendar.words(parser)
 
@@ -60,12 +60,15 @@ def cut(times, begins, names, opens=None, closes=None):
 
 
 def by_calendar(times, days, opens=None, closes=None):
-    """The pieces of times by the days of a calendar (Calendar), as `cut` gives them. `opens` and `closes` are times of the day (str, as "8:00")."""
+    """The pieces of times by the days of a calendar (Calendar), as `cut` gives them. `opens` and `closes` are times of the day (str, as "8:00").
+    Raises ValueError where one is none, or a day closes before it opens."""
     last = max(times, default=0)
     days_until(days, last)
     found = list(days.midnights(last))
     begins = [days.tick_at(begin) for _, begin, _ in found] + [days.tick_at(end) for _, _, end in found[-1:]]
     clocks = [_clock(it) if it else None for it in (opens, closes)]
+    if None not in clocks and clocks[1] <= clocks[0]:
+        raise ValueError(f"--close {closes} isn't later than --open {opens}, and days go from midnight to midnight: --every cuts shifts")
     hours = [None if it is None else [days.tick_at(days.place.first(day * DAY + it)) for day, _, _ in found] for it in clocks]
     return cut(times, begins, [days.name(day) for day, _, _ in found], *hours)
 
@@ -121,7 +124,7 @@ def main(asked):
     for line in pool_lines(sweep.reports().values(), asked.node):
         say(line)
     if left:
-        say(f"{counted(left, 'record')} before a day opens or after it closes, left out")
+        say(f"{counted(left, 'record')} before a day opens or after it closes, left out" + ("" if pieces else ": no day is left"))
     if over:
         when = f"in {over} of {len(pieces)} pieces" if asked.every else f"on {over} of {len(pieces)} days"
         say(f"{when} somebody is still there when the next begins, who isn't there in its run")
