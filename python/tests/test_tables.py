@@ -286,6 +286,19 @@ class Run(InFolder):
         trace = self.file("u.csv", "source,time,d\ndoor,0,1\ndoor,1,4\n")
         self.refuses("node desk position 1 passes the bound at time 5", "run", late, trace, status=5)
 
+    def test_words_of_a_page(self):
+        """They are judged before the report is written, and without a page they say nothing."""
+        page = self.folder / "page.html"
+        for words in ("--tick", "1s"), ("--start", "2026-03-02"), ("--zone", "Europe/Berlin"):
+            self.refuses(f"{words[0]} says nothing without --page", "run", MODEL, TRACE, *words)
+        for words, line in (
+            (("--start", "2026-03-02"), "how long is a tick? --tick and --start say it, or the first lines of the model, as planner prepare writes them"),
+            (("--tick", "1s", "--start", "08:00"), "--start 08:00: no ISO 8601 time"),
+            (("--tick", "1s", "--zone", "X/Y"), "this machine has no time zone 'X/Y': they are called as Europe/Berlin"),
+        ):
+            self.refuses(line, "run", MODEL, TRACE, "--page", page, *words)
+        self.assertFalse(page.exists())
+
 
 if __name__ == "__main__":
     unittest.main()

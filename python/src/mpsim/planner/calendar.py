@@ -13,6 +13,11 @@ def words(parser):
     parser.add_argument("--zone", metavar="NAME", help="the zone whose days and hours count; else the same")
 
 
+def words_of(asked):
+    """The options (list of str) of those that `words` declares that are given."""
+    return [f"--{name}" for name in ("tick", "start", "zone") if getattr(asked, name) is not None]
+
+
 def of(asked, model=None):
     """The Calendar of a command's words and of a model's text (str or None). Raises ValueError where neither tells how long a tick is."""
     tick, start, zone = told_in(model or "")

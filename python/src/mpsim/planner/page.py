@@ -23,9 +23,9 @@ def words(parser):
 
 def axes(asked, text):
     """The options of a page that come of a command's words and of a model's text (str or None): how many seconds a tick has, and what a clock shows
-    at time 0. None of them where nobody says how long a tick is."""
+    at time 0. None of them where nobody says how long a tick is, unless other words want it."""
     tick, start, _ = calendar.told_in(text or "")
-    if not (asked.tick or tick):
+    if not (tick or calendar.words_of(asked)):
         return {}
     days = calendar.of(asked, text)
     return {"tick": days.tick / SECOND, "start": moment(days.wall(0)) if asked.start or start else None}
@@ -52,11 +52,12 @@ def main(asked):
                 report.model = text
             except ValueError as fault:
                 raise ValueError(f"{asked.model}: {fault}") from None
+    times = axes(asked, text)
     if asked.out.endswith(".svg"):
         with written(asked.out) as file:
             file.write(page.drawing(labelled[0][1]))
         return
     labels = [label for label, _ in labelled]
     title = asked.title or (labels[0] if len(labels) == 1 else None)
-    page.save(asked.out, [it for _, it in labelled], labels, title, within=asked.within, **axes(asked, text))
+    page.save(asked.out, [it for _, it in labelled], labels, title, within=asked.within, **times)
     tell_pools([it for _, it in labelled])

@@ -37,12 +37,15 @@ def warned(path):
 
 
 def main(asked):
+    for word in calendar.words_of(asked) if not asked.page else ():
+        raise ValueError(f"{word} says nothing without --page")
     looks = warned(asked.trace)
     if looks:
         say(f"warning: {asked.trace}: its times look like {looks}, and are taken as ticks: planner prepare makes ticks of them")
     report = runs.run(asked.model, asked.trace, jobs=bool(asked.jobs or asked.page))
+    times = axes(asked, report.model) if asked.page else {}
     with written() as file:
         file.writelines(report.lines(jobs=asked.jobs))
     if asked.page:
-        report.save(asked.page, title=os.path.basename(asked.trace), **axes(asked, report.model))
+        report.save(asked.page, title=os.path.basename(asked.trace), **times)
         tell_pools([report])
