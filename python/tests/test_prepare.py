@@ -274,6 +274,14 @@ class Values(Test):
         self.assertEqual((made.header[2:], [it.tolist() for it in made.values]), (["talk", "wrap", "kind"], [[90, 90], [90, 90], [0, 1]]))
         self.assertEqual(made.left, {"answer is empty": 1})
         self.assertEqual(prepare(rows, "come", answered="answer", end=["end"], empty="5s", begin="day").left, {"answer is empty": 1})
+        # Who gave up is told so in each format, apart from what can't be read.
+        for form in "%Y-%m-%d %H:%M:%S", "%a, %d %b %Y %H:%M:%S", "%Y%m%d%H%M%S", "%d.%m.%Y %H:%M":
+            begin, end = (datetime(2026, 3, 2, 8, it).strftime(form) for it in (0, 2))
+            rows = [f'"{begin}","{it}","{end}"' for it in ("", "  ", "x", *[begin] * 12)]
+            left = prepare(table(*rows, header="come,answer,end"), "come", answered="answer", end=["end"]).left
+            self.assertEqual((left.pop("answer is empty"), list(left.values())), (2, [1]), form)
+        rows = table("2026-03-02 08:00,1", ",1", "2026-03-02 08:01,1", header="come,d")
+        self.assertEqual(prepare(rows, "come").left, {"come is empty": 1})
         full = table("2026-03-02 08:00,2026-03-02 07:59", *["2026-03-02 08:00,2026-03-02 08:07"] * 9, "2026-03-02 08:00,0:05", header="come,end")
         made = prepare(full, "come", end=["end"])
         self.assertEqual((made.values[0].tolist(), made.left), ([420] * 9, {"end: before it begins": 1, "end: no ISO 8601 time": 1}))

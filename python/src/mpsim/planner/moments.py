@@ -135,10 +135,11 @@ class Moments:
         return since, offset
 
     def _of_parts(self, text, than=None):
+        text = _there(text)
         try:
             day, rest = self._parts[0](text)
         except ValueError:
-            raise Unread(f"not of the format {self.form}" if text.strip() else "empty") from None
+            raise Unread(f"not of the format {self.form}") from None
         since, offset = self._rests[rest]
         return self.zone.utc(self._walls[day] + since, self._seen, than) if offset is None else self._walls[day] + since - offset
 
