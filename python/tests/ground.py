@@ -57,6 +57,13 @@ def waits_of(text, node):
     return [int(words[6]) for words in words_of(text, "job") if words[2] == node and words[5] == "wait"]
 
 
+def hour_of(clock):
+    """What an hour of a day is called that a clock shows (a datetime with a zone): with the offset where it comes twice, or a part of it."""
+    shown = [clock.replace(minute=it, fold=0) for it in range(60)]
+    is_twice = any(it.utcoffset() > it.replace(fold=1).utcoffset() for it in shown)
+    return clock.strftime("%Y-%m-%d %H:00") + clock.isoformat()[-6:] * is_twice
+
+
 @contextlib.contextmanager
 def programs_in(folder):
     """Has the programs of a folder run, within the block."""

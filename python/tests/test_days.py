@@ -10,7 +10,7 @@ import zoneinfo
 from collections import defaultdict
 
 from commands import InFolder, planner
-from ground import DESK, EXAMPLES, Test, nodes_of, words_of
+from ground import DESK, EXAMPLES, Test, hour_of, nodes_of, words_of
 
 import mpsim
 from mpsim.planner.calendar import Calendar
@@ -191,7 +191,7 @@ class Hours(InFolder):
         names = {
             "hour": lambda it: f"{it.hour:02}:00",
             "day": lambda it: str(it.date()),
-            "each": lambda it: f"{it.date()} {it.hour:02}:00",
+            "each": hour_of,
             "weekday": lambda it: it.strftime("%A"),
         }
         for by, name in names.items():
@@ -206,7 +206,8 @@ class Hours(InFolder):
                         part[2].append(int(words[6]))
             _, *told = hours(visits, Calendar(SECOND, start.isoformat(), "Europe/Berlin"), by, [100], [90])
             self.assertEqual({it[0] for it in told}, set(want))
-            order = ["Monday", "Tuesday", "Wednesday", "Thursday", "Friday", "Saturday", "Sunday"] if by == "weekday" else sorted(want)
+            week = ["Monday", "Tuesday", "Wednesday", "Thursday", "Friday", "Saturday", "Sunday"]
+            order = {"weekday": week, "hour": sorted(want)}.get(by, list(want))
             self.assertEqual([it[0] for it in told], [it for it in order if it in want])
             for part, came, departed, lost, held, mean, p90, greatest, of_all, of_departed in told:
                 _, gone, waits = want[part]
@@ -216,6 +217,15 @@ class Hours(InFolder):
                     self.assertEqual((mean, greatest), (round(sum(waits) / len(waits), 3), max(waits)))
                     self.assertEqual(p90, sorted(waits)[math.ceil(0.9 * len(waits)) - 1])
                     self.assertEqual((of_all, of_departed), (round(share / came, 6), round(share / departed, 6)))
+
+    def test_a_night_on_which_clocks_go_back(self):
+        """Calls an hour apart: each has an hour by itself, of 25 that the day has."""
+        model = self.file("m.txt", TOLD.replace("2026-03-27T08:00:00+01:00", "2026-10-25T00:00:00+02:00"))
+        trace = self.file("t.csv", "source,time,d\n" + "".join(f"door,{it * HOUR},5\n" for it in range(25)))
+        told = came(self.tells("hours", model, trace, "--node", "desk", "--by", "each"))
+        self.assertEqual((list(told.values()), list(told)[1:5]), (["1"] * 25, [f"2026-10-25 {it}" for it in ("01:00", "02:00+02:00", "02:00+01:00", "03:00")]))
+        told = came(self.tells("hours", model, trace, "--node", "desk"))
+        self.assertEqual((len(told), told["02:00"]), (24, "2"))
 
     def test_comments_of_any_bytes(self):
         """As mpsim takes them; what isn't a comment is refused."""

@@ -4,7 +4,7 @@ import unittest
 from datetime import datetime, timedelta, timezone
 from zoneinfo import ZoneInfo
 
-from ground import Test
+from ground import Test, hour_of
 
 from mpsim.planner.calendar import Calendar, first_lines, told_in
 from mpsim.planner.times import Asks, Unread
@@ -76,13 +76,14 @@ class Zones(Test):
 
 class Calendars(Test):
     def test_days_and_hours(self):
-        """Each five minutes of some days around each change are of the day and of the hour that datetime says."""
+        """Each five minutes of some days around each change are of the day and of the hour that datetime says; of each hour by itself also of which
+        one, where two of a day are called alike."""
         for name in ZONES[:5]:
             zone, late = ZoneInfo(name), [datetime(2026, 10, 23, 0, 0), datetime(2026, 10, 31, 3, 30)]
             for start in datetime(2026, 3, 6, 17, 5), datetime(2026, 3, 27, 17, 5), datetime(2026, 4, 3, 7, 0), datetime(2026, 10, 2, 0, 0), *late:
                 zero = start.replace(tzinfo=zone).astimezone(timezone.utc)
                 cal = Calendar(60 * SECOND, start.isoformat(), name)
-                for by, form in ("day", "%Y-%m-%d"), ("each", "%Y-%m-%d %H:00"), ("hour", "%H:00"), ("weekday", "%A"):
+                for by, form in ("day", "%Y-%m-%d"), ("each", None), ("hour", "%H:00"), ("weekday", "%A"):
                     begins, names = cal.parts(by, 4 * 1440)
                     self.assertEqual(begins, sorted(begins))
                     at = 0
@@ -90,7 +91,21 @@ class Calendars(Test):
                         while at + 1 < len(begins) and begins[at + 1] <= minute:
                             at += 1
                         here = (zero + timedelta(minutes=minute)).astimezone(zone)
-                        self.assertEqual(names[at], here.strftime(form), (name, by, here))
+                        self.assertEqual(names[at], here.strftime(form) if form else hour_of(here), (name, by, here))
+
+    def test_hours_that_come_twice(self):
+        """Each is a part by itself, with the offset; by the hour of the day they are one. In Lord Howe half an hour comes twice."""
+        for name, day, hour, offsets, ticks in (
+            ("Europe/Berlin", "2026-10-25", "02:00", ("+02:00", "+01:00"), [120, 180]),
+            ("Australia/Lord_Howe", "2026-04-05", "01:00", ("+11:00", "+10:30"), [60, 120]),
+        ):
+            cal = Calendar(60 * SECOND, day, name)
+            begins, names = cal.parts("each", 1440)
+            self.assertEqual([it for it in zip(names, begins) if "+" in it[0]], [(f"{day} {hour}{it}", at) for it, at in zip(offsets, ticks)])
+            self.assertEqual({len(it) for it in names if "+" not in it}, {16})
+            self.assertEqual(cal.parts("hour", 1440)[1].count(hour), 2)
+        # Where clocks are set forward no hour is told with its offset.
+        self.assertFalse([it for it in Calendar(60 * SECOND, "2026-03-29", "Europe/Berlin").parts("each", 1380)[1] if "+" in it])
 
     def test_midnights(self):
         cal = Calendar(SECOND, "2026-10-24T08:00", "Europe/Berlin")

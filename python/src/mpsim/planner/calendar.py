@@ -107,18 +107,25 @@ class Calendar:
             raise ValueError("weekdays want the date of time 0: --start says it")
         begins, names = [], []
         for day, begin, end in self.midnights(last):
-            for value in [begin] if by in ("day", "weekday") else self._hours(begin, end):
-                hour = f"{self.place.wall(value) % DAY // HOUR:02}:00"
-                begins.append(self.tick_at(value))
-                weekday = WEEKDAYS[moment(day * DAY).weekday()]
-                names.append({"day": self.name(day), "weekday": weekday, "hour": hour}.get(by, f"{self.name(day)} {hour}"))
+            values = [begin] if by in ("day", "weekday") else list(self._hours(begin, end))
+            begins += map(self.tick_at, values)
+            names += {"day": [self.name(day)], "weekday": [WEEKDAYS[moment(day * DAY).weekday()]]}.get(by) or self._named(day, values, by)
         return begins, names
 
+    def _named(self, day, values, by):
+        """What the hours of a day are called that begin at these moments (a list): of two that are called alike each has its offset from UTC, but by
+        "hour"."""
+        hours = [f"{self.place.wall(it) % DAY // HOUR:02}:00" for it in values]
+        if by == "hour":
+            return hours
+        return [f"{self.name(day)} {hour}" + (self.place.offset(it) if hours.count(hour) > 1 else "") for hour, it in zip(hours, values)]
+
     def _hours(self, begin, end):
-        """The moments within a day at which an hour of the clock begins, the one that comes twice once. Clocks change by half an hour as well."""
+        """The moments within a day at which an hour of the clock begins; one that comes twice, or a part of it, begins twice. Clocks change by half an
+        hour as well."""
         last = None
         for value in range(begin, end, 15 * MINUTE):
-            hour = self.place.wall(value) // HOUR
-            if hour != last:
+            wall = self.place.wall(value)
+            if last is None or wall // HOUR != last // HOUR or wall <= last:
                 yield value
-            last = hour
+            last = wall

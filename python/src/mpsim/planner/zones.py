@@ -90,6 +90,10 @@ class Zone:
         """The ISO 8601 text of a moment, with its offset where there is a zone."""
         return (self._here(value) if self.zone else moment(value)).isoformat()
 
+    def offset(self, value):
+        """By how much the clock is before UTC at a moment, as "+02:00"; an empty text without a zone."""
+        return self._here(value).isoformat(timespec="seconds")[19:] if self.zone else ""
+
     def told(self):
         """What is to be told of the hours that came twice."""
         for day, count in sorted(self.again.items()):
