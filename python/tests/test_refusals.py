@@ -34,6 +34,7 @@ class Refusals(InFolder):
             (b"", "it is empty"),
             (b"\r\n\r\n", "it is empty"),
             (b"\xef\xbb\xbf", "it is empty"),
+            (b"sep=;\n", "it is empty"),
             ("\n".encode("utf-16"), "it is empty"),
             (b"\n" + table(ROW), "it begins with an empty line: --skip says how many lines stand before its header"),
             (table(), "column 'when': no time to find the format by (--format)"),
@@ -44,6 +45,10 @@ class Refusals(InFolder):
             (b'when,"' + b"x" * 200000, "row 1: field larger than field limit (131072): is a quote not closed?"),
         ):
             self.is_refused(f"EXPORT: {line}", data)
+        some = table(ROW, ROW)
+        for data, skip, lines in (some, 9, "3 lines"), (some, 3, "3 lines"), (b"x\n\n", 1, "2 lines"), (b"x\nsep=;\n", 1, "2 lines"), (b"x", 1, "1 line"):
+            self.is_refused(f"EXPORT: --skip {skip}: it has {lines}, and no header is left", data, "--skip", skip)
+        self.is_refused("EXPORT: it is empty", b"\n\n", "--skip", "1")
         self.is_refused("EXPORT: line 2: the byte ff is no utf-8 (--encoding)", b"when\n\xff\n", "--encoding", "utf-8")
         self.is_refused("EXPORT: there is no encoding 'utf-9' (--encoding)", table(ROW), "--encoding", "utf-9")
         self.is_refused("EXPORT: there is no encoding 'hex' (--encoding)", table(ROW), "--encoding", "hex")
@@ -131,6 +136,8 @@ class Refusals(InFolder):
             ("there is no source 'sales' for --rename; it has 'Sales'", table("8:00, Sales ,1"), "--source", "who", "--rename", "sales=c"),
             ("there is no source 'x' for --rename; it has none", table("25:00,,1", "25:01"), "--format", "clock", "--source", "who", "--rename", "x=c"),
             ("1 record before --begin 9:00, where time 0 is to be", table(ROW), "--begin", "9:00"),
+            ("--begin 25:00: no time of the day", table(ROW), "--begin", "25:00"),
+            ("--begin 8:60 pm: no time of the day", table("2026-03-02 08:00,a,1"), "--begin", "8:60 pm"),
             ("--begin noon: no ISO 8601 time", table(ROW), "--begin", "noon"),
             ("--begin 2026-03-02: it has a day, and the times have none", table(ROW), "--begin", "2026-03-02"),
             ("column 'long' is read as clock, and column 'when' as ticks", table("5,a,8:00"), "--format", "ticks", "--end", "long"),

@@ -8,6 +8,8 @@ import itertools
 import re
 from collections import Counter
 
+from .files import counted
+
 DELIMITERS = ";\t,|"
 # So many rows are looked at where formats and marks are to be found.
 SAMPLE = 1 << 15
@@ -95,30 +97,37 @@ class Export:
         self.delimiter = self._found_delimiter() if delimiter is None else delimiter.replace("\\t", "\t")
         if len(self.delimiter) != 1 or self.delimiter in '"\r\n':
             raise ValueError(f"{delimiter!r} is no delimiter, which is one character (--delimiter)")
-        self.header = self._header()
+        self.header = self._header(skip)
         if header is not None:
             self.header = [it.strip() for it in header.split(",")]
         self.sample = self._sample()
 
-    def _lines(self):
-        """The lines from the header on, as they end."""
+    def _lines(self, skip=None):
+        """The lines from the header on, or behind so many, as they end."""
         lines = io.TextIOWrapper(io.BytesIO(self._data), self._encoding, errors="replace", newline="")
-        return itertools.islice(lines, self._skip, None)
+        return itertools.islice(lines, self._skip if skip is None else skip, None)
 
     def _found_delimiter(self):
         found = found_delimiter(list(itertools.islice(self._lines(), 200)))
         self.told.append(f"the delimiter is {found!r}")
         return found
 
-    def _header(self):
+    def _header(self, skip):
         try:
             header = next(self._reader(self._lines()), [])
         except csv.Error as fault:
             raise ValueError(f"row {self._skip + 1}: {fault}: is a quote not closed?") from None
         if not any(it.strip() for it in header):
-            is_empty = not any(it.strip() for it in self._lines())
-            raise ValueError("it is empty" if is_empty else "it begins with an empty line: --skip says how many lines stand before its header")
+            raise ValueError(self._no_header(skip))
         return [it.strip() for it in header]
+
+    def _no_header(self, skip):
+        """Why there is none."""
+        if any(it.strip() for it in self._lines()):
+            return "it begins with an empty line: --skip says how many lines stand before its header"
+        lines = list(self._lines(0))
+        is_empty = skip == 0 or not any(it.strip() for it in lines)
+        return "it is empty" if is_empty else f"--skip {skip}: it has {counted(len(lines), 'line')}, and no header is left"
 
     def _reader(self, lines):
         return csv.reader(lines, delimiter=self.delimiter)

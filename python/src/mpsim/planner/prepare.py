@@ -308,7 +308,7 @@ def _zero(plan, begin, first):
         return first - place.wall(first) % HOUR
     midnight = place.wall(first) // DAY * DAY
     if begin == "day" or CLOCK.fullmatch(begin):
-        return place.first(midnight + (0 if begin == "day" else clock(begin)))
+        return place.first(midnight + (0 if begin == "day" else given("--begin", clock, begin)))
     wall, offset = given("--begin", iso, begin)
     if not plan.has_day:
         raise ValueError(f"--begin {begin}: it has a day, and the times have none")
