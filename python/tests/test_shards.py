@@ -161,6 +161,8 @@ class InMemory(InFolder):
         for words, line in (
             ([self.model], "a sweep wants a model and a trace"),
             ([self.model, self.trace, "--set", "lines=1..3"], "model m: a name in braces has no --set (KeyError: 'column')"),
+            ([self.model, self.trace], "model m: {lines} has no --set: --set lines=FROM..TO, or --set lines=VALUE,VALUE"),
+            ([self.model, self.trace, "--folder", "x"], "model m: {lines} has no --set"),
             ([self.model, self.trace, "--set", "agents=1..3"], "--set agents: no model has {agents}"),
             ([self.model, self.trace, "--set", "lines=3..1"], "--set lines=3..1: from 3 to 1 there is no number"),
             ([self.model, self.trace, "--set", "lines=1", "--set", "lines=2"], "--set lines: it is given twice"),
@@ -180,6 +182,33 @@ class InMemory(InFolder):
                 self.assertEqual((status, out, len(lines)), (1, "", 1), lines)
                 self.assertTrue(lines[0].startswith(f"planner: {line}"), lines)
         self.assertFalse((self.folder / "x").exists())
+
+
+    def test_nodes_that_are_not_there(self):
+        """Nothing is run, and nothing is written: each model is asked, also where a node's name has a value in it."""
+        other, ran, stand_ins = self.folder / "other.txt", self.folder / "ran", self.folder / "programs"
+        other.write_text("\ufeffmodel 1\r\n # source zz\r\nsource calls\r\nsplit desk_queue 2 turn from calls\r\n server s{lines} {column} from desk_queue")
+        stand_ins.mkdir()
+        stand_in(stand_ins, "mpsweep", f"touch {ran}")
+        values = "--set", "column=a", "--set", "lines=1..3"
+        for node, models, line in (
+            ("zz", [self.model], "model m: there is no node 'zz'; it has calls, lines"),
+            ("lines", [self.model, self.trace, "--model", other], "model other: there is no node 'lines'; it has calls, desk_queue, s1"),
+            ("zz", [other], "model other: there is no node 'zz'; it has calls, desk_queue, s1"),
+            ("s1", [other], "model other: there is no node 's1'; it has calls, desk_queue, s2"),
+        ):
+            words = [*models, *[self.trace] * (len(models) == 1), *values, "--node", "calls", "--node", node]
+            for more in [], ["--folder", self.at]:
+                told = self.told(*words, *more, settings={"MPSIM_PROGRAMS": str(stand_ins)})
+                self.assertEqual(told, (1, "", [f"planner: {line}"]))
+        self.assertFalse(ran.exists() or self.at.exists())
+        # A pool has a name where no node may have it.
+        other.write_text("model 1\nsource calls\nsplit desk_queue 2 turn from calls\nserver desk_1 a from desk_queue\nserver desk_2 a from desk_queue.1\n")
+        told = self.told(other, self.trace, "--node", "desk")
+        self.assertEqual((told[0], told[1].splitlines()[1].split(",")[4:6]), (0, ["desk", "pool"]), told)
+        self.told(other, self.trace, "--folder", self.at)
+        for way in "--table", "--resume":
+            self.assertEqual(self.told("--folder", self.at, way, "--node", "zz")[:2], (1, ""))
 
 
 class Shards(InFolder):

@@ -7,6 +7,7 @@ import os
 import re
 
 from ..runs import MODELS
+from .pooled import queue_name
 from .table import heads
 
 # A plan's columns of the table, but for those of the values.
@@ -88,6 +89,9 @@ class Plan:
         for name in sets:
             if not any(re.search(rf"\{{{name}\b", it) for it in texts):
                 raise ValueError(f"--set {name}: no model has {{{name}}}")
+        for label, text in zip(labels_of(models), texts if not sets else ()):
+            if found := re.search(r"\{([A-Za-z_]\w*)\}", "\n".join(_lines_of(text)), re.ASCII):
+                raise ValueError(f"model {label}: {found[0]} has no --set: --set {found[1]}=FROM..TO, or --set {found[1]}=VALUE,VALUE")
         named = [{"label": label, "path": path, "sum": None} for label, path in zip(labels_of(traces), traces)]
         plan = cls(list(zip(labels_of(models), texts)), sets, named)
         for at in range(len(models)):
@@ -118,6 +122,17 @@ class Plan:
         except (LookupError, ValueError, AttributeError) as fault:
             raise ValueError(f"model {label}: a name in braces has no --set ({type(fault).__name__}: {fault})") from None
 
+    def judge_nodes(self, nodes):
+        """Raises ValueError for the name of a node, or of a pool, that a model hasn't: nothing has to be run to know that."""
+        for which, (label, text) in enumerate(self.models if nodes else ()):
+            # Where no name has a value in it, one variant tells of all.
+            count = self.combinations if any("{" in it for it in _names_in(text)) else 1
+            for at in range(which * self.combinations, which * self.combinations + count):
+                names = _names_in(self.model(at)[2])
+                for name in nodes:
+                    if name not in names and queue_name(name) not in names:
+                        raise ValueError(f"model {label}: there is no node {name!r}; it has {', '.join(names) or 'none'}")
+
     def shard(self, number):
         """Of a shard its trace, and the numbers of its models (a range)."""
         trace, piece = divmod(number - 1, self.a_trace)
@@ -139,6 +154,17 @@ class Plan:
         if not isinstance(told, dict) or told.pop("sum", None) != _sum_of_parts(told):
             raise ValueError("the sum is another one")
         return cls(told["models"], told["sets"], told["traces"])
+
+
+def _lines_of(text):
+    """The lines (list of str) of a model's text that are no comments."""
+    return [it for it in text.split("\n") if not it.lstrip(" \t").startswith("#")]
+
+
+def _names_in(text):
+    """The names (list of str) of the nodes that the lines of a model's text are of, of one that mpsim refuses too."""
+    words = map(str.split, _lines_of(text.removeprefix("\ufeff")))
+    return [it[1] for it in words if len(it) > 1 and it[0] not in ("model", "bound")]
 
 
 def _sum_of_parts(told):

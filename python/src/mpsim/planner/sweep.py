@@ -54,6 +54,7 @@ def _judged(asked):
 def _plan(asked):
     models, traces = ([it] if it else [] for it in (asked.model, asked.trace))
     plan = Plan.of(files_of([*models, *asked.models]), sets_of(asked.set), files_of([*traces, *asked.traces]))
+    plan.judge_nodes(asked.node)
     for it in plan.traces:
         if warning := pool_warning(it["path"], header_of(it["path"])):
             say(warning)
@@ -194,6 +195,7 @@ def _tell_lacking(folder, damaged):
 def _in_folder(asked):
     if asked.resume or asked.table or asked.shard is not None:
         folder = shards.Folder.read(asked.folder)
+        folder.plan.judge_nodes(asked.node)
     else:
         folder = shards.Folder.begun(asked.folder, _plan(asked))
     if asked.shard is not None:
