@@ -46,6 +46,15 @@ class Service(InFolder):
         told = rows_of(self.tells("service", JOBS, "--node", "desk", "--within", 4, "--within", 3, "--percentile", 99.9))
         self.assertEqual((told[0][6], told[1][6:]), ("p99.9", ["8", "8"] + 4 * ["0.428571"]))
 
+    def test_a_figure_that_is_asked_twice(self):
+        """It is told once, where it was asked first."""
+        twice = "--within", 5, "--percentile", 90, "--within", 0, "--within", "05", "--percentile", 50, "--percentile", "90.0"
+        told = rows_of(self.tells("service", JOBS, "--node", "desk", *twice))[0]
+        shares = [f"within_{it}_of_{whom}" for it in (5, 0) for whom in ("all", "departed")]
+        self.assertEqual(told[6:], ["p90", "p50", "max", *shares])
+        told = rows_of(self.tells("sojourns", JOBS, "--by", "all", *twice))[0]
+        self.assertEqual(told, ["jobs", "mean_sojourn", "p90", "p50", "max", "within_5", "within_0"])
+
     def test_beside_each_stored_report(self):
         """Counts and percentiles as the lines of the nodes have them, shares as the library."""
         count = 0
@@ -82,7 +91,10 @@ class Service(InFolder):
         self.refuses(NO_JOBS, "service", REPORT)
         self.refuses(f"{JOBS}: there is no node 'deck'; it has phone, web, greet, menu, expert, desk, wrap", "service", JOBS, "--node", "deck")
         self.refuses("a percentile is from 0 to 100, and not 101.0", "service", JOBS, "--percentile", 101)
-        self.assertEqual(planner("service", JOBS, "--within", "x")[0], 2)
+        pool, sweep, page = ("--node", "desk", "--agents", 2), (MODEL, TRACE), (JOBS, "--out", self.folder / "page.html")
+        for words in ("service", JOBS), ("hours", JOBS), ("pool", MODEL, TRACE, *pool), ("sojourns", JOBS), ("sweep", *sweep), ("page", *page):
+            for text, why in ("-1", "-1: expected a number of ticks, from 0 on"), ("x", "invalid ticks value: 'x'"), ("1.5", "invalid ticks value: '1.5'"):
+                self.refuses(f"argument --within: {why} (planner {words[0]} --help tells more)", *words, f"--within={text}", status=2)
         self.refuses("/absent: cannot read the model", "service", "/absent", "/absent", status=6)
         self.assertEqual(planner("service", "/absent"), (1, "", "planner: /absent: No such file or directory\n"))
 

@@ -7,6 +7,7 @@ from ..sweeps import Sweep, load
 from . import calendar
 from .files import say, text_of, written
 from .pooled import pool_lines
+from .service import ticks
 from .times import SECOND, moment
 
 EXAMPLE = "planner page jobs.txt --model model.txt --out run.html"
@@ -17,7 +18,7 @@ def words(parser):
     parser.add_argument("--model", metavar="FILE", help="the model of the reports, for the network")
     parser.add_argument("--out", metavar="FILE", required=True, help="the page; with a name that ends in .svg the network of the first report")
     parser.add_argument("--title", metavar="TEXT", help="its title; else the name of the report")
-    parser.add_argument("--within", type=int, metavar="TICKS", help="the share served within so many ticks is a figure as well")
+    parser.add_argument("--within", type=ticks, metavar="TICKS", help="the share served within so many ticks is a figure as well")
     calendar.words(parser)
 
 

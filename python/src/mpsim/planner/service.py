@@ -1,5 +1,6 @@
 """The customer's numbers: who was served, how soon, and how long the others waited."""
 
+import argparse
 import csv
 from bisect import bisect_right
 
@@ -17,9 +18,24 @@ def words(parser):
     figure_words(parser)
 
 
-def figure_words(parser):
-    parser.add_argument("--within", type=int, action="append", metavar="TICKS", help="the share served within so many ticks (20); may be repeated")
-    parser.add_argument("--percentile", type=float, action="append", metavar="P", help="of the waits (50, 90, 95 and 99); may be repeated")
+def figure_words(parser, what="waits", share="the share served within so many ticks (20)"):
+    parser.add_argument("--within", type=ticks, action=Once, metavar="TICKS", help=f"{share}; may be repeated")
+    parser.add_argument("--percentile", type=float, action=Once, metavar="P", help=f"of the {what} (50, 90, 95 and 99); may be repeated")
+
+
+def ticks(text):
+    """The ticks (int) of a word of --within."""
+    if (value := int(text)) < 0:
+        raise argparse.ArgumentTypeError(f"{text}: expected a number of ticks, from 0 on")
+    return value
+
+
+class Once(argparse.Action):
+    """An option that may be repeated; a value that stands there already is no further one."""
+
+    def __call__(self, parser, asked, value, option=None):
+        before = getattr(asked, self.dest) or []
+        setattr(asked, self.dest, before if value in before else [*before, value])
 
 
 def heads(within=(20,), percents=PERCENTS):

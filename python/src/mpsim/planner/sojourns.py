@@ -8,7 +8,7 @@ from typing import NamedTuple
 from ..node_visits import HELD, percentile_of
 from . import reports
 from .files import written
-from .service import PERCENTS
+from .service import PERCENTS, figure_words
 
 EXAMPLE = "planner sojourns model.txt trace.csv --by source --within 300"
 
@@ -28,8 +28,7 @@ class Sojourn(NamedTuple):
 def words(parser):
     reports.words(parser)
     parser.add_argument("--by", choices=["both", "source", "end", "all"], default="both", help="a row a source, a node where jobs left, or both")
-    parser.add_argument("--within", type=int, action="append", default=[], metavar="TICKS", help="the share of sojourns of at most so many ticks")
-    parser.add_argument("--percentile", type=float, action="append", metavar="P", help="of the sojourns (50, 90, 95 and 99); may be repeated")
+    figure_words(parser, "sojourns", "the share of sojourns of at most so many ticks")
     parser.add_argument("--each", action="store_true", help="a row a job in place of the table")
 
 
@@ -107,6 +106,6 @@ def each(report):
 
 def main(asked):
     report = reports.report_of(asked)
-    rows = each(report) if asked.each else list(table(report, asked.by, asked.within, asked.percentile or PERCENTS))
+    rows = each(report) if asked.each else list(table(report, asked.by, asked.within or (), asked.percentile or PERCENTS))
     with written() as file:
         csv.writer(file, lineterminator="\n").writerows(rows)

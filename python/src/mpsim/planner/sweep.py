@@ -13,6 +13,7 @@ from .files import say, written
 from .pooled import PoolLines, names_of, visits_at
 from .progress import Progress
 from .scenarios import Plan, files_of, sets_of
+from .service import ticks
 from .traces import header_of, pool_warning
 
 EXAMPLE = """planner sweep model.txt trace.csv --set agents=20..40 --page sweep.html >table.csv
@@ -27,7 +28,7 @@ def words(parser):
     parser.add_argument("--model", dest="models", action="extend", nargs="+", default=[], metavar="FILE", help="further models, or a pattern of them")
     parser.add_argument("--trace", dest="traces", action="extend", nargs="+", default=[], metavar="FILE", help="further traces, or a pattern of them")
     parser.add_argument("--node", action="append", default=[], metavar="NAME", help="rows of this node, or pool, alone; may be repeated")
-    parser.add_argument("--within", type=int, metavar="TICKS", help="with two columns of the share served within so many ticks; takes longer")
+    parser.add_argument("--within", type=ticks, metavar="TICKS", help="with two columns of the share served within so many ticks; takes longer")
     parser.add_argument("--page", metavar="FILE", help="an HTML file with curves over the values as well")
     folder = parser.add_argument_group("any number of scenarios, on any machines")
     folder.add_argument("--folder", metavar="FOLDER", help="keeps the sweep there, cut into shards of up to 64 models")
