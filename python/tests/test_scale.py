@@ -3,11 +3,13 @@
 import random
 import unittest
 from collections import Counter
+from unittest import mock
 
 from commands import InFolder, planner
 from ground import Test, text_of
 
 import mpsim
+from mpsim.planner import scale
 from mpsim.planner.scale import closer, copies, ratio, scaled
 from mpsim.planner.traces import Trace
 
@@ -109,6 +111,25 @@ class Command(InFolder):
         self.assertIn("0 records of 2: of each 2 records of a source 1 stand there, at their own times", told)
         text, told = self.made("--by", "2", "--twins", "--source", "a")
         self.assertEqual((text.count("a,0,5"), text.count("b,7,6")), (2, 1))
+
+    def test_limits(self):
+        """As many records as mpsim takes, and times up to its greatest; more is refused in the words of `planner edit`, and nothing is written."""
+        self.assertEqual((scale.RECORDS, scale.GREATEST_TIME), (1 << 20, 1 << 60))
+        more = "--by {}: {} more than the {} that mpsim takes"
+        trace, out = self.file("t.csv", f"source,time,d\na,0,1\nb,3,1\na,{2**58},1\n"), self.folder / "o.csv"
+        words = "scale", trace, "--out", out, "--by"
+        self.refuses(more.format(999999, "1,951,421 records", 1 << 20), *words, 999999, "--twins")
+        with mock.patch.object(scale, "RECORDS", 4):
+            for by, way, over in ("2", ["--twins"], "2 records"), ("5/2", ["--shift", 9], "3 records"), ("5/2", ["--twins", "--source", "a"], "2 records"):
+                self.refuses(more.format(by, over, 4), *words, by, *way)
+            self.refuses(more.format("3", "1 record", 4), *words, "3", "--twins", "--source", "b")
+            self.assertFalse(out.exists())
+            for by, way in ("3/2", ["--twins"]), ("2", ["--twins", "--source", "b"]), ("9", ["--times"]):
+                self.made("--by", by, *way)
+        self.refuses(f"--by 1/5: a time of {5 * 2**58}, which is above {1 << 60}", *words, "1/5", "--times")
+        late = self.file("late.csv", f"source,time\na,{2**59}\na,{2**60}\n")
+        self.refuses(f"--by 2: a time of {2**60 + 1}, which is above {1 << 60}", "scale", late, "--by", 2, "--shift", 2**59 + 1)
+        self.assertIn(f"a,{2**60},1", self.made("--by", "1/4", "--times")[0])
 
     def test_refusals(self):
         trace = str(self.trace)

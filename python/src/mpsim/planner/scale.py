@@ -6,6 +6,7 @@ from collections import Counter
 from fractions import Fraction
 
 from .files import counted, say, written
+from .prepare import GREATEST_TIME, RECORDS
 from .traces import Trace, pool_warning
 
 EXAMPLE = "planner scale trace.csv --by 5/4 --shift 604800 --out more.csv"
@@ -17,8 +18,6 @@ TWINS = (
     "so that twins come at one moment and wait for one another: "
     "that makes waits longer than a load of this kind would (twice as long in one trial); --shift doesn't"
 )
-# What a trace may have.
-RECORDS = 1 << 20
 
 
 def words(parser):
@@ -92,6 +91,12 @@ def scaled(trace, k, n, way, shift=None, only=()):
     return Trace(trace.path, trace.header, [[trace.rows[at][0], str(time), *trace.rows[at][2:]] for time, at in made])
 
 
+def _count(trace, k, n, way, only):
+    """How many records `scaled` makes: too many are refused before there is any."""
+    counts = Counter(trace.sources())
+    return sum(count if way == "times" or only and source not in only else k * count // n for source, count in counts.items())
+
+
 def means(k, n, way, shift=None, only=()):
     """What `scaled` does, in words (str).
 
@@ -128,11 +133,13 @@ def main(asked):
     if way == "twins" and not asked.twins and k > n:
         raise ValueError(f"--by {asked.by}: say how: --shift TICKS (those of a day or a week), --times or --twins")
     trace = Trace.read(asked.trace)
+    if (more := _count(trace, k, n, way, asked.source) - RECORDS) > 0:
+        raise ValueError(f"--by {asked.by}: {counted(more, 'record')} more than the {RECORDS} that mpsim takes")
     made = scaled(trace, k, n, way, asked.shift, asked.source)
+    if made.rows and (last := int(made.rows[-1][1])) > GREATEST_TIME:
+        raise ValueError(f"--by {asked.by}: a time of {last}, which is above {GREATEST_TIME}")
     with written(asked.out) as file:
         csv.writer(file, lineterminator="\n").writerows(made.lines())
     if warning := pool_warning(asked.trace, trace.header):
         say(warning)
-    if len(made.rows) > RECORDS:
-        say(f"warning: {len(made.rows)} records, where mpsim takes {RECORDS}")
     say(f"{counted(len(made.rows), 'record')} of {len(trace.rows):,}: {means(k, n, way, asked.shift, asked.source)}")
