@@ -1,6 +1,7 @@
 """The command `planner`: its words, how it ends, and what it leaves behind."""
 
 import contextlib
+import csv
 import io
 import os
 import re
@@ -13,13 +14,14 @@ import time
 import unittest
 
 from commands import InFolder, planner
-from ground import EXAMPLES, PYTHON, ROOT, SOURCES, Test, text_of
+from ground import DESK, EXAMPLES, PYTHON, ROOT, SOURCES, Test, text_of
 
 import mpsim
 from mpsim.planner import COMMANDS
 from mpsim.planner.command import line_of
 from mpsim.planner.files import bytes_of, text_of as model_text, written
 from mpsim.planner.progress import Progress
+from mpsim.planner.traces import Trace
 
 EXPORT = EXAMPLES / "export" / "calls.csv"
 ASKED = [EXPORT, "--date", "Datum", "--time", "Uhrzeit", "--source", "Warteschlange"]
@@ -57,6 +59,30 @@ class Words(Test):
         for command, more in (COMMAND, {}), ([sys.executable, "-B", "-m", "mpsim.planner"], {"PYTHONPATH": str(SOURCES)}):
             ran = subprocess.run([*command, "--version"], cwd="/", env={**os.environ, **more}, capture_output=True, text=True)
             self.assertEqual((ran.returncode, ran.stdout), (0, f"planner {mpsim.__version__}\n"))
+
+
+class LongFields(InFolder):
+    def test_fields_as_long_as_a_trace_may_be(self):
+        """mpsim takes them, and so does each command that reads a trace. Python's own limit is as it was then, and `prepare` keeps to it."""
+        note, model = "x" * 200000, self.file("m.txt", DESK)
+        trace = self.file("t.csv", f"source,time,d,note\ndoor,0,5,b\ndoor,3,5,{note}")
+        changes, out, more = self.file("c.csv", "record,source,time,d,note\n1,,+1,,\n+,door,9,1,c\n"), self.folder / "o.csv", self.folder / "p.csv"
+        limit = csv.field_size_limit()
+        for words in (
+            ("scale", trace, "--by", 1, "--twins", "--out", out),
+            ("edit", trace, changes, "--out", more),
+            ("days", model, trace, "--every", 9),
+            ("pool", model, trace, "--node", "desk", "--agents", 1),
+            ("run", model, trace),
+            ("sweep", model, trace),
+        ):
+            self.assertEqual(planner(*words)[0], 0, words)
+            self.assertEqual(csv.field_size_limit(), limit)
+        self.assertEqual((text_of(out), text_of(more)), (text_of(trace) + "\n", text_of(trace).replace("door,0", "door,1") + "\ndoor,9,1,c\n"))
+        self.assertEqual(Trace.read(trace).rows[1][3], note)
+        line = f"{trace}: behind row 1: field larger than field limit ({limit}): is a quote not closed?"
+        self.refuses(line, "prepare", trace, "--time", "time", "--format", "ticks")
+        self.assertEqual(csv.field_size_limit(), limit)
 
 
 class Ends(InFolder):

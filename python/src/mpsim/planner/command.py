@@ -13,6 +13,7 @@ from .. import __version__
 from ..errors import Error, ReportError
 from . import COMMANDS
 from .files import say
+from .traces import fields_up_to
 
 
 class _Parser(argparse.ArgumentParser):
@@ -97,7 +98,7 @@ def ended(argv):
         _open_outputs()
     try:
         asked = _parser(argv[0] if argv else None).parse_args(argv)
-        with _ended_by_signals():
+        with _ended_by_signals(), fields_up_to():
             status = asked.main(asked) or 0
             sys.stdout.flush()
             return status

@@ -16,6 +16,7 @@ from .plan import Plan
 from .progress import Progress
 from .records import Code, Demand, End, Left, Sum
 from .times import CLOCK, DAY, HOUR, SECOND, Asks, clock, given, iso
+from .traces import fields_up_to
 from .zones import TWICE, Zone
 
 EXAMPLE = (
@@ -25,8 +26,8 @@ EXAMPLE = (
 RECORDS, GREATEST_TIME, SOURCES, BYTES = 1 << 20, 1 << 60, 63, 1 << 27
 # So many rows are taken together that they stay near the processor.
 CHUNK = 1 << 10
-# A field of more lines is told.
-LINES = 20
+# A field of more lines is told, and one of more characters refused: behind a quote that is left open all is one field.
+LINES, FIELD = 20, 1 << 17
 
 
 def words(parser):
@@ -138,11 +139,12 @@ def prepare(
     name = "the export" if isinstance(export, (bytes, bytearray)) else os.fspath(export)
     data = bytes(export) if isinstance(export, (bytes, bytearray)) else bytes_of(export)
     try:
-        plan = Plan(Export(data, encoding, delimiter, skip, header), place, per, format, decimal, model)
-        plan.times(time, date, date_format, day, answered)
-        plan.values(demand, end, constant, code, empty)
-        plan.sources(source, rename)
-        return _finished(plan, _read(plan, left_out), begin)
+        with fields_up_to(FIELD):
+            plan = Plan(Export(data, encoding, delimiter, skip, header), place, per, format, decimal, model)
+            plan.times(time, date, date_format, day, answered)
+            plan.values(demand, end, constant, code, empty)
+            plan.sources(source, rename)
+            return _finished(plan, _read(plan, left_out), begin)
     except ValueError as fault:
         raise ValueError(f"{name}: {fault}") from None
 

@@ -10,6 +10,20 @@ from ..inputs import records_of
 from .files import bytes_of
 
 
+# As many bytes as a trace may have, and so a field of it.
+LONGEST = 1 << 27
+
+
+@contextlib.contextmanager
+def fields_up_to(most=LONGEST):
+    """Has Python's reader of CSV take fields of so many characters (int) within the block, of which it has one limit for all."""
+    before = csv.field_size_limit(most)
+    try:
+        yield
+    finally:
+        csv.field_size_limit(before)
+
+
 class Trace:
     """A trace: its `path` (str), its `header` (list of str), and its `rows` (a list of lists of str, of as many fields each), in the order of the
     file, without empty lines. Bytes that aren't UTF-8 stand in it as Python's surrogateescape has them.
@@ -32,12 +46,13 @@ class Trace:
         text = bytes_of(path).decode("utf-8", "surrogateescape")
         lines = io.StringIO(text.removeprefix("\ufeff"), newline="")
         try:
-            if texts is None:
-                rows.extend(filter(None, csv.reader(lines)))
-            else:
-                for record, fields in records_of(lines):
-                    texts.append(record if rows or not text.startswith("\ufeff") else "\ufeff" + record)
-                    rows.append(fields)
+            with fields_up_to():
+                if texts is None:
+                    rows.extend(filter(None, csv.reader(lines)))
+                else:
+                    for record, fields in records_of(lines):
+                        texts.append(record if rows or not text.startswith("\ufeff") else "\ufeff" + record)
+                        rows.append(fields)
         except csv.Error as fault:
             raise ValueError(f"{path}: record {len(rows)}: {fault}") from None
         header, rows = (rows[0], rows[1:]) if rows else ([], [])
