@@ -223,7 +223,8 @@ class Hours(InFolder):
         model = self.file("m.txt", TOLD.replace("2026-03-27T08:00:00+01:00", "2026-10-25T00:00:00+02:00"))
         trace = self.file("t.csv", "source,time,d\n" + "".join(f"door,{it * HOUR},5\n" for it in range(25)))
         told = came(self.tells("hours", model, trace, "--node", "desk", "--by", "each"))
-        self.assertEqual((list(told.values()), list(told)[1:5]), (["1"] * 25, [f"2026-10-25 {it}" for it in ("01:00", "02:00+02:00", "02:00+01:00", "03:00")]))
+        night = [f"2026-10-25 {it}" for it in ("01:00", "02:00+02:00", "02:00+01:00", "03:00")]
+        self.assertEqual((list(told.values()), list(told)[1:5]), (["1"] * 25, night))
         told = came(self.tells("hours", model, trace, "--node", "desk"))
         self.assertEqual((len(told), told["02:00"]), (24, "2"))
 

@@ -24,7 +24,6 @@ from mpsim.page.colours import COLOURS, DARK, LIGHT, style
 from mpsim.page.pictures import distribution, nice, number_over_time, over_time
 
 JOBS = EXAMPLES / "callcentre" / "jobs.txt"
-NO_TICK = "how long is a tick? --tick and --start say it, or the first lines of a --model, as planner prepare writes them"
 
 
 def number(text):
@@ -352,15 +351,9 @@ class Files(Test):
             ((JOBS, "--model", other), f"{other}: the model isn't that of the report: its nodes are others"),
             ((absent,), f"{absent}: No such file or directory"),
             ((EXAMPLES / "callcentre" / "report.txt", "--within", "20"), "the share within a time wants the lines of the jobs: jobs=True, or --jobs"),
-            ((JOBS, "--start", "2026-03-02T08:00"), NO_TICK),
-            ((JOBS, "--zone", "Europe/Berlin", "--model", MODEL), NO_TICK),
-            ((JOBS, "--start", "08:00", "--tick", "1s"), "--start 08:00: no ISO 8601 time"),
-            ((JOBS, "--zone", "X/Y", "--tick", "1s"), "this machine has no time zone 'X/Y': they are called as Europe/Berlin"),
         ):
             with self.subTest(line):
                 self.assertEqual(self.told("page", *words, "--out", out), (1, "", f"planner: {line}\n"))
-        # Of a picture of the network too, which has no times.
-        self.assertEqual(self.told("page", JOBS, "--start", "banana", "--out", self.folder / "network.svg"), (1, "", f"planner: {NO_TICK}\n"))
         self.assertEqual(list(self.folder.iterdir()), [])
 
     def test_a_report_that_is_cut(self):

@@ -373,7 +373,8 @@ class Values(Test):
         both = prepare(rows, "when", source="who", rename=["Büro=one", "buro=one", "Z=one"])
         self.assertEqual((both.sources, both.names), (["one"] * 4, ["one"]))
         # One whose rows are all left out may be renamed too.
-        late = prepare(table("8:00,a,1", "x,B,1", "8:01", "8:02,C,1"), "when", format="clock", source="who", rename=["B=b", "C=c"], model="model 1\nsource a\n")
+        late, given = table("8:00,a,1", "x,B,1", "8:01", "8:02,C,1"), {"format": "clock", "source": "who", "model": "model 1\nsource a\n"}
+        late = prepare(late, "when", rename=["B=b", "C=c"], **given)
         self.assertEqual((late.names, sum(late.left.values())), (["a"], 3))
         self.assertEqual((prepare(rows, "when").names, prepare(rows, "when", source="calls").names), (["jobs"], ["calls"]))
 

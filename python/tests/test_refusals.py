@@ -46,7 +46,7 @@ class Refusals(InFolder):
         ):
             self.is_refused(f"EXPORT: {line}", data)
         some = table(ROW, ROW)
-        for data, skip, lines in (some, 9, "3 lines"), (some, 3, "3 lines"), (b"x\n\n", 1, "2 lines"), (b"x\nsep=;\n", 1, "2 lines"), (b"x", 1, "1 line"):
+        for data, skip, lines in (some, 9, "3 lines"), (some, 3, "3 lines"), (b"x\n\n", 1, "2 lines"), (b"x\nsep=;\n", 1, "2 lines"):
             self.is_refused(f"EXPORT: --skip {skip}: it has {lines}, and no header is left", data, "--skip", skip)
         self.is_refused("EXPORT: it is empty", b"\n\n", "--skip", "1")
         self.is_refused("EXPORT: line 2: the byte ff is no utf-8 (--encoding)", b"when\n\xff\n", "--encoding", "utf-8")
@@ -134,7 +134,7 @@ class Refusals(InFolder):
             ("there is no source 'B' for --rename; it has 'a', 'b'", table(ROW, "8:01,b,1", "8:02,a,1"), "--source", "who", "--rename", "B=c"),
             # As the export has it, and not as it is called.
             ("there is no source 'sales' for --rename; it has 'Sales'", table("8:00, Sales ,1"), "--source", "who", "--rename", "sales=c"),
-            ("there is no source 'x' for --rename; it has none", table("25:00,,1", "25:01"), "--format", "clock", "--source", "who", "--rename", "x=c"),
+            ("there is no source 'x' for --rename; it has none", table("8:00,,1", "8:01"), "--source", "who", "--rename", "x=c"),
             ("1 record before --begin 9:00, where time 0 is to be", table(ROW), "--begin", "9:00"),
             ("--begin 25:00: no time of the day", table(ROW), "--begin", "25:00"),
             ("--begin 8:60 pm: no time of the day", table("2026-03-02 08:00,a,1"), "--begin", "8:60 pm"),

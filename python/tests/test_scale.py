@@ -120,9 +120,8 @@ class Command(InFolder):
         words = "scale", trace, "--out", out, "--by"
         self.refuses(more.format(999999, "1,951,421 records", 1 << 20), *words, 999999, "--twins")
         with mock.patch.object(scale, "RECORDS", 4):
-            for by, way, over in ("2", ["--twins"], "2 records"), ("5/2", ["--shift", 9], "3 records"), ("5/2", ["--twins", "--source", "a"], "2 records"):
-                self.refuses(more.format(by, over, 4), *words, by, *way)
-            self.refuses(more.format("3", "1 record", 4), *words, "3", "--twins", "--source", "b")
+            for by, way, over in ("2", "--twins", "2 records"), ("5/2", "--shift=9", "3 records"), ("3", "--twins --source=b", "1 record"):
+                self.refuses(more.format(by, over, 4), *words, by, *way.split())
             self.assertFalse(out.exists())
             for by, way in ("3/2", ["--twins"]), ("2", ["--twins", "--source", "b"]), ("9", ["--times"]):
                 self.made("--by", by, *way)

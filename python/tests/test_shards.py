@@ -187,7 +187,8 @@ class InMemory(InFolder):
     def test_nodes_that_are_not_there(self):
         """Nothing is run, and nothing is written: each model is asked, also where a node's name has a value in it."""
         other, ran, stand_ins = self.folder / "other.txt", self.folder / "ran", self.folder / "programs"
-        other.write_text("\ufeffmodel 1\r\n # source zz\r\nsource calls\r\nsplit desk_queue 2 turn from calls\r\n server s{lines} {column} from desk_queue")
+        front = "model 1\nsource calls\nsplit desk_queue 2 turn from calls\n"
+        other.write_text("\ufeff # source zz\r\n" + front.replace("\n", "\r\n") + " server s{lines} {column} from desk_queue")
         stand_ins.mkdir()
         stand_in(stand_ins, "mpsweep", f"touch {ran}")
         values = "--set", "column=a", "--set", "lines=1..3"
@@ -203,7 +204,7 @@ class InMemory(InFolder):
                 self.assertEqual(told, (1, "", [f"planner: {line}"]))
         self.assertFalse(ran.exists() or self.at.exists())
         # A pool has a name where no node may have it.
-        other.write_text("model 1\nsource calls\nsplit desk_queue 2 turn from calls\nserver desk_1 a from desk_queue\nserver desk_2 a from desk_queue.1\n")
+        other.write_text(front + "server desk_1 a from desk_queue\nserver desk_2 a from desk_queue.1\n")
         told = self.told(other, self.trace, "--node", "desk")
         self.assertEqual((told[0], told[1].splitlines()[1].split(",")[4:6]), (0, ["desk", "pool"]), told)
         self.told(other, self.trace, "--folder", self.at)

@@ -20,6 +20,7 @@ from mpsim.planner.sojourns import table as sojourn_table
 
 CALLS = EXAMPLES / "callcentre"
 JOBS, REPORT, SWEEP = CALLS / "jobs.txt", CALLS / "report.txt", EXAMPLES / "sweep" / "report.txt"
+NO_TICK = "how long is a tick? --tick and --start say it, or the first lines of {}, as planner prepare writes them"
 NO_JOBS = f"{REPORT}: it has no lines of jobs: mpsim writes them with --jobs"
 
 
@@ -93,7 +94,7 @@ class Service(InFolder):
         self.refuses("a percentile is from 0 to 100, and not 101.0", "service", JOBS, "--percentile", 101)
         pool, sweep, page = ("--node", "desk", "--agents", 2), (MODEL, TRACE), (JOBS, "--out", self.folder / "page.html")
         for words in ("service", JOBS), ("hours", JOBS), ("pool", MODEL, TRACE, *pool), ("sojourns", JOBS), ("sweep", *sweep), ("page", *page):
-            for text, why in ("-1", "-1: expected a number of ticks, from 0 on"), ("x", "invalid ticks value: 'x'"), ("1.5", "invalid ticks value: '1.5'"):
+            for text, why in ("-1", "-1: expected a number of ticks, from 0 on"), ("1.5", "invalid ticks value: '1.5'"):
                 self.refuses(f"argument --within: {why} (planner {words[0]} --help tells more)", *words, f"--within={text}", status=2)
         self.refuses("/absent: cannot read the model", "service", "/absent", "/absent", status=6)
         self.assertEqual(planner("service", "/absent"), (1, "", "planner: /absent: No such file or directory\n"))
@@ -299,17 +300,22 @@ class Run(InFolder):
         self.refuses("node desk position 1 passes the bound at time 5", "run", late, trace, status=5)
 
     def test_words_of_a_page(self):
-        """They are judged before the report is written, and without a page they say nothing."""
-        page = self.folder / "page.html"
-        for words in ("--tick", "1s"), ("--start", "2026-03-02"), ("--zone", "Europe/Berlin"):
+        """They are judged before anything is written, of a picture of the network too; without a page those of `run` say nothing."""
+        page, picture, day = self.folder / "page.html", self.folder / "network.svg", ("--start", "2026-03-02T08:00")
+        for words in ("--tick", "1s"), day, ("--zone", "Europe/Berlin"):
             self.refuses(f"{words[0]} says nothing without --page", "run", MODEL, TRACE, *words)
-        for words, line in (
-            (("--start", "2026-03-02"), "how long is a tick? --tick and --start say it, or the first lines of the model, as planner prepare writes them"),
-            (("--tick", "1s", "--start", "08:00"), "--start 08:00: no ISO 8601 time"),
-            (("--tick", "1s", "--zone", "X/Y"), "this machine has no time zone 'X/Y': they are called as Europe/Berlin"),
-        ):
-            self.refuses(line, "run", MODEL, TRACE, "--page", page, *words)
-        self.assertFalse(page.exists())
+        calls = [(("run", MODEL, TRACE, "--page", page), NO_TICK.format("the model"))]
+        calls += [(("page", JOBS, "--model", MODEL, "--out", it), NO_TICK.format("a --model")) for it in (page, picture)]
+        for call, no_tick in calls:
+            for words, line in (
+                (day, no_tick),
+                (("--start", "banana"), no_tick),
+                (("--zone", "Europe/Berlin"), no_tick),
+                (("--tick", "1s", "--start", "08:00"), "--start 08:00: no ISO 8601 time"),
+                (("--tick", "1s", "--zone", "X/Y"), "this machine has no time zone 'X/Y': they are called as Europe/Berlin"),
+            ):
+                self.refuses(line, *call, *words)
+        self.assertEqual(list(self.folder.iterdir()), [])
 
 
 if __name__ == "__main__":

@@ -121,8 +121,8 @@ class Calendar:
         return [f"{self.name(day)} {hour}" + (self.place.offset(it) if hours.count(hour) > 1 else "") for hour, it in zip(hours, values)]
 
     def _hours(self, begin, end):
-        """The moments within a day at which an hour of the clock begins; one that comes twice, or a part of it, begins twice. Clocks change by half an
-        hour as well."""
+        """The moments within a day at which an hour of the clock begins; one that comes twice, or a part of it, begins twice. Clocks change by half
+        an hour as well."""
         last = None
         for value in range(begin, end, 15 * MINUTE):
             wall = self.place.wall(value)
