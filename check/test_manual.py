@@ -62,3 +62,6 @@ class Manual(Check):
         model = (EXAMPLES / "sweep" / "agents-12.txt").read_text()
         self.file("model.txt", model.replace("trunk agents 12", "trunk agents AGENTS"))
         self.runs_examples("mpsweep")
+
+    def test_planner(self):
+        self.runs_examples("planner")

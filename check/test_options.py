@@ -1,9 +1,10 @@
 """Options and statuses are the same wherever they stand: in the usage line that a program writes, the head of its script, its man page, its completions,
-docs/ERRORS.md, docs/REPORT.md and docs/EDITS.md."""
+docs/ERRORS.md, docs/REPORT.md and docs/EDITS.md; and the words of `planner` are those of its parsers."""
 import re
 import shlex
 import shutil
 
+import planner_words
 from pages import manual_section
 from programs import PROGRAMS, ROOT, Check, run
 
@@ -104,3 +105,67 @@ class Options(Check):
                 self.same(f"docs/{program}.1", page, sorted(told, key=int))
         cells = [cell for cell, _ in rows_of("docs/EDITS.md", "## How it ends")]
         self.same("docs/EDITS.md", sorted(int(it) for cell in cells for it in cell.split(", ")), sorted(map(int, told)))
+
+
+class Planner(Check):
+    """What its parsers say, in its man page and its completions, which check/planner_words.py writes; and what its help says."""
+
+    def test_files(self):
+        for file, made in (planner_words.BASH, planner_words.bash()), (planner_words.ZSH, planner_words.zsh()):
+            self.same(f"{file}: check/planner_words.py writes it", file.read_text(), made)
+        page = planner_words.MANUAL.read_text()
+        self.same("docs/planner.1: check/planner_words.py writes its commands", page, planner_words.with_commands(page))
+
+    def helps(self):
+        """The options that the help of each command has, by its name."""
+        for name in planner_words.COMMANDS:
+            told = run(ROOT / "tools" / "planner", name, "--help").out.decode()
+            yield name, sorted(re.findall(r"^  (?:-h, )?(--[a-z-]+)", told, flags=re.MULTILINE))
+
+    def completed(self, *before):
+        """What bash completes behind these words."""
+        words = " ".join(shlex.quote(it) for it in ["planner", *before])
+        script = f"compopt() {{ :; }}; source completions/planner.bash; COMP_WORDS=({words}); COMP_CWORD={len(before)}; _planner; echo ${{COMPREPLY[@]}}"
+        return sorted(run("bash", "-c", script).out.decode().split())
+
+    def test_help(self):
+        """All options of each command are in all three, and no others."""
+        commands = "".join(f"{it}\n" for it in manual_section("planner", "COMMANDS")).split(".SS ")[1:]
+        described = {it.split("\n", 1)[0]: re.findall(r"^\.TP\n\.BI? (--[a-z-]+)", it, flags=re.MULTILINE) for it in commands}
+        zsh = planner_words.ZSH.read_text().split(";;")
+        for name, options in self.helps():
+            wanted = [it for it in options if it != "--help"]
+            self.same(f"docs/planner.1, {name}", sorted(described.pop(name)), wanted)
+            mine = next(it for it in zsh if f"\n    {name})\n" in it)
+            self.same(f"completions/_planner, {name}", sorted(re.findall(r"^ *'\*?(--[a-z-]+)(?:=-)?\[", mine, flags=re.MULTILINE)), options)
+            if shutil.which("bash"):
+                self.same(f"completions/planner.bash, {name}", self.completed(name, "-"), options)
+        self.same("further commands in docs/planner.1", described, {})
+
+    def test_what_bash_completes(self):
+        """Commands; all options, but for those that stand there already and may stand once; the choices of a value; else files."""
+        if not shutil.which("bash"):
+            self.skipTest("no bash here")
+        for before, wanted in (
+            ([""], sorted([*planner_words.COMMANDS, "--help", "--version"])),
+            (["s"], ["scale", "service", "sojourns", "sweep"]),
+            (["scale", "--shift", "5", "--source", "web", "--s"], ["--source"]),
+            (["hours", "--by", ""], ["day", "each", "hour", "weekday"]),
+            (["scale", "--by", ""], []),
+            (["sojourns", "--by", "s"], ["source"]),
+            (["nothing", "-"], []),
+        ):
+            self.same(f"bash behind {before}", self.completed(*before), wanted)
+
+    def test_zsh_reads_them(self):
+        if not shutil.which("zsh"):
+            self.skipTest("no zsh here")
+        self.did(run("zsh", "-n", planner_words.ZSH))
+
+    def test_words_of_its_own(self):
+        described = "\n".join(it for it in manual_section("planner", "OPTIONS") if it.startswith(".B"))
+        self.same("docs/planner.1", options_of(described), sorted(planner_words.OWN))
+        told = run(ROOT / "tools" / "planner", "--help").out.decode()
+        self.same("its help", re.findall(r"^  (?:-h, )?(--[a-z-]+)", told, flags=re.MULTILINE), list(planner_words.OWN))
+        page = re.findall(r"^\.B (\d+)$", "\n".join(manual_section("planner", "EXIT STATUS")), flags=re.MULTILINE)
+        self.same("statuses", page, ["0", "1", "2", "11", "130", "141"])

@@ -134,7 +134,7 @@ class Release(Check):
 
     def test_pages_in_the_archive(self):
         tree = self.unpacked()
-        for name in PROGRAMS:
+        for name in [*PROGRAMS, "planner"]:
             page = gzip.decompress((tree / "share" / "man" / "man1" / f"{name}.1.gz").read_bytes()).decode()
             self.holds(f"{name}.1: {page.splitlines()[0]}", re.match(rf'\.TH {name.upper()} 1 "\w+ \d+" "mpsim {re.escape(VERSION)}" ', page))
             self.same(f"{name}.1 but for its head", page.split("\n", 1)[1], (ROOT / "docs" / f"{name}.1").read_text().split("\n", 1)[1])

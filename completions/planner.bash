@@ -1,0 +1,93 @@
+# Completions of planner for bash. Source this file, or put it into the folder of completions under the name planner.
+# check/planner_words.py writes it.
+_planner() {
+    local word=${COMP_WORDS[COMP_CWORD]} i choices='' given=' ' options='' repeated=' ' left=''
+    COMPREPLY=()
+    if ((COMP_CWORD == 1)); then
+        COMPREPLY=($(compgen -W 'prepare scale edit pool run days table compare service hours sojourns sweep page --help --version' -- "$word"))
+        return
+    fi
+    case ${COMP_WORDS[1]} in
+        prepare)
+            options='--time --format --date --date-format --day --zone --twice --tick --begin --source --demand --end --answered --constant
+                --code --empty --rename --decimal --delimiter --encoding --skip --header --model --left-out --first-lines --out --help'
+            repeated=' --demand --end --constant --code --rename '
+            ;;
+        scale)
+            options='--by --shift --times --twins --source --out --help'
+            repeated=' --source '
+            ;;
+        edit)
+            options='--model --out --edits --help'
+            ;;
+        pool)
+            options='--node --agents --by --out --out-model --report --within --percentile --help'
+            repeated=' --within --percentile '
+            ;;
+        run)
+            options='--jobs --page --tick --start --zone --help'
+            ;;
+        days)
+            options='--node --open --close --every --tick --start --zone --help'
+            repeated=' --node '
+            ;;
+        table)
+            options='--of --node --labels --help'
+            repeated=' --node '
+            ;;
+        compare)
+            options='--figure --node --csv --help'
+            repeated=' --node '
+            ;;
+        service)
+            options='--node --pool --within --percentile --help'
+            repeated=' --node --pool --within --percentile '
+            ;;
+        hours)
+            options='--node --pool --by --model --within --percentile --tick --start --zone --help'
+            repeated=' --node --pool --within --percentile '
+            ;;
+        sojourns)
+            options='--by --within --percentile --each --help'
+            repeated=' --within --percentile '
+            ;;
+        sweep)
+            options='--set --model --trace --node --within --page --folder --parallel --slurm --resume --table --shard --help'
+            repeated=' --set --model --trace --node '
+            ;;
+        page)
+            options='--model --out --title --within --tick --start --zone --help'
+            ;;
+        *) return ;;
+    esac
+    case ${COMP_WORDS[1]}.${COMP_WORDS[COMP_CWORD-1]} in
+        prepare.--twice) choices='first second order' ;;
+        prepare.--decimal) choices='. ,' ;;
+        pool.--by) choices='trunk agents' ;;
+        table.--of) choices='nodes exits visits' ;;
+        compare.--figure) choices='in out lost held wait max p50 p90 p99 busy area peak util mean_wait mean_time share_lost' ;;
+        hours.--by) choices='hour day weekday each' ;;
+        sojourns.--by) choices='both source end all' ;;
+        *.--agents | *.--answered | *.--begin | *.--by | *.--close | *.--code | *.--constant | *.--date | *.--date-format | *.--day | \
+            *.--delimiter | *.--demand | *.--empty | *.--encoding | *.--end | *.--every | *.--format | *.--header | *.--labels | *.--node | \
+            *.--open | *.--percentile | *.--pool | *.--rename | *.--set | *.--shard | *.--shift | *.--skip | *.--source | *.--start | \
+            *.--tick | *.--time | *.--title | *.--within | *.--zone) return ;;
+    esac
+    if [[ $choices ]]; then
+        COMPREPLY=($(compgen -W "$choices" -- "$word"))
+        return
+    fi
+    if [[ $word == -* ]]; then
+        # Most options may stand once.
+        for ((i = 2; i < COMP_CWORD; i++)); do
+            given+="${COMP_WORDS[i]} "
+        done
+        for i in $options; do
+            [[ $given == *" $i "* && $repeated != *" $i "* ]] || left+="$i "
+        done
+        COMPREPLY=($(compgen -W "$left" -- "$word"))
+        return
+    fi
+    compopt -o default
+}
+complete -F _planner planner
