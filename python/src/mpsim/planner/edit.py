@@ -215,8 +215,7 @@ def edited(path, changes, model=None):
 def main(asked):
     if asked.edits and not asked.model:
         raise ValueError("--edits wants --model, which has the order of their values")
-    read = {"trace": asked.trace, "file of changes": asked.changes, "model": asked.model}
-    judge_outputs([it for it in (asked.out, asked.edits) if it], read)
+    judge_outputs([asked.out, asked.edits], {"trace": [asked.trace], "file of changes": [asked.changes], "model": [asked.model]})
     made = edited(asked.trace, asked.changes, asked.model)
     edits = made.edits() if asked.edits else []
     with contextlib.ExitStack() as stack:

@@ -59,13 +59,14 @@ def _is_whole(path):
 
 
 def judge_outputs(outputs, inputs):
-    """Looks at the paths of outputs. Raises ValueError where one file is to be written for two things, or one that is read would be written over:
-    `inputs` has the path of each, or None, by what it is."""
+    """Looks at the paths of outputs, each of which may be None, before anything is read or written. Raises ValueError where one file is to be written
+    for two things, or one that is read would be written over, by whatever name: `inputs` has the paths (a list of str or None) by what they are."""
+    outputs = list(filter(None, outputs))
     if len(set(map(os.path.realpath, outputs))) < len(outputs):
         raise ValueError(f"{', '.join(outputs)}: one file can't be written for two things")
-    for path in outputs:
-        for what, read in inputs.items():
-            if read and os.path.isfile(path) and os.path.isfile(read) and os.path.samefile(path, read):
+    for path in filter(os.path.isfile, outputs):
+        for what, paths in inputs.items():
+            if any(read and os.path.isfile(read) and os.path.samefile(path, read) for read in paths):
                 raise ValueError(f"{path}: it is the {what}, and isn't written over")
 
 

@@ -5,7 +5,7 @@ import os
 from .. import page
 from ..sweeps import Sweep, load
 from . import calendar
-from .files import say, text_of, written
+from .files import judge_outputs, say, text_of, written
 from .pooled import pool_lines
 from .service import ticks
 from .times import SECOND, moment
@@ -45,6 +45,7 @@ def tell_pools(reports):
 
 
 def main(asked):
+    judge_outputs([asked.out], {"report": asked.reports, "model": [asked.model]})
     labelled = [it for path in asked.reports for it in _labelled(path)]
     text = text_of(asked.model) if asked.model else None
     if text is not None:

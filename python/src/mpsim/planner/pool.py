@@ -13,7 +13,7 @@ from ..inputs import model_text
 from ..model import nodes_of
 from ..report import Report
 from ..runs import run
-from .files import written
+from .files import judge_outputs, written
 from .pooled import agent_name, pooled, queue_name
 from .progress import Progress
 from .service import PERCENTS, figure_words, figures, heads
@@ -260,6 +260,7 @@ def _of_agents(asked, within, percents):
     agents = numbers_of(asked.agents)
     if (asked.out or asked.out_model) and len(agents) > 1:
         raise ValueError(f"--agents {asked.agents}: a trace and a model are those of one number of agents")
+    judge_outputs([asked.out, asked.out_model], {"model": [asked.model], "trace": [asked.trace]})
     queue = Queue(asked.model, Trace.read(asked.trace), asked.node)
     rows = []
     with Progress(len(agents) + 1, "runs") as tell:

@@ -347,8 +347,7 @@ def _sort(made, rows, ticks):
 def main(asked):
     """Does what `planner prepare` asks."""
     options = {name: value for name, value in vars(asked).items() if name not in ("command", "main", "export", "first_lines", "out")}
-    outputs = [it for it in (asked.out, asked.left_out, asked.first_lines) if it]
-    judge_outputs(outputs, {"export": asked.export})
+    judge_outputs([asked.out, asked.left_out, asked.first_lines], {"export": [asked.export], "model": [asked.model]})
     with contextlib.ExitStack() as stack:
         left_out = stack.enter_context(written(asked.left_out)) if asked.left_out else None
         made = prepare(**{**options, "export": asked.export, "model": text_of(asked.model) if asked.model else None, "left_out": left_out})

@@ -6,7 +6,7 @@ import os
 
 from .. import runs
 from . import calendar
-from .files import say, written
+from .files import judge_outputs, say, written
 from .formats import looks_like_clocks
 from .page import axes, tell_pools
 
@@ -37,6 +37,7 @@ def warned(path):
 
 
 def main(asked):
+    judge_outputs([asked.page], {"model": [asked.model], "trace": [asked.trace]})
     for word in calendar.words_of(asked) if not asked.page else ():
         raise ValueError(f"{word} says nothing without --page")
     looks = warned(asked.trace)

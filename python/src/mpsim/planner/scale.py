@@ -5,7 +5,7 @@ import re
 from collections import Counter
 from fractions import Fraction
 
-from .files import counted, say, written
+from .files import counted, judge_outputs, say, written
 from .prepare import GREATEST_TIME, RECORDS
 from .traces import Trace, pool_warning
 
@@ -132,6 +132,7 @@ def main(asked):
         raise ValueError(f"--shift {asked.shift}: expected a number of ticks, as those of a day or a week")
     if way == "twins" and not asked.twins and k > n:
         raise ValueError(f"--by {asked.by}: say how: --shift TICKS (those of a day or a week), --times or --twins")
+    judge_outputs([asked.out], {"trace": [asked.trace]})
     trace = Trace.read(asked.trace)
     if (more := _count(trace, k, n, way, asked.source) - RECORDS) > 0:
         raise ValueError(f"--by {asked.by}: {counted(more, 'record')} more than the {RECORDS} that mpsim takes")

@@ -9,7 +9,7 @@ from ..runs import scenarios, sweep_text
 from ..sweeps import Sweep, scenarios_of
 from . import shards
 from .elsewhere import by_parallel, by_slurm
-from .files import say, written
+from .files import judge_outputs, say, written
 from .pooled import PoolLines, names_of, visits_at
 from .progress import Progress
 from .scenarios import Plan, files_of, sets_of
@@ -54,7 +54,9 @@ def _judged(asked):
 
 def _plan(asked):
     models, traces = ([it] if it else [] for it in (asked.model, asked.trace))
-    plan = Plan.of(files_of([*models, *asked.models]), sets_of(asked.set), files_of([*traces, *asked.traces]))
+    models, traces = files_of([*models, *asked.models]), files_of([*traces, *asked.traces])
+    judge_outputs([asked.page], {"model": models, "trace": traces})
+    plan = Plan.of(models, sets_of(asked.set), traces)
     plan.judge_nodes(asked.node)
     for it in plan.traces:
         if warning := pool_warning(it["path"], header_of(it["path"])):

@@ -1,0 +1,93 @@
+"""What a command of `planner` reads it doesn't write over, whatever the file is called: each option that names an output, beside each input."""
+
+import os
+import unittest
+
+from commands import InFolder, planner
+from ground import text_of
+
+import mpsim
+from mpsim.planner import COMMANDS, command
+from mpsim.planner.files import judge_outputs
+
+MODEL, TRACE = "model 1\nsource door\nserver desk talk from door\n", "source,time,talk\ndoor,0,5\ndoor,3,5\n"
+INPUTS = {
+    "model": MODEL,
+    "agents": MODEL.replace("desk talk", "desk ={n}"),
+    "trace": TRACE,
+    "export": "when,who,long\n8:00,door,5\n",
+    "changes": "record,time\n1,+1\n",
+}
+# The words of a call, in which OUT is an output; and what each input is called.
+CALLS = (
+    ("prepare export --time when --demand long=talk --source who --model model --out OUT", {"export": "export", "model": "model"}),
+    ("prepare export --time when --demand long=talk --source who --model model --left-out OUT", {"export": "export", "model": "model"}),
+    ("prepare export --time when --demand long=talk --source who --model model --first-lines OUT", {"export": "export", "model": "model"}),
+    ("edit trace changes --model model --out OUT", {"trace": "trace", "changes": "file of changes", "model": "model"}),
+    ("edit trace changes --model model --edits OUT", {"trace": "trace", "changes": "file of changes", "model": "model"}),
+    ("scale trace --by 2 --twins --out OUT", {"trace": "trace"}),
+    ("pool model trace --node desk --agents 2 --out OUT", {"model": "model", "trace": "trace"}),
+    ("pool model trace --node desk --agents 2 --out-model OUT", {"model": "model", "trace": "trace"}),
+    ("run model trace --page OUT", {"model": "model", "trace": "trace"}),
+    ("page report jobs --model model --out OUT", {"report": "report", "jobs": "report", "model": "model"}),
+    ("sweep agents trace --set n=1,2 --page OUT", {"agents": "model", "trace": "trace"}),
+    ("sweep --model a*s model --trace t*e --set n=1,2 --page OUT", {"agents": "model", "model": "model", "trace": "trace"}),
+)
+
+
+class Outputs(InFolder):
+    def setUp(self):
+        super().setUp()
+        self.inputs = {name: self.file(name, text) for name, text in INPUTS.items()}
+        report = mpsim.run(self.inputs["model"], self.inputs["trace"], jobs=True)
+        self.inputs["report"] = self.file("report", "".join(report.lines(jobs=False)))
+        self.inputs["jobs"] = self.file("jobs", "".join(report.lines(jobs=True)))
+        self.texts = {name: text_of(path) for name, path in self.inputs.items()}
+        before = os.getcwd()
+        os.chdir(self.folder)
+        self.addCleanup(os.chdir, before)
+
+    def test_each_output_beside_each_input(self):
+        for words, inputs in CALLS:
+            for name, what in inputs.items():
+                with self.subTest(words, name=name):
+                    os.symlink(name, "soft")
+                    os.link(name, "hard")
+                    for path in name, f"./{name}", self.folder / name, "soft", "hard":
+                        asked = [path if it == "OUT" else it for it in words.split()]
+                        self.refuses(f"{path}: it is the {what}, and isn't written over", *asked)
+                    os.unlink("soft")
+                    os.unlink("hard")
+        self.assertEqual({name: text_of(path) for name, path in self.inputs.items()}, self.texts)
+
+    def test_each_output_beside_the_other(self):
+        for words, option in (
+            ("prepare export --time when --out OUT", "--first-lines"),
+            ("prepare export --time when --left-out OUT", "--first-lines"),
+            ("edit trace changes --model model --out OUT", "--edits"),
+            ("pool model trace --node desk --agents 2 --out OUT", "--out-model"),
+        ):
+            for first, second in ("new", "new"), ("new", "./new"), ("soft", "new"):
+                if first == "soft":
+                    os.symlink("new", "soft")
+                told = planner(*words.replace("OUT", first).split(), option, second)
+                self.assertEqual(told[0], 1)
+                self.assertRegex(told[2], r"^planner: (soft, new|new, (\./)?new|(\./)?new, new): one file can't be written for two things\n$")
+            os.unlink("soft")
+        self.assertFalse(os.path.exists("new"))
+
+    def test_what_is_no_file_on_a_disk(self):
+        """A device may be read and written, and a name that isn't there yet is nobody's."""
+        judge_outputs(["/dev/null", "new", None], {"model": ["/dev/null", None], "trace": ["new"]})
+
+    def test_every_option_is_there(self):
+        """Each option of each command that takes a file, and doesn't read it."""
+        words = [it.split() for it, _ in CALLS]
+        tried = {(it[0], it[it.index("OUT") - 1]) for it in words}
+        parsers = {name: command._parser(name)._subparsers._group_actions[0].choices[name] for name in COMMANDS}
+        files = {(name, it.option_strings[0]) for name, parser in parsers.items() for it in parser._actions if it.option_strings and it.metavar == "FILE"}
+        self.assertEqual({it for it in files if it[1] not in ("--model", "--trace", "--report")}, tried)
+
+
+if __name__ == "__main__":
+    unittest.main()
