@@ -5,14 +5,12 @@ import random
 import unittest
 from unittest import mock
 
-from commands import InFolder, planner
+from changing import CALLS, EXPECTED, TIME, VALUE, Changing
+from commands import planner
 from ground import Test, text_of
 
 from mpsim.planner import edit
 from mpsim.planner.edit import stepped
-
-CALLS = 'source,time,g,kind,note\nphone,0,1,0,"a, ""b"""\nweb,5,1,1,\nphone,9,2,0,z\n'
-TIME, VALUE = 1 << 60, 1 << 36
 
 
 class Steps(Test):
@@ -31,22 +29,8 @@ class Steps(Test):
         self.assertEqual((stepped(3, "+", "007"), stepped(3, "-", "5")), (10, -2))
 
 
-class Forms(InFolder):
+class Forms(Changing):
     """What a call writes."""
-
-    def made(self, changes, trace=CALLS, *words, told=None):
-        """The trace that a call writes, and that it tells this."""
-        status, out, error = planner("edit", self.file("t.csv", trace), self.file("c.csv", changes), *words)
-        self.assertEqual(status, 0, error)
-        if told:
-            self.assertEqual(error, f"planner: {told}\n")
-        return out
-
-    def rows(self, changes, trace=CALLS, *words, **more):
-        """The records that a call writes, as texts, behind the header, which stays."""
-        head, *rows = self.made(changes, trace, *words, **more).splitlines(keepends=True)
-        self.assertEqual(head, trace.splitlines(keepends=True)[0])
-        return rows
 
     def test_each_form(self):
         a, b, c = CALLS.splitlines(keepends=True)[1:]
@@ -61,6 +45,12 @@ class Forms(InFolder):
             ("record,source\n3,branch_2\n", "branch_2,9,2,0,z\n"),
             ("record,note\n3,\"x, \"\"y\"\"\"\n", 'phone,9,2,0,"x, ""y"""\n'),
             ("record,note,time,g\n3,,+1,\n", "phone,10,2,0,z\n"),
+            ("record,empty\n3,note\n", "phone,9,2,0,\n"),
+            ("record,empty,g\n3,note,+1\n", "phone,9,3,0,\n"),
+            # In a column that has other texts than numbers a word stands as it is.
+            ("record,note\n3,+5\n", "phone,9,2,0,+5\n"),
+            ("record,note\n3,*1.5\n", "phone,9,2,0,*1.5\n"),
+            ("record,note\n3,-7\n3,+49 30 5555\n", "phone,9,2,0,+49 30 5555\n"),
             ("record,g,source,kind\n3,007,web,*0\n", "web,9,007,0,z\n"),
             # One after another, the second from what the first made.
             ("record,g\n3,+1\n3,*2\n", "phone,9,6,0,z\n"),
@@ -87,6 +77,55 @@ class Forms(InFolder):
         self.assertEqual(rows, [*CALLS.splitlines(keepends=True)[2:], "web,10,1,2,x\n", "web,7,3,2,y y\n"])
         rows = self.rows("record,source,time\n+,a,5\n+,a,6\n1-2,,+1\n", "source,time\n")
         self.assertEqual(rows, ["a,6\n", "a,7\n"])
+        # A text may be empty, as those of the trace.
+        for names, values in ("", ""), (",note", ","), (",empty", ",note"):
+            self.assertEqual(self.rows(f"record,source,time,g,kind{names}\n+,web,7,1,2{values}\n")[3:], ["web,7,1,2,\n"])
+
+    def test_texts_and_numbers(self):
+        """Whether a column has texts the model tells, and without one the trace; a word means the same in a record more and in a change."""
+        model, changes = ("--model", self.file("m.txt", "model 1\nsource web\nserver s g from web\n")), self.folder / "c.csv"
+        trace, second = "source,time,g,caller,n\nweb,5,20,030222,7\nweb,6,20,,8\n", "web,6,20,,8\n"
+        counts, lacks = "2 records of 2: 1 changed, 0 added, 0 taken out", "since the model names no such column"
+        for name, word, words, row, why in (
+            ("caller", "+49305555", model, "web,5,20,+49305555,7\n", lacks),
+            ("caller", "+49305555", (), "web,5,20,+49305555,7\n", "since the trace has more than numbers in this column"),
+            ("n", "+3", model, "web,5,20,030222,+3\n", lacks),
+            ("n", "+3", (), "web,5,20,030222,10\n", None),
+            ("g", "+3", model, "web,5,23,030222,7\n", None),
+            ("caller", "030", model, "web,5,20,030,7\n", None),
+        ):
+            with self.subTest(name, word=word, words=words):
+                told = f'{changes} row 2: "{name}" of record 1: "{word}" stands there as a text, {why}\nplanner: ' if why else ""
+                self.assertEqual(self.rows(f"record,{name}\n1,{word}\n", trace, *words, told=told + counts), [row, second])
+        # It is told once a column, of the first number in whose place a text stands.
+        told = f'{changes} row 2: "caller" of record 1: "+1" stands there as a text, {lacks}\nplanner: {counts.replace("1 changed", "2 changed")}'
+        rows = self.rows("record,caller\n1-2,+1\n1,5\n1-2,*2\n", trace, *model, told=told)
+        self.assertEqual(rows, ["web,5,20,*2,7\n", "web,6,20,*2,8\n"])
+        rows = self.rows("record,source,time,g,caller,n\n+,web,7,1,+1,+2\n3,,,,+1,+2\n", trace, *model)
+        self.assertEqual(rows[2], "web,7,1,+1,+2\n")
+
+    def test_changes_of_a_spreadsheet(self):
+        """Parted by semicolons, tabs and bars, with its own first line, in UTF-16, with decimal commas, other capitals and columns without a name."""
+        wanted = ['phone,3,2,0,"a, ""b"""\n', "web,5,1,1,\n", 'phone,9,2,0,"*1,5"\n']
+        for changes in (
+            'record,time,g,note\n1,+3,*1.5,\n3,,,"*1,5"\n',
+            "record;time;g;note\n1;+3;*1,5;\n3;;;*1,5\n",
+            "record;time;g;note\n1;+3;*1.5;\n3;;;*1,5\n",
+            "record\ttime\tg\tnote\n1\t+3\t*1,5\t\n3\t\t\t*1,5\n",
+            "record|time|g|note\n1|+3|*1,5|\n3|||*1,5\n",
+            "sep=;\nrecord;time;g;note\n1;+3;*1,5;\n3;;;*1,5\n",
+            'sep=,\r\nrecord,time,g,note\r\n1,+3,*1.5,\r\n3,,,"*1,5"\r\n',
+            '\n"Record"; time ;"g";note;;;\r\n1;+3;*1,5;;;;\r\n;;;;;;\r\n3;;;*1,5;;;\r\n',
+            "RECORD ;time;g;note\n1;+3;*1,5;;;\n3;;;*1,5\n",
+        ):
+            for encoding in "utf-8", "utf-16-le", "utf-16-be":
+                path = self.folder / "c.csv"
+                path.write_bytes(f"\ufeff{changes}".encode(encoding))
+                rows = planner("edit", self.file("t.csv", CALLS), path)[1].splitlines(keepends=True)[1:]
+                self.assertEqual(rows, wanted, (changes, encoding))
+            self.assertEqual(self.rows(changes), wanted, changes)
+        self.assertEqual(self.rows("record;Out\n1;YES\n2;Yes\n3;yes\n"), [])
+        self.assertEqual(self.rows("Record;Empty;Out\n3;note;\n")[2], "phone,9,2,0,\n")
 
     def test_a_record_out(self):
         """Those behind it keep their numbers."""
@@ -152,20 +191,21 @@ class Forms(InFolder):
         self.assertRegex(error, "^planner: warning: .* was made for a pool at desk: .*; scale or edit first, then pool\nplanner: 1 record of 1: ")
 
 
-class Refusals(InFolder):
+class Refusals(Changing):
     """Each names the row, the word and the reason."""
-
-    def refused(self, why, changes, trace=CALLS, *words, where=" row 2: "):
-        path = self.file("c.csv", changes)
-        self.refuses(f"{path}{where}{why}", "edit", self.file("t.csv", trace), path, *words)
 
     def test_names(self):
         names = "it has source, time, g, kind, note"
         for head, why in (
-            ("record;time", '"record;time": expected record, with names of columns behind it, or set or add'),
-            ("time,record", '"time": expected record, with names of columns behind it, or set or add'),
+            ("record time", f'"record time": {EXPECTED}'),
+            ("time,record", f'"time": {EXPECTED}'),
+            ("time;record", f'"time;record": {EXPECTED}'),
+            ("sep=x", f'"sep=x": {EXPECTED}'),
+            (",record", f'"": {EXPECTED}'),
             ("record,Time", f'"Time" is no column of the trace; {names}'),
-            ("record,time,", f'"" is no column of the trace; {names}'),
+            ("record;Time", f'"Time" is no column of the trace; {names}'),
+            ("record,,time", f'"" is no column of the trace; {names}'),
+            ("record,empty,Empty", '"empty" stands twice'),
             ("record,g,time,g", '"g" stands twice'),
             ("record,record", '"record" stands twice'),
             ("record,out,out", '"out" stands twice'),
@@ -175,6 +215,8 @@ class Refusals(InFolder):
         self.refused('"time" stands twice in the header of the trace', "record,time\n1,2\n", twice, where=" row 1: ")
         why = '"out" takes records out, and the trace has a column of that name: call that otherwise'
         self.refused(why, "record,out\n1,yes\n", "source,time,out\na,0,1\n", where=" row 1: ")
+        why = '"empty" empties columns, and the trace has a column of that name: call that otherwise'
+        self.refused(why, "record,empty\n1,time\n", "source,time,empty\na,0,1\n", where=" row 1: ")
         # The trace may have a column record, whose name is that of the numbers then.
         words = "edit", self.file("t.csv", "source,time,record\na,0,7\n"), self.file("c.csv", "record,time\n1,5\n")
         self.assertEqual(planner(*words)[1], "source,time,record\na,5,7\n")
@@ -183,6 +225,8 @@ class Refusals(InFolder):
         self.refused("2 fields, where the header has 3", "record,time,g\n1,2\n")
         self.refused("1 field, where the header has 2", "record,time\n1\n")
         self.refused("4 fields, where the header has 3", "record,time,g\n1,2,3,4\n")
+        self.refused("4 fields, where the header has 3", "record,time,g,,\n1,2,3,4\n")
+        self.refused("3 fields, where the header has 4", "record,time,g,kind,\n1,2,3\n")
         forms = "expected a number from 1 to 3, a range as 100-109, or +"
         for record in "0", "4", "1-4", "3-2", "0-1", "x", "", "-1", "+1", " 1", "1 - 2", "1-2-3", "1.0", "\u0663", "000000000000000000001", "++":
             self.refused(f'record "{record}": {forms}', f"record,time\n{record},2\n")
@@ -192,8 +236,17 @@ class Refusals(InFolder):
         self.refused(f"record 2 is taken out by {path} row 2", "record,out\n2,yes\n2,yes\n", where=" row 3: ")
         self.refused('"out" of record 1: "no" is neither yes nor empty', "record,out\n1,no\n")
         self.refused('"g" of record 1: it is taken out, and takes no value', "record,time,g,out\n1,,5,yes\n")
-        self.refused('"note" of record 4 is empty: a record more has every column of the trace', "record,source,time,g,kind\n+,web,1,2,3\n")
-        self.refused('"time" of record 4 is empty: a record more has every column of the trace', "record,source,time\n+,web,\n")
+        has = "is empty: a record has a source, a time, and a number in each column of numbers"
+        self.refused(f'"kind" of record 4 {has}', "record,source,time,g,note\n+,web,1,2,x\n")
+        self.refused(f'"time" of record 4 {has}', "record,source,time\n+,web,\n")
+        self.refused(f'"source" of record 4 {has}', "record,time,g,kind\n+,1,2,3\n")
+        for name in "source", "time", "g":
+            self.refused(f'"{name}" of record 2 {has}', f"record,empty\n2-3,{name}\n")
+        self.refused('"empty" of record 2: "x" is no column of the trace; it has source, time, g, kind, note', "record,empty\n2,x\n")
+        self.refused('"note" of record 2: it is emptied, and takes no value', "record,empty,note\n2,note,x\n")
+        self.refused('"note" of record 2: it is taken out, and takes no value', "record,empty,out\n2,note,yes\n")
+        twice = "source,time,x,x\na,0,1,\n"
+        self.refused('"empty" of record 1: "x" stands twice in the header of the trace', "record,empty\n1,x\n", twice)
 
     def test_values(self):
         for name, text, why in (
@@ -208,7 +261,12 @@ class Refusals(InFolder):
             ("time", "*1e3", "is no number, +N, -N or *N"),
             ("time", "*-1", "is no number, +N, -N or *N"),
             ("time", "\u0665", "is no number, +N, -N or *N"),
-            ("time", "000000000000000000005", "is no number, +N, -N or *N"),
+            ("time", "000000000000000000005", "has more than 20 digits in a row"),
+            ("time", "+000000000000000000005", "has more than 20 digits in a row"),
+            ("g", f"*0.{'3' * 36}", "has more than 20 digits in a row"),
+            ("g", f"x{'3' * 36}", "is no number, +N, -N or *N"),
+            ("g", '"*1,5"', "is no *N: where commas part the fields its mark is a point"),
+            ("g", '"+1,5"', "is no number, +N, -N or *N"),
             ("g", "x", "is no number, +N, -N or *N"),
             ("time", "-10", "makes -1 of 9, which is below 0"),
             ("time", TIME + 1, f"is above {TIME}"),
@@ -216,60 +274,28 @@ class Refusals(InFolder):
             ("g", VALUE + 1, f"is above {VALUE}"),
             ("g", f"+{VALUE - 1}", f"makes {VALUE + 1} of 2, which is above {VALUE}"),
             ("g", "*99999999999999999999", f"makes 199999999999999999998 of 2, which is above {VALUE}"),
-            ("note", "+5", 'wants a number in its place, and not "z"'),
             ("source", "Web", "is no name of a source"),
             ("source", "+1", "is no name of a source"),
             ("source", "from", "is no name of a source"),
         ):
-            self.refused(f'"{name}" of record 3: "{text}" {why}', f"record,{name}\n3,{text}\n")
+            shown = text.strip('"') if isinstance(text, str) else text
+            self.refused(f'"{name}" of record 3: "{shown}" {why}', f"record,{name}\n3,{text}\n")
         self.refused('"time" of record 4: "+5" is no number', "record,source,time,g,kind,note\n+,web,+5,1,1,1\n")
         self.refused('"time" of record 2: "+5" wants a number in its place, and not "x"', "record,time\n1-2,+5\n", "source,time\na,1\na,x\n")
+        self.refused('"g" of record 3: "*1,x" is no number, +N, -N or *N', "record;g\n3;*1,x\n")
         # The limits themselves, and columns that no model can read.
         for trace, changes, wanted in (
             ("source,time,d\na,1,2\n", f"record,time,d\n1,{TIME},+{VALUE - 2}\n", f"a,{TIME},{VALUE}\n"),
             (f"source,time,id\na,1,{VALUE + 1}\n", "record,id\n1,*2\n", f"a,1,{2 * VALUE + 2}\n"),
-            (f"source,time,id\na,1,{VALUE + 1}\n", "record,id\n1,x\n", "a,1,x\n"),
+            (f"source,time,id\na,1,{VALUE + 1}\n", f"record,id\n1,{10**20 - 1}\n", f"a,1,{10**20 - 1}\n"),
         ):
             self.assertEqual(planner("edit", self.file("t.csv", trace), self.file("c.csv", changes))[1].splitlines(True)[1:], [wanted])
 
-    def test_with_a_model(self):
-        model = self.file("m.txt", "model 1\nsource phone\nsource branch\nserver s g from phone branch\n")
-        words = "--model", model
-        self.refused(f'"source" of record 1: "web" is no source of {model}', "record,source\n1,web\n", CALLS, *words)
-        self.refused('"g" of record 1: "x" is no number, +N, -N or *N', "record,g\n1,x\n", CALLS, *words)
-        # What it doesn't name may hold anything, though the trace has numbers there.
-        out = planner("edit", self.file("t.csv", CALLS), self.file("c.csv", "record,source,kind\n3,branch,k\n"), *words)[1]
-        self.assertTrue(out.endswith("branch,9,2,k,z\n"), out)
-        trace = self.file("t.csv", "source,time,h\nphone,0,1\n")
-        self.refuses(f"{trace}: there is no column 'g', which {model} names; it has h", "edit", trace, self.folder / "c.csv", *words)
-        self.refuses("--edits wants --model, which has the order of their values", "edit", trace, self.folder / "c.csv", "--edits", "e.txt")
-        # An edit has values that no row changed, and that mpedit would refuse.
-        trace, changes = self.file("t.csv", "source,time,g\nphone,0,x\n"), self.file("c.csv", "record,time\n1,5\n")
-        self.refuses('--edits: "g" of record 1: "x" is no number', "edit", trace, changes, *words, "--edits", self.folder / "e.txt")
-
-    def test_edits_of_mpedit(self):
-        model = self.file("m.txt", "model 1\nsource phone\nsource web\nsplit k cut kind 1 from phone web\nserver s g from k k.1\n")
-        words, set_, add = ("--model", model), "set R source time kind g", "add source time kind g"
-        for text, why in (
-            ("set 1 phone 5 1 2\nsets 1 phone 5 1\n", '"sets" is neither set nor add'),
-            ("\nset 1 phone 5 1\n", f"5 words, where set has 6: {set_}"),
-            ("\nset\n", f"1 word, where set has 6: {set_}"),
-            ("\nadd phone 5 1 2 3\n", f"6 words, where add has 5: {add}"),
-            ("\nset 4 phone 5 1 2\n", 'record "4": expected a number from 1 to 3'),
-            ("\nset + phone 5 1 2\n", 'record "+": expected a number from 1 to 3'),
-            ("\nset 1-2 phone 5 1 2\n", 'record "1-2": expected a number from 1 to 3'),
-            ("\nset 1 door 5 1 2\n", f'"source" of record 1: "door" is no source of {model}'),
-            ("\nset 1 web +5 1 2\n", '"time" of record 1: "+5" is no number'),
-            ("\nset 1 web 5 1 *2\n", '"g" of record 1: "*2" is no number'),
-            ("\nadd web 5 x 2\n", '"kind" of record 4: "x" is no number'),
-            (f"\nadd web 5 {VALUE + 1} 2\n", f'"kind" of record 4: "{VALUE + 1}" is above {VALUE}'),
-        ):
-            self.refused(why, text, CALLS, *words, where=" line 2: ")
-        self.refused("these are edits of mpedit: --model has the order of their values", "set 1 web 5 1 2\n", where=": ")
-        for text in "", "\n \t":
-            self.refused("it is empty: --model has the order of their values", text, where=": ")
-        size = (1 << 24) + 1
-        self.refused(f"{size} bytes, where mpedit takes {size - 1}", "add web 5 1 2".ljust(size), CALLS, *words, where=": ")
+        trace = f"source,time,id\na,1,{VALUE + 1}\n"
+        self.refused('"id" of record 1: "x" is no number, +N, -N or *N', "record,id\n1,x\n", trace)
+        made = (VALUE + 1) * 10**10
+        why = f"makes {made} of {VALUE + 1}, which is above {10**20 - 1}"
+        self.refused(f'"id" of record 1: "*10000000000" {why}', "record,id\n1,*10000000000\n", trace)
 
     def test_no_more_than_mpsim_takes(self):
         """Of records, and of edits; here with small numbers in place of the limits."""

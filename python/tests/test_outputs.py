@@ -85,8 +85,8 @@ class Outputs(InFolder):
         words = [it.split() for it, _ in CALLS]
         tried = {(it[0], it[it.index("OUT") - 1]) for it in words}
         parsers = {name: command._parser(name)._subparsers._group_actions[0].choices[name] for name in COMMANDS}
-        files = {(name, it.option_strings[0]) for name, parser in parsers.items() for it in parser._actions if it.option_strings and it.metavar == "FILE"}
-        self.assertEqual({it for it in files if it[1] not in ("--model", "--trace", "--report")}, tried)
+        files = {(name, *it.option_strings) for name, parser in parsers.items() for it in parser._actions if it.metavar == "FILE"}
+        self.assertEqual({it for it in files if it[-1] not in ("--model", "--trace", "--report")}, tried)
 
 
 if __name__ == "__main__":

@@ -4,7 +4,7 @@ import unittest
 import unittest.mock
 
 from commands import InFolder, planner
-from ground import ROOT, Test, text_of
+from ground import ROOT, Test, programs_in, text_of
 
 from mpsim.planner import prepare as module
 
@@ -172,6 +172,18 @@ class Refusals(InFolder):
             ("there is no source 'c' for --rename; it has 'b'", "--demand", "long=d", "--source", "who", "--rename", "c=a"),
         ):
             self.assertEqual(planner(*words, *more), (1, "", f"planner: {export}: {line}\n"))
+        for text, line in (
+            ("model 1\nsource Sales\n", "model line 2: word 2 not allowed: source Sales"),
+            ("model 1\nsource b\nsever desk d from b\n", "model line 3: word 1 not allowed: sever desk d from b"),
+        ):
+            model.write_text(text)
+            self.refuses(f"{model}: {line}", *words, status=3)
+        with programs_in(self.folder):
+            model.write_text("model 1\nsource b\nsever desk d from b\n")
+            status, _, told = planner(*words, "--source", "who")
+            why = f"there is no program mpsim in {self.folder}; MPSIM_PROGRAMS names a folder that has it"
+            self.assertEqual((status, told.split("\n", 1)[0]), (0, f"planner: warning: {model} isn't judged: {why}"))
+            (self.folder / "trace.csv").unlink()
         model.write_bytes(b"model 1\nsource \xff\n")
         self.assertEqual(planner(*words), (1, "", f"planner: {model}: line 2: the byte ff is no UTF-8\n"))
         self.assertFalse((self.folder / "trace.csv").exists())

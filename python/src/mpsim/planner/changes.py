@@ -1,5 +1,6 @@
 """Changes of the records of a trace: rows that name columns, or edits as mpedit has them."""
 
+import codecs
 import csv
 import io
 import re
@@ -8,56 +9,108 @@ from typing import Dict, NamedTuple, Optional
 from .files import counted
 
 
+EXPECTED = "expected record, with names of columns behind it, or with --model set or add"
+# Names in the header of changes that are none of the trace's.
+WORDS = "record", "out", "empty"
+
+
 class Change(NamedTuple):
     """A row of changes: where it stands (str), for a refusal; its records (str), as `12` or `100-109`, or None for one more; what is to stand (str)
-    in columns, by their places in the header (int); whether the records are taken out; and whether it is an edit of mpedit, in which each value
-    stands as it is."""
+    in columns, by their places in the header (int), "" where they are emptied; whether the records are taken out; whether it is an edit of mpedit, in
+    which each value stands as it is; and whether a decimal mark may be a comma."""
 
     where: str
     records: Optional[str]
     values: Dict[int, str]
     out: bool = False
     is_edit: bool = False
+    has_commas: bool = False
+
+
+def decoded(path, data):
+    """The text (str) of changes (bytes): UTF-16 by its mark, and else UTF-8, in which other bytes stand as they are (surrogateescape). Raises
+    ValueError where it is no such text."""
+    is_wide = data.startswith((codecs.BOM_UTF16_LE, codecs.BOM_UTF16_BE))
+    try:
+        text = data.decode("utf-16" if is_wide else "utf-8-sig", "strict" if is_wide else "surrogateescape")
+    except UnicodeDecodeError:
+        raise ValueError(f"{path}: it is no UTF-16, which its mark says") from None
+    if "\0" in text[:1024]:
+        raise ValueError(f"{path}: it has NUL bytes: is it UTF-16 without a mark? It is read as UTF-8, or as UTF-16 by a mark")
+    return text
+
+
+def _parted(text):
+    """The delimiter of a text of CSV (str), and how many rows stand before its header: a spreadsheet's own `sep=;`, or else what stands behind the
+    word record."""
+    if told := re.match(r"sep=([;\t,|])\r?\n", text):
+        return told[1], 1
+    found = re.match(r'\s*("?) *record *\1 *([;\t,|])', text, re.IGNORECASE)
+    return found[2] if found else ",", 0
 
 
 def by_names(path, text, header):
     """The changes (each a Change) of a text of CSV (str) for a trace with this header. Raises ValueError with the row where it is none."""
-    names, number, reader = None, 0, csv.reader(io.StringIO(text, newline=""))
+    delimiter, before = _parted(text)
+    names, number, reader = None, 0, csv.reader(io.StringIO(text, newline=""), delimiter=delimiter)
     try:
         for number, fields in enumerate(reader, 1):
             where = f"{path} row {number}"
             if names is None and fields:
-                names = _judged_names(where, fields, header)
+                names = _judged_names(where, fields, header) if number > before else None
             elif any(fields):
-                if len(fields) != len(names):
+                if len(fields) < len(names) or any(fields[len(names) :]):
                     raise ValueError(f"{where}: {counted(len(fields), 'field')}, where the header has {len(names)}")
-                yield _by_names(where, dict(zip(names, fields)), header)
+                yield _by_names(where, dict(zip(names, fields)), header, delimiter != ",")
     except csv.Error as fault:
         raise ValueError(f"{path} row {number + 1}: {fault}") from None
+    if names is None:
+        raise ValueError(f"{path}: it is empty: {EXPECTED}")
 
 
-def _by_names(where, fields, header):
+def _by_names(where, fields, header, has_commas):
     """The change of a row whose fields have these names (a dict of str)."""
-    record, out = fields.pop("record"), fields.pop("out", "")
+    record, out, emptied = fields.pop("record"), fields.pop("out", ""), fields.pop("empty", "")
     given = {name: it for name, it in fields.items() if it}
-    if out not in ("", "yes"):
+    if out and out.casefold() != "yes":
         raise ValueError(f'{where}: "out" of record {record}: "{out}" is neither yes nor empty')
+    if emptied in given:
+        raise ValueError(f'{where}: "{emptied}" of record {record}: it is emptied, and takes no value')
+    if emptied:
+        _judge_name(f'{where}: "empty" of record {record}', emptied, header)
+        given[emptied] = ""
     if out and given:
         raise ValueError(f'{where}: "{next(iter(given))}" of record {record}: it is taken out, and takes no value')
-    return Change(where, None if record == "+" and not out else record, {header.index(name): it for name, it in given.items()}, bool(out))
+    values = {header.index(name): it for name, it in given.items()}
+    return Change(where, None if record == "+" and not out else record, values, bool(out), has_commas=has_commas)
 
 
-def _judged_names(where, names, header):
-    """The names (list of str) in the header of changes. Raises ValueError for one that the trace doesn't have, or that may stand for two."""
+def _judge_name(where, name, header):
+    """Raises ValueError where a name is that of no column, or of two."""
+    if name not in header:
+        raise ValueError(f'{where}: "{name}" is no column of the trace; it has {", ".join(header)}')
+    if header.count(name) > 1:
+        raise ValueError(f'{where}: "{name}" stands twice in the header of the trace')
+
+
+def _judged_names(where, fields, header):
+    """The names (list of str) in the header of changes, without empty ones at its end; what isn't a name of the trace may have other capitals. Raises
+    ValueError for one that the trace doesn't have, or that may stand for two."""
+    names = [it if it in header else it.strip() for it in fields]
+    names = [it.casefold() if it not in header and it.casefold() in WORDS else it for it in names]
+    names[0] = names[0].casefold() if names[0].casefold() == "record" else names[0]
+    while len(names) > 1 and not names[-1]:
+        names.pop()
     if names[0] != "record":
-        raise ValueError(f'{where}: "{names[0]}": expected record, with names of columns behind it, or set or add')
+        raise ValueError(f'{where}: "{names[0]}": {EXPECTED}')
     for name in names:
-        if names.count(name) > 1 or name != "record" and header.count(name) > 1:
-            raise ValueError(f'{where}: "{name}" stands twice' + ("" if names.count(name) > 1 else " in the header of the trace"))
-        if name == "out" and name in header:
-            raise ValueError(f'{where}: "out" takes records out, and the trace has a column of that name: call that otherwise')
-        if name not in ("record", "out", *header):
-            raise ValueError(f'{where}: "{name}" is no column of the trace; it has {", ".join(header)}')
+        if names.count(name) > 1:
+            raise ValueError(f'{where}: "{name}" stands twice')
+        if name in ("out", "empty") and name in header:
+            does = "takes records out" if name == "out" else "empties columns"
+            raise ValueError(f'{where}: "{name}" {does}, and the trace has a column of that name: call that otherwise')
+        if name not in WORDS:
+            _judge_name(where, name, header)
     return names
 
 

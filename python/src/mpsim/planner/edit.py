@@ -7,31 +7,45 @@ import re
 
 from ..inputs import Add, Set
 from ..model import columns, sources
-from .changes import Change, by_edits, by_names
-from .files import bytes_of, counted, judge_outputs, say, text_of, written
+from .changes import EXPECTED, Change, by_edits, by_names, decoded
+from .files import bytes_of, counted, judge_outputs, say, written
 from .lengths import GREATEST_VALUE
+from .models import judged_text
 from .names import is_name
 from .prepare import GREATEST_TIME, RECORDS
+from .progress import uncollected
 from .traces import Trace, pool_warning
 
 EXAMPLE = "planner edit trace.csv changes.csv --out edited.csv"
 # What mpedit takes of edits.
 BYTES = 1 << 24
 # What makes a number of the one that is there.
-STEP = r"([+-])(\d{1,20})|\*(\d{1,20}(?:\.\d{1,20})?)"
+STEP = re.compile(r"([+-])(\d{1,20})|\*(\d{1,20}(?:[.,]\d{1,20})?)", re.ASCII)
+# The greatest number of 20 digits, which are the most that a number has.
+MOST = 10**20 - 1
 
 
 def words(parser):
     parser.add_argument("trace")
-    parser.add_argument("changes", help="CSV with a column record and names of columns of the trace; or edits of mpedit, with --model")
-    parser.add_argument("--model", metavar="MODEL", help="sources and columns are judged by it; of edits of mpedit it has the order of the values")
+    parser.add_argument("changes", help="CSV, whose header is record and names of columns of the trace; or edits of mpedit, with --model")
+    judges = "sources and columns are judged by it, and it by mpsim; of edits of mpedit it has the order of the values"
+    parser.add_argument("--model", metavar="MODEL", help=judges)
     parser.add_argument("--out", metavar="FILE")
     parser.add_argument("--edits", metavar="FILE", help="the same changes as edits of mpedit; wants --model")
 
 
 def _is_number(text):
     """Whether a text is a number as mpsim reads it."""
-    return bool(re.fullmatch(r"\d{1,20}", text, re.ASCII))
+    return text.isdigit() and text.isascii() and len(text) <= 20
+
+
+def _parts(sign, by):
+    """The numbers (int) times, more and over of a step, which makes (old * times + more) // over of a number."""
+    if sign == "*":
+        whole, _, part = by.replace(",", ".").partition(".")
+        # In units of a half of the last digit.
+        return 2 * int(whole + part), 10 ** len(part), 2 * 10 ** len(part)
+    return 1, int(sign + by), 1
 
 
 def stepped(old, sign, by):
@@ -41,24 +55,21 @@ def stepped(old, sign, by):
     >>> stepped(5, "*", "1.1"), stepped(4, "*", "1.1"), stepped(3, "-", "5")
     (6, 4, -2)
     """
-    if sign == "*":
-        whole, _, part = by.partition(".")
-        # In units of a half of the last digit.
-        return (2 * old * int(whole + part) + 10 ** len(part)) // (2 * 10 ** len(part))
-    return old + int(by) if sign == "+" else old - int(by)
+    times, more, over = _parts(sign, by)
+    return (old * times + more) // over
 
 
 class Edited:
     """The trace of a file (a path), on which changes are made, one after another: its `trace` (Trace) as it was, and `rows` (a list of lists of str)
     as they are. Records keep their numbers, from 1: `changed` has those of the file that are changed (a set of int), `out` those that are taken out,
-    with the row that did it. With a model (a path) values are judged by its sources and columns. Raises what `Trace.read` does, and ValueError where
-    the trace lacks a column of the model."""
+    with the row that did it. `told` has what is to be said (a list of str). With a model (a path) values are judged by its sources and columns.
+    Raises what `Trace.read` and `mpsim.run` do, and ValueError where the trace lacks a column of the model."""
 
     def __init__(self, path, model=None):
         self._texts = []
         self.trace = Trace.read(path, self._texts)
-        self.rows, self.changed, self.out = list(self.trace.rows), set(), {}
-        self.model, text = model, text_of(model) if model else ""
+        self.rows, self.changed, self.out, self.told = list(self.trace.rows), set(), {}, []
+        self.model, text = model, judged_text(model, self.told.append) if model else ""
         self.columns, header = columns(text), self.trace.header
         for name in self.columns:
             if name not in header[2:]:
@@ -66,25 +77,26 @@ class Edited:
         # Where the source, the time and the values of an edit stand.
         self.places = [0, 1, *(header.index(name, 2) for name in self.columns)]
         self._sources = set(sources(text) if model else self.trace.sources())
-        self._of_numbers = dict.fromkeys(self.places[1:], True)
+        self._limits = {**dict.fromkeys(self.places, GREATEST_VALUE), 0: None, 1: GREATEST_TIME}
+        # The columns of text of which something is said, and those that changes are in.
+        self._is_told, self._changed_places = set(), set()
 
     def make(self, change):
         """Makes a change. Raises ValueError with its row, the word and the reason where it isn't allowed."""
+        self._changed_places.update(change.values)
         if change.records is None:
             return self._add(change)
-        for number in self._numbers(change):
-            if number in self.out:
-                raise ValueError(f"{change.where}: record {number} is taken out by {self.out[number]}")
-            if change.out:
-                self.out[number] = change.where
-                self.changed.discard(number)
-            elif change.values:
-                row = list(self.rows[number - 1])
-                for place, text in change.values.items():
-                    row[place] = self._value(change, number, place, text, row[place])
-                self.rows[number - 1] = row
-                if number < len(self._texts):
-                    self.changed.add(number)
+        numbers = self._numbers(change)
+        if self.out and (number := next(filter(self.out.__contains__, numbers), None)):
+            raise ValueError(f"{change.where}: record {number} is taken out by {self.out[number]}")
+        if change.out:
+            self.out.update(dict.fromkeys(numbers, change.where))
+            self.changed.difference_update(numbers)
+        elif change.values:
+            rows = self.rows[numbers.start - 1 : numbers.stop - 1] = list(map(list, self.rows[numbers.start - 1 : numbers.stop - 1]))
+            for place, text in change.values.items():
+                self._put(change, numbers.start, rows, place, text)
+            self.changed.update(range(numbers.start, min(numbers.stop, len(self._texts))))
 
     def _numbers(self, change):
         """The numbers (range) of the records that a change names."""
@@ -96,46 +108,72 @@ class Edited:
         return range(first, last + 1)
 
     def _add(self, change):
-        """One record more, which has to have every column; an edit of mpedit leaves those empty that no model names."""
+        """One record more. What a change leaves out is an empty text there."""
         if len(self.rows) - len(self.out) >= RECORDS:
             raise ValueError(f"{change.where}: one record more than the {RECORDS} that mpsim takes")
-        row = [""] * len(self.trace.header)
-        for place, name in enumerate(self.trace.header):
-            if place in change.values:
-                row[place] = self._value(change, len(self.rows) + 1, place, change.values[place])
-            elif not change.is_edit:
-                raise ValueError(f'{change.where}: "{name}" of record {len(self.rows) + 1} is empty: a record more has every column of the trace')
-        self.rows.append(row)
+        number, places = len(self.rows) + 1, range(len(self.trace.header))
+        self.rows.append([self._judged(change, number, place, change.values.get(place, "")) for place in places])
 
-    def _value(self, change, number, place, text, old=None):
-        """What stands in a column of a record (str) by this text of a change, in place of another, which a record more doesn't have."""
+    def _put(self, change, first, rows, place, text):
+        """Puts what this text of a change says into a column of these rows, of which the first has this number."""
+        step, limit = None if change.is_edit else STEP.fullmatch(text), self._limit(place)
+        if step and limit is None and place:
+            self._tell_text(change, first, rows, place, text)
+        if not step or limit is None or "," in text and not change.has_commas:
+            text = self._judged(change, first, place, text)
+            for row in rows:
+                row[place] = text
+            return
+        times, more, over = _parts(step[1] or "*", step[2] or step[3])
+        for number, row in enumerate(rows, first):
+            old = row[place]
+            if not _is_number(old):
+                raise self._refusal(change, number, place, text, f'wants a number in its place, and not "{old}"')
+            made = (int(old) * times + more) // over
+            if not 0 <= made <= limit:
+                why = f"makes {made} of {old}, which is {f'above {limit}' if made > 0 else 'below 0'}"
+                raise self._refusal(change, number, place, text, why)
+            row[place] = str(made)
 
-        def refused(why):
-            return ValueError(f'{change.where}: "{self.trace.header[place]}" of record {number}: "{text}" {why}')
+    def _tell_text(self, change, first, rows, place, text):
+        """Tells, once a column, that a text stands as it is where it could have made a number of another."""
+        number = next((number for number, row in enumerate(rows, first) if row[place].isdigit()), None)
+        if number is not None and place not in self._is_told:
+            self._is_told.add(place)
+            why = "the model names no such column" if self.model else "the trace has more than numbers in this column"
+            self.told.append(f'{change.where}: "{self.trace.header[place]}" of record {number}: "{text}" stands there as a text, since {why}')
 
-        if place == 0:
-            if text not in self._sources and (self.model or not is_name(text)):
-                raise refused(f"is no source of {self.model}" if self.model else "is no name of a source")
-            return text
-        step = None if old is None or change.is_edit else re.fullmatch(STEP, text, re.ASCII)
-        if step and not _is_number(old):
-            raise refused(f'wants a number in its place, and not "{old}"')
-        if step and (made := stepped(int(old), step[1] or "*", step[2] or step[3])) < 0:
-            raise refused(f"makes {made} of {old}, which is below 0")
-        if self._is_of_numbers(place):
-            if not step and not _is_number(text):
-                raise refused("is no number" + ("" if old is None or change.is_edit else ", +N, -N or *N"))
-            greatest = GREATEST_TIME if place == 1 else GREATEST_VALUE
-            if (made if step else int(text)) > greatest:
-                raise refused(f"makes {made} of {old}, which is above {greatest}" if step else f"is above {greatest}")
-        return str(made) if step else text
+    def _judged(self, change, number, place, text):
+        """A text of a change (str) that is to stand in a column of a record as it is. Raises ValueError where it can't."""
+        limit, digits = self._limit(place), r"[+*-]?\d*[.,]?\d*"
+        if not text and (limit is not None or not place):
+            where = f'{change.where}: "{self.trace.header[place]}" of record {number}'
+            raise ValueError(f"{where} is empty: a record has a source, a time, and a number in each column of numbers")
+        if not place and text not in self._sources and (self.model or not is_name(text)):
+            raise self._refusal(change, number, place, text, f"is no source of {self.model}" if self.model else "is no name of a source")
+        if limit is not None and not _is_number(text):
+            forms = "" if change.records is None or change.is_edit else ", +N, -N or *N"
+            why = "is no number" + forms
+            if re.fullmatch(digits, text, re.ASCII) and re.search(r"\d{21}", text, re.ASCII):
+                why = "has more than 20 digits in a row"
+            elif forms and "," in text and STEP.fullmatch(text):
+                why = "is no *N: where commas part the fields its mark is a point"
+            raise self._refusal(change, number, place, text, why)
+        if limit is not None and int(text) > limit:
+            raise self._refusal(change, number, place, text, f"is above {limit}")
+        return text
 
-    def _is_of_numbers(self, place):
-        """Whether a column has numbers alone: the times, those that the model names, and without a model those in which the trace has no other."""
-        if place not in self._of_numbers:
+    def _refusal(self, change, number, place, text, why):
+        return ValueError(f'{change.where}: "{self.trace.header[place]}" of record {number}: "{text}" {why}')
+
+    def _limit(self, place):
+        """The greatest number of a column of numbers (int), None of one of text. Of numbers are the times, the columns that the model names, and
+        without a model those in which the trace has nothing else; where it has a number there that is too large for any model, that is no limit."""
+        if place not in self._limits:
             fields = set() if self.model else {row[place] for row in self.trace.rows}
-            self._of_numbers[place] = bool(fields) and all(_is_number(it) and int(it) <= GREATEST_VALUE for it in fields)
-        return self._of_numbers[place]
+            is_of_numbers = bool(fields) and all(map(_is_number, fields))
+            self._limits[place] = (GREATEST_VALUE if max(map(int, fields)) <= GREATEST_VALUE else MOST) if is_of_numbers else None
+        return self._limits[place]
 
     def lines(self):
         """The header and the records as texts (str): what wasn't changed as it stands in the file, the rest with the end of line that stood there, or
@@ -160,14 +198,18 @@ class Edited:
             raise ValueError(f"--edits: {where} takes record {number} out, and no edit of mpedit does that")
         lines, as_edit = [], Change("--edits", None, {}, is_edit=True)
         for number in [*sorted(self.changed), *range(len(self._texts), len(self.rows) + 1)]:
-            source, time, *values = [self._value(as_edit, number, place, self.rows[number - 1][place]) for place in self.places]
+            source, time, *values = [self._judged(as_edit, number, place, self.rows[number - 1][place]) for place in self.places]
             edit = Set(number, source, time, values) if number < len(self._texts) else Add(source, time, values)
             lines.append(f"{edit}\n")
         if (size := sum(map(len, lines))) > BYTES:
             raise ValueError(f"--edits: {size} bytes, where mpedit takes {BYTES}")
         return lines
 
-    def told(self):
+    def unnamed(self):
+        """The names (list of str) of the columns that changes are in, and that no edit of mpedit has, since the model doesn't name them."""
+        return [self.trace.header[place] for place in sorted(self._changed_places.difference(self.places))]
+
+    def counts(self):
         """How many records there are, and how many of them are changed or added, and how many taken out (str)."""
         before, now, out = len(self.trace.rows), len(self.rows) - len(self.out), sum(it < len(self._texts) for it in self.out)
         return f"{counted(now, 'record')} of {before:,}: {len(self.changed):,} changed, {now - before + out:,} added, {out:,} taken out"
@@ -186,7 +228,9 @@ def _line_of(row, write=csv.writer(_Line, lineterminator="\r\n").writerow):
 
 def _end(text):
     """The end of line (str) that a record's text has; at the end of a file it may be empty."""
-    return next((it for it in ("\r\n", "\r", "\n") if text.endswith(it)), "")
+    if text.endswith("\n"):
+        return "\r\n" if text.endswith("\r\n") else "\n"
+    return "\r" if text.endswith("\r") else ""
 
 
 def _is_closed(text):
@@ -198,11 +242,12 @@ def edited(path, changes, model=None):
     """The trace of a file after the changes in another (Edited), both by their paths, as that of the model, whose columns edits of mpedit are of.
     Raises OSError where a file can't be read, ValueError where one is refused."""
     made, data = Edited(path, model), bytes_of(changes)
-    text = data.decode("utf-8-sig", "surrogateescape")
+    text = decoded(changes, data)
     if text.split(None, 1)[:1] not in ([], ["set"], ["add"]):
         found = by_names(changes, text, made.trace.header)
     elif model is None:
-        raise ValueError(f"{changes}: {'these are edits of mpedit' if text.strip() else 'it is empty'}: --model has the order of their values")
+        why = "these are edits of mpedit: --model has the order of their values" if text.strip() else f"it is empty: {EXPECTED}"
+        raise ValueError(f"{changes}: {why}")
     elif len(data) > BYTES:
         raise ValueError(f"{changes}: {len(data)} bytes, where mpedit takes {BYTES}")
     else:
@@ -216,12 +261,17 @@ def main(asked):
     if asked.edits and not asked.model:
         raise ValueError("--edits wants --model, which has the order of their values")
     judge_outputs([asked.out, asked.edits], {"trace": [asked.trace], "file of changes": [asked.changes], "model": [asked.model]})
-    made = edited(asked.trace, asked.changes, asked.model)
-    edits = made.edits() if asked.edits else []
     with contextlib.ExitStack() as stack:
+        stack.enter_context(uncollected())
+        made = edited(asked.trace, asked.changes, asked.model)
+        edits = made.edits() if asked.edits else []
         if asked.edits:
             stack.enter_context(written(asked.edits)).writelines(edits)
         stack.enter_context(written(asked.out)).writelines(made.lines())
     if warning := pool_warning(asked.trace, made.trace.header):
         say(warning)
-    say(made.told())
+    for line in made.told:
+        say(line)
+    if asked.edits and (names := made.unnamed()):
+        say(f"{asked.edits} has no change of {', '.join(names)}, which {asked.model} doesn't name")
+    say(made.counts())

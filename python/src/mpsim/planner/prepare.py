@@ -2,18 +2,18 @@
 
 import contextlib
 import csv
-import gc
 import os
 from array import array
 from itertools import islice
 
 from .calendar import first_lines, length_text, tick_of
 from .exports import Export
-from .files import bytes_of, counted, judge_outputs, say, text_of, written
+from .files import bytes_of, counted, judge_outputs, say, written
 from .formats import NUMBERS, looks_like_clocks
 from .lengths import Lengths
+from .models import judged_text
 from .plan import Plan
-from .progress import Progress
+from .progress import Progress, uncollected
 from .records import Code, Demand, End, Left, Sum
 from .times import CLOCK, DAY, HOUR, SECOND, Asks, clock, given, iso
 from .traces import fields_up_to
@@ -149,18 +149,6 @@ def prepare(
         raise ValueError(f"{name}: {fault}") from None
 
 
-@contextlib.contextmanager
-def _uncollected():
-    """Without the collector of cycles: here are none, and it goes over the rows again and again."""
-    was = gc.isenabled()
-    gc.disable()
-    try:
-        yield
-    finally:
-        if was:
-            gc.enable()
-
-
 class _Rows:
     """What is read, in the order of the export: sources, moments, values; and the rows that are left out, by reason how many, and the first."""
 
@@ -191,7 +179,7 @@ def _read(plan, left_out):
     writer = csv.writer(left_out, lineterminator="\n") if left_out is not None else None
     if writer:
         writer.writerow(["row", "reason", *plan.export.header])
-    with _uncollected(), Progress(plan.export.size, "rows") as tell:
+    with uncollected(), Progress(plan.export.size, "rows") as tell:
         try:
             while some := list(islice(rows, CHUNK)):
                 for at, why in _read_some(plan, some, number, made):
@@ -350,7 +338,7 @@ def main(asked):
     judge_outputs([asked.out, asked.left_out, asked.first_lines], {"export": [asked.export], "model": [asked.model]})
     with contextlib.ExitStack() as stack:
         left_out = stack.enter_context(written(asked.left_out)) if asked.left_out else None
-        made = prepare(**{**options, "export": asked.export, "model": text_of(asked.model) if asked.model else None, "left_out": left_out})
+        made = prepare(**{**options, "export": asked.export, "model": judged_text(asked.model, say) if asked.model else None, "left_out": left_out})
         for line in [*made.told, *(f"warning: {it}" for it in made.warned), f"{counted(len(made), 'record')}, {counted(len(made.names), 'source')}"]:
             say(line)
         if asked.first_lines:

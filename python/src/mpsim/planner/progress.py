@@ -1,7 +1,21 @@
-"""A line on a terminal while long work goes on, and nothing elsewhere."""
+"""What long work has: a line on a terminal while it goes on, and nothing elsewhere; and no collector of cycles."""
 
+import contextlib
+import gc
 import sys
 import time
+
+
+@contextlib.contextmanager
+def uncollected():
+    """A block without the collector of cycles: rows make none, and it goes over them again and again."""
+    was = gc.isenabled()
+    gc.disable()
+    try:
+        yield
+    finally:
+        if was:
+            gc.enable()
 
 
 class Progress:
