@@ -81,13 +81,14 @@ class Models(Changing):
             self.refused(f"it is empty: {EXPECTED}", text, where=": ")
         self.refused(f"it is empty: {EXPECTED}", "sep=;\n", where=": ")
         self.refused(f"it is empty: {EXPECTED}", "sep=;\n\n", CALLS, *words, where=": ")
-        path = self.folder / "c.csv"
+        path, nul = self.folder / "c.csv", "NUL bytes: is it UTF-16 without a mark? It is read as UTF-8, or as UTF-16 by a mark"
         for data, why in (
-            ("record,time\n1,5\n".encode("utf-16-le"), "it has NUL bytes: is it UTF-16 without a mark? It is read as UTF-8, or as UTF-16 by a mark"),
-            (b"\xff\xfer", "it is no UTF-16, which its mark says"),
+            ("record,time\n1,5\n".encode("utf-16-le"), f" row 1: it begins with {nul}"),
+            ("record,time\n1,5\n".encode("utf-16-be"), f" row 1: it begins with {nul}"),
+            (b"\xff\xfer", ": it is no UTF-16, which its mark says"),
         ):
             path.write_bytes(data)
-            self.refuses(f"{path}: {why}", "edit", self.file("t.csv", CALLS), path)
+            self.refuses(f"{path}{why}", "edit", self.file("t.csv", CALLS), path)
         size = (1 << 24) + 1
         self.refused(f"{size} bytes, where mpedit takes {size - 1}", "add web 5 1 2".ljust(size), CALLS, *words, where=": ")
 

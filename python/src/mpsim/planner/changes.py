@@ -35,8 +35,8 @@ def decoded(path, data):
         text = data.decode("utf-16" if is_wide else "utf-8-sig", "strict" if is_wide else "surrogateescape")
     except UnicodeDecodeError:
         raise ValueError(f"{path}: it is no UTF-16, which its mark says") from None
-    if "\0" in text[:1024]:
-        raise ValueError(f"{path}: it has NUL bytes: is it UTF-16 without a mark? It is read as UTF-8, or as UTF-16 by a mark")
+    if "\0" in text[:2]:
+        raise ValueError(f"{path} row 1: it begins with NUL bytes: is it UTF-16 without a mark? It is read as UTF-8, or as UTF-16 by a mark")
     return text
 
 

@@ -93,10 +93,17 @@ class Edited:
             self.out.update(dict.fromkeys(numbers, change.where))
             self.changed.difference_update(numbers)
         elif change.values:
-            rows = self.rows[numbers.start - 1 : numbers.stop - 1] = list(map(list, self.rows[numbers.start - 1 : numbers.stop - 1]))
+            rows = self._own(numbers)
             for place, text in change.values.items():
                 self._put(change, numbers.start, rows, place, text)
             self.changed.update(range(numbers.start, min(numbers.stop, len(self._texts))))
+
+    def _own(self, numbers):
+        """The rows of records (a list) by their numbers (range), none of which is that of the trace as it was."""
+        rows = self.rows[numbers.start - 1 : numbers.stop - 1]
+        if not self.changed.issuperset(numbers):
+            rows = self.rows[numbers.start - 1 : numbers.stop - 1] = list(map(list, rows))
+        return rows
 
     def _numbers(self, change):
         """The numbers (range) of the records that a change names."""
