@@ -48,6 +48,15 @@ def _parts(sign, by):
     return 1, int(sign + by), 1
 
 
+def _why_no_number(text, may_step):
+    """Why a text is no number (str), nor one of the forms that make one of another, where those may stand."""
+    if re.fullmatch(r"[+*-]?\d*[.,]?\d*", text, re.ASCII) and re.search(r"\d{21}", text, re.ASCII):
+        return "has more than 20 digits in a row"
+    if may_step and "," in text and STEP.fullmatch(text):
+        return "is no *N: where commas part the fields its mark is a point"
+    return "is no number" + (", +N, -N or *N" if may_step else "")
+
+
 def stepped(old, sign, by):
     """What a number (int) becomes by `+`, `-` or `*` (str) and a decimal number (str); a product is rounded half up, exactly.
 
@@ -144,28 +153,24 @@ class Edited:
 
     def _tell_text(self, change, first, rows, place, text):
         """Tells, once a column, that a text stands as it is where it could have made a number of another."""
+        if place in self._is_told:
+            return
         number = next((number for number, row in enumerate(rows, first) if row[place].isdigit()), None)
-        if number is not None and place not in self._is_told:
+        if number is not None:
             self._is_told.add(place)
             why = "the model names no such column" if self.model else "the trace has more than numbers in this column"
             self.told.append(f'{change.where}: "{self.trace.header[place]}" of record {number}: "{text}" stands there as a text, since {why}')
 
     def _judged(self, change, number, place, text):
         """A text of a change (str) that is to stand in a column of a record as it is. Raises ValueError where it can't."""
-        limit, digits = self._limit(place), r"[+*-]?\d*[.,]?\d*"
+        limit = self._limit(place)
         if not text and (limit is not None or not place):
             where = f'{change.where}: "{self.trace.header[place]}" of record {number}'
             raise ValueError(f"{where} is empty: a record has a source, a time, and a number in each column of numbers")
         if not place and text not in self._sources and (self.model or not is_name(text)):
             raise self._refusal(change, number, place, text, f"is no source of {self.model}" if self.model else "is no name of a source")
         if limit is not None and not _is_number(text):
-            forms = "" if change.records is None or change.is_edit else ", +N, -N or *N"
-            why = "is no number" + forms
-            if re.fullmatch(digits, text, re.ASCII) and re.search(r"\d{21}", text, re.ASCII):
-                why = "has more than 20 digits in a row"
-            elif forms and "," in text and STEP.fullmatch(text):
-                why = "is no *N: where commas part the fields its mark is a point"
-            raise self._refusal(change, number, place, text, why)
+            raise self._refusal(change, number, place, text, _why_no_number(text, change.records is not None and not change.is_edit))
         if limit is not None and int(text) > limit:
             raise self._refusal(change, number, place, text, f"is above {limit}")
         return text
