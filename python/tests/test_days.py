@@ -132,8 +132,12 @@ class Days(InFolder):
         self.assertEqual(planner("days", model, trace, "--every", "10", "--open", "8:00")[0], 1)
         self.refuses('"8 o\'clock": no time of the day as h:mm or h:mm:ss', "days", model, trace, "--open", "8 o'clock")
         why = "and days go from midnight to midnight: --every cuts shifts"
-        for opens, closes in ("18:00", "8:00"), ("8:00", "08:00:00"), ("24:00", "24:00"), ("8:00 pm", "12:00 pm"):
+        for opens, closes in ("18:00", "8:00"), ("8:00", "08:00:00"), ("8:00 pm", "12:00 pm"):
             self.refuses(f"--close {closes} isn't later than --open {opens}, {why}", "days", model, trace, "--open", opens, "--close", closes)
+        for words in ("--open", "24:00"), ("--open", "24:00", "--close", "24:00"):
+            self.refuses("--open 24:00: a day is at its end then", "days", model, trace, *words)
+        for words in ("--close", "0:00"), ("--open", "8:00", "--close", "00:00"):
+            self.refuses(f"--close {words[-1]}: the midnight at the end of a day is 24:00", "days", model, trace, *words)
         # Without a line feed it is a model all the same, and no path.
         cr = self.file("cr.txt", TOLD.replace("\n", "\r"))
         shown = TOLD.replace("\n", "\\r").removesuffix("\\r")

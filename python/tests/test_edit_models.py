@@ -42,6 +42,20 @@ class Models(Changing):
             told = f"planner: warning: {model} isn't judged: {why}\nplanner: {counts}\n"
             self.assertEqual(self.tells("edit", trace, changes, "--model", model, error=told), "source,time,talk\nweb,65,20\n")
         self.assertFalse((self.folder / "e.txt").exists())
+        # What a sweep fills in isn't judged, but in a comment.
+        told = f"planner: warning: {{}} isn't judged: {{}} gets its values by planner sweep --set\nplanner: {counts}\n"
+        for text, name in ("loss desk {agents} talk from web\n", "{agents}"), ("loss desk {n:d} talk from web\n", "{n:d}"), ("# {a}\nserver s talk from web\n", None):
+            model = self.file("m.txt", f"model 1\nsource web\n{text}")
+            error = told.format(model, name) if name else f"planner: {counts}\n"
+            self.assertEqual(self.tells("edit", trace, changes, "--model", model, error=error), "source,time,talk\nweb,65,20\n")
+        # Nor by an mpsim that can't be run.
+        model, broken = self.file("m.txt", "model 1\nsource web\n"), self.folder / "mpsim"
+        broken.write_text("#!/bin/sh\nexit 99\n")
+        broken.chmod(0o700)
+        with programs_in(self.folder):
+            status, out, error = planner("edit", trace, changes, "--model", model)
+            self.assertEqual((status, out), (0, "source,time,talk\nweb,65,20\n"))
+            self.assertRegex(error, f"^planner: warning: {model} isn't judged: mpsim ended with status 99.*\nplanner: {counts}\n$")
 
     def test_what_edits_do_not_have(self):
         """A change of a column that the model doesn't name is told where edits are written."""

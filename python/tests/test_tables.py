@@ -94,7 +94,7 @@ class Service(InFolder):
         self.refuses("a percentile is from 0 to 100, and not 101.0", "service", JOBS, "--percentile", 101)
         pool, sweep, page = ("--node", "desk", "--agents", 2), (MODEL, TRACE), (JOBS, "--out", self.folder / "page.html")
         for words in ("service", JOBS), ("hours", JOBS), ("pool", MODEL, TRACE, *pool), ("sojourns", JOBS), ("sweep", *sweep), ("page", *page):
-            for text, why in ("-1", "-1: expected a number of ticks, from 0 on"), ("1.5", "invalid ticks value: '1.5'"):
+            for text, why in ("-1", "-1: expected a number of ticks, from 0 on"), ("1.5", "1.5: expected a number of ticks, from 0 on"):
                 self.refuses(f"argument --within: {why} (planner {words[0]} --help tells more)", *words, f"--within={text}", status=2)
         self.refuses("/absent: cannot read the model", "service", "/absent", "/absent", status=6)
         self.assertEqual(planner("service", "/absent"), (1, "", "planner: /absent: No such file or directory\n"))

@@ -172,17 +172,18 @@ class Plan:
         self.records = Records(len(header), self.time, self.answered, self.columns, column, only, renamed, known)
 
     def judge_renames(self):
-        """Looks at the names that were given once all rows are read. Raises ValueError for that of a source that no row has; one whose rows are all
-        left out is there too."""
+        """Looks at the names that were given once all rows are read; one whose rows are all left out is there too. Of that of a source that no row has
+        a line (str), since a list of names may be meant for each day; where no row has any of them, raises ValueError."""
         if self.records.renamed.keys() <= self.records.names.keys():
-            return
+            return []
         column = self.records.source
         found = dict.fromkeys(row[column].strip() for row in self.export.rows()[0] if column < len(row))
+        lacking = [old for old in self.records.renamed if old not in found]
+        if len(lacking) < len(self.records.renamed):
+            return [f"there is no source {old!r} for --rename" for old in lacking]
         listed = [repr(it) for it in found if it]
-        for old in self.records.renamed:
-            if old not in found:
-                more = f" and {len(listed) - LISTED} more" if listed[LISTED:] else ""
-                raise ValueError(f"there is no source {old!r} for --rename; it has {', '.join(listed[:LISTED]) or 'none'}{more}")
+        more = f" and {len(listed) - LISTED} more" if listed[LISTED:] else ""
+        raise ValueError(f"there is no source {lacking[0]!r} for --rename; it has {', '.join(listed[:LISTED]) or 'none'}{more}")
 
 
 def _renamed(word):

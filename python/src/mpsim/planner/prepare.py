@@ -217,7 +217,7 @@ def _read_some(plan, rows, number, made):
 
 def _finished(plan, rows, begin):
     """The trace of rows that are read."""
-    plan.judge_renames()
+    unnamed = plan.judge_renames()
     left = [
         f"{counted(count, 'row')}: {why}" + (f" ({where})" if count == 1 else f"; the first is {where}")
         for why, (count, where) in sorted(rows.left.items(), key=lambda it: -it[1][0])
@@ -226,6 +226,7 @@ def _finished(plan, rows, begin):
         raise ValueError("; ".join(["no row is left", *left[:3]]))
     made = Prepared(["source", "time", *(it.name for it in plan.columns)], _order(plan, rows.sources), plan.per, plan.place.name)
     made.told += plan.told
+    made.warned += unnamed
     ticks = _ticks(plan, rows.stamps, begin, made)
     made.told += plan.place.told()
     _tell_values(plan, rows, made)

@@ -6,7 +6,7 @@ import os
 
 from .. import runs
 from . import calendar
-from .files import judge_outputs, say, written
+from .files import judge_outputs, say, text_of, written
 from .formats import looks_like_clocks
 from .page import axes, tell_pools
 
@@ -40,6 +40,9 @@ def main(asked):
     judge_outputs([asked.page], {"model": [asked.model], "trace": [asked.trace]})
     for word in calendar.words_of(asked) if not asked.page else ():
         raise ValueError(f"{word} says nothing without --page")
+    # Before a run that may be long, where the model can be read twice.
+    if asked.page and os.path.isfile(asked.model):
+        axes(asked, text_of(asked.model))
     looks = warned(asked.trace)
     if looks:
         say(f"warning: {asked.trace}: its times look like {looks}, and are taken as ticks: planner prepare makes ticks of them")

@@ -7,7 +7,8 @@ import os
 import re
 
 from ..runs import MODELS
-from .pooled import queue_name
+from .models import in_braces, lines_of
+from .pooled import agent_name, queue_name
 from .table import heads
 
 # A plan's columns of the table, but for those of the values.
@@ -90,7 +91,7 @@ class Plan:
             if not any(re.search(rf"\{{{name}\b", it) for it in texts):
                 raise ValueError(f"--set {name}: no model has {{{name}}}")
         for label, text in zip(labels_of(models), texts if not sets else ()):
-            if found := re.search(r"\{([A-Za-z_]\w*)\}", "\n".join(_lines_of(text)), re.ASCII):
+            if found := in_braces(text):
                 raise ValueError(f"model {label}: {found[0]} has no --set: --set {found[1]}=FROM..TO, or --set {found[1]}=VALUE,VALUE")
         named = [{"label": label, "path": path, "sum": None} for label, path in zip(labels_of(traces), traces)]
         plan = cls(list(zip(labels_of(models), texts)), sets, named)
@@ -123,15 +124,19 @@ class Plan:
             raise ValueError(f"model {label}: a name in braces has no --set ({type(fault).__name__}: {fault})") from None
 
     def judge_nodes(self, nodes):
-        """Raises ValueError for the name of a node, or of a pool, that a model hasn't: nothing has to be run to know that."""
+        """Raises ValueError for the name of a node, or of a pool, that a model hasn't: nothing has to be run to know that. A text that isn't begun as
+        a model is passed over: its run is refused, and has its row."""
         for which, (label, text) in enumerate(self.models if nodes else ()):
+            if not re.match(r"(?:[ \t]*(?:#.*)?\r?\n)*[ \t]*model[ \t]+[12][ \t\r\n]", text.removeprefix("\ufeff")):
+                continue
             # Where no name has a value in it, one variant tells of all.
-            count = self.combinations if any("{" in it for it in _names_in(text)) else 1
+            count = self.combinations if any("{" in it for it in _kinds_in(text)) else 1
             for at in range(which * self.combinations, which * self.combinations + count):
-                names = _names_in(self.model(at)[2])
+                kinds = _kinds_in(self.model(at)[2])
                 for name in nodes:
-                    if name not in names and queue_name(name) not in names:
-                        raise ValueError(f"model {label}: there is no node {name!r}; it has {', '.join(names) or 'none'}")
+                    is_pool = kinds.get(queue_name(name)) == "split" and kinds.get(agent_name(name, 1)) == "server"
+                    if name not in kinds and not is_pool:
+                        raise ValueError(f"model {label}: there is no node {name!r}; it has {', '.join(kinds) or 'none'}")
 
     def shard(self, number):
         """Of a shard its trace, and the numbers of its models (a range)."""
@@ -156,15 +161,10 @@ class Plan:
         return cls(told["models"], told["sets"], told["traces"])
 
 
-def _lines_of(text):
-    """The lines (list of str) of a model's text that are no comments."""
-    return [it for it in text.split("\n") if not it.lstrip(" \t").startswith("#")]
-
-
-def _names_in(text):
-    """The names (list of str) of the nodes that the lines of a model's text are of, of one that mpsim refuses too."""
-    words = map(str.split, _lines_of(text.removeprefix("\ufeff")))
-    return [it[1] for it in words if len(it) > 1 and it[0] not in ("model", "bound")]
+def _kinds_in(text):
+    """The kinds (str) by the names of the nodes that the lines of a model's text are of, of one that mpsim refuses too."""
+    words = map(str.split, lines_of(text))
+    return {it[1]: it[0] for it in words if len(it) > 1 and it[0] not in ("model", "bound")}
 
 
 def _sum_of_parts(told):

@@ -25,7 +25,11 @@ def figure_words(parser, what="waits", share="the share served within so many ti
 
 def ticks(text):
     """The ticks (int) of a word of --within."""
-    if (value := int(text)) < 0:
+    try:
+        value = int(text)
+    except ValueError:
+        value = -1
+    if value < 0:
         raise argparse.ArgumentTypeError(f"{text}: expected a number of ticks, from 0 on")
     return value
 

@@ -198,7 +198,9 @@ def _tell_lacking(folder, damaged):
 def _in_folder(asked):
     if asked.resume or asked.table or asked.shard is not None:
         folder = shards.Folder.read(asked.folder)
-        folder.plan.judge_nodes(asked.node)
+        # A shard has no rows.
+        if asked.shard is None:
+            folder.plan.judge_nodes(asked.node)
     else:
         folder = shards.Folder.begun(asked.folder, _plan(asked))
     if asked.shard is not None:
