@@ -1,5 +1,6 @@
 """A trace with changes in its records: each form of a change, each refusal, and which bytes stay as they were."""
 
+import csv
 import os
 import random
 import unittest
@@ -89,6 +90,8 @@ class Forms(Changing):
         for name, word, words, row, why in (
             ("caller", "+49305555", model, "web,5,20,+49305555,7\n", lacks),
             ("caller", "+49305555", (), "web,5,20,+49305555,7\n", "since the trace has more than numbers in this column"),
+            ("code", "+49305555", (), "web,5,20,030222,+49305555\n", 'since the trace has "07" in this column, which begins with 0'),
+            ("code", "+1", ("--model", self.file("m2.txt", "model 1\nsource web\nserver s code from web\n")), "web,5,20,030222,8\n", None),
             ("n", "+3", model, "web,5,20,030222,+3\n", lacks),
             ("n", "+3", (), "web,5,20,030222,10\n", None),
             ("g", "+3", model, "web,5,23,030222,7\n", None),
@@ -96,7 +99,15 @@ class Forms(Changing):
         ):
             with self.subTest(name, word=word, words=words):
                 told = f'{changes} row 2: "{name}" of record 1: "{word}" stands there as a text, {why}\nplanner: ' if why else ""
-                self.assertEqual(self.rows(f"record,{name}\n1,{word}\n", trace, *words, told=told + counts), [row, second])
+                # The last column has a number that begins with 0, as a code does.
+                given, behind = (trace.replace(",n\n", ",code\n").replace(",7\n", ",07\n"), second) if name == "code" else (trace, second)
+                self.assertEqual(self.rows(f"record,{name}\n1,{word}\n", given, *words, told=told + counts), [row, behind])
+        # A time is a number, and so is 0.
+        self.assertEqual(self.rows("record,time,n\n1,+1,+2\n", "source,time,n\nweb,05,0\n"), ["web,6,2\n"])
+        told = f'{changes} row 3: "n" of record 1: "+2" stands there as a text, since the trace has no record'
+        counts_of_one = "1 record of 0: 0 changed, 1 added, 0 taken out"
+        changed = self.rows("record,source,time,n\n+,web,7,1\n1,,,+2\n", "source,time,n\n", told=f"{told}\nplanner: {counts_of_one}")
+        self.assertEqual(changed, ["web,7,+2\n"])
         # It is told once a column, of the first number in whose place a text stands.
         told = f'{changes} row 2: "caller" of record 1: "+1" stands there as a text, {lacks}\nplanner: {counts.replace("1 changed", "2 changed")}'
         rows = self.rows("record,caller\n1-2,+1\n1,5\n1-2,*2\n", trace, *model, told=told)
@@ -126,6 +137,59 @@ class Forms(Changing):
             self.assertEqual(self.rows(changes), wanted, changes)
         self.assertEqual(self.rows("record;Out\n1;YES\n2;Yes\n3;yes\n"), [])
         self.assertEqual(self.rows("Record;Empty;Out\n3;note;\n")[2], "phone,9,2,0,\n")
+
+    def test_changes_that_are_no_utf_8(self):
+        """They are Windows-1252 where the trace is UTF-8, as a spreadsheet saves them; where it isn't either, bytes stand as they are."""
+        path, counts = self.folder / "c.csv", "1 record of 1: 1 changed, 0 added, 0 taken out"
+        for trace, changes, wanted, told in (
+            ("source,time,für\nweb,1,Müller\n".encode(), b"record;f\xfcr\n1;B\xfcro \x80\n", "web,1,Büro €\n".encode(), True),
+            (b"source,time,note\nweb,1,\n", b"record,note\n1,B\xfcro\n", "web,1,Büro\n".encode(), True),
+            ("source,time,für\nweb,1,Müller\n".encode(), "record;für\n1;Büro\n".encode(), "web,1,Büro\n".encode(), False),
+            (b"source,time,f\xfcr\nweb,1,\n", b"record;f\xfcr\n1;B\xfcro\n", b"web,1,B\xfcro\n", False),
+            (b"source,time,note\nweb,1,M\xfcller\n", b"\xef\xbb\xbfrecord;note\n1;B\xfcro\x81\n", b"web,1,B\xfcro\x81\n", False),
+        ):
+            with self.subTest(trace, changes=changes):
+                (self.folder / "t.csv").write_bytes(trace)
+                path.write_bytes(changes)
+                out = self.folder / "o.csv"
+                error = f"planner: {path} is read as Windows-1252\n" if told else ""
+                self.tells("edit", self.folder / "t.csv", path, "--out", out, error=f"{error}planner: {counts}\n")
+                self.assertEqual(out.read_bytes().splitlines(keepends=True)[1:], [wanted])
+        for data, why in (
+            (b"\xef\xbb\xbfrecord,note\n1,\xfc\n", "line 2: the byte fc is no UTF-8, which its mark says"),
+            (b"record,note\n\n1,\xfc\x81\n", "line 3: the byte 81 is neither UTF-8 nor Windows-1252"),
+        ):
+            path.write_bytes(data)
+            self.refuses(f"{path}: {why}", "edit", self.file("t.csv", CALLS), path)
+
+    def test_columns_without_a_name(self):
+        """Empty names at the end of a header are columns of a spreadsheet, unless the trace has such a column."""
+        trace = "source,time,,talk\nweb,1,a,5\n"
+        for changes, wanted in (
+            ("record,,talk\n1,x,7\n", "web,1,x,7\n"),
+            ("record,talk,\n1,7,x\n", "web,1,x,7\n"),
+            ("record,talk,\n1,7,\n", "web,1,a,7\n"),
+            ("record,,empty\n1,x,\n", "web,1,x,5\n"),
+        ):
+            self.assertEqual(self.rows(changes, trace), [wanted], changes)
+        self.refused('"" stands twice', "record,talk,,\n1,7,x,\n", trace, where=" row 1: ")
+
+    def test_a_column_that_is_called_empty(self):
+        """It is changed as others, and nothing is emptied there."""
+        trace = "source,time,empty,note\na,0,1,x\n"
+        self.assertEqual(self.rows("record,empty\n1,4\n", trace), ["a,0,4,x\n"])
+        self.assertEqual(self.rows("record,empty,out\n1,+4,\n", trace), ["a,0,5,x\n"])
+        self.refused('"empty" of record 1: "note" is no number, +N, -N or *N', "record,empty\n1,note\n", trace)
+        self.refused('"Empty" is no column of the trace; it has source, time, empty, note', "record,Empty\n1,4\n", trace, where=" row 1: ")
+        self.assertEqual(self.rows("record,empty,Empty\n1,Empty,\n", trace.replace("empty", "Empty").replace(",1,", ",b,")), ["a,0,,x\n"])
+
+    def test_rows_that_end_early(self):
+        """Their last fields are empty, as a spreadsheet leaves them off."""
+        a, b, c = CALLS.splitlines(keepends=True)[1:]
+        self.assertEqual(self.rows("record;time;note\n1;+5\n3;;y\n2\n"), [a.replace(",0,", ",5,", 1), b, c.replace("z", "y")])
+        self.assertEqual(self.rows("record,source,time,g,kind,note\n+,web,7,1,2\n")[3:], ["web,7,1,2,\n"])
+        self.assertEqual(self.rows("record,note,out\n2,,yes\n1\n3,y\n"), [a, c.replace("z", "y")])
+        self.assertEqual(self.rows("record,time,,\n1,5\n", "source,time\na,0\n"), ["a,5\n"])
 
     def test_a_record_out(self):
         """Those behind it keep their numbers."""
@@ -165,10 +229,18 @@ class Forms(Changing):
     def test_changes_as_they_are_written(self):
         """With a mark, quotes, carriage returns, empty rows, and bytes that are no UTF-8; a row with line feeds counts once."""
         changes = '\ufeff"record","note",time\r\n\r\n1,"p\nq",\r\n,,\r\n"2-3",\udce4,"+1"\r\n'
-        self.assertEqual(self.rows(changes)[-1], "phone,10,2,0,\udce4\n")
+        self.assertEqual(self.rows(changes, CALLS.replace("z", "\udcfc"))[-1], "phone,10,2,0,\udce4\n")
         changes = self.file("c.csv", 'record,note,time\n\n1,"p\nq",\n1,,x5\n')
         line = f'{changes} row 4: "time" of record 1: "x5" is no number, +N, -N or *N'
         self.refuses(line, "edit", self.file("t.csv", CALLS), changes)
+
+    def test_long_fields_of_a_library(self):
+        """`edited` takes fields as long as the command does, and leaves the limit of Python's reader as it was."""
+        limit, long = csv.field_size_limit(), "x" * 200000
+        trace, changes = self.file("t.csv", f"source,time,note\na,1,\na,2,{long}"), self.file("c.csv", f"record,source,time,note\n1,,,{long}\n+,a,3,y\n")
+        made = edit.edited(trace, changes)
+        self.assertEqual("".join(made.lines()), f"source,time,note\na,1,{long}\na,2,{long}\na,3,y\n")
+        self.assertEqual(csv.field_size_limit(), limit)
 
     def test_files(self):
         """The output has its name when it is whole, and nothing that is read is written over."""
@@ -215,18 +287,20 @@ class Refusals(Changing):
         self.refused('"time" stands twice in the header of the trace', "record,time\n1,2\n", twice, where=" row 1: ")
         why = '"out" takes records out, and the trace has a column of that name: call that otherwise'
         self.refused(why, "record,out\n1,yes\n", "source,time,out\na,0,1\n", where=" row 1: ")
-        why = '"empty" empties columns, and the trace has a column of that name: call that otherwise'
-        self.refused(why, "record,empty\n1,time\n", "source,time,empty\na,0,1\n", where=" row 1: ")
         # The trace may have a column record, whose name is that of the numbers then.
         words = "edit", self.file("t.csv", "source,time,record\na,0,7\n"), self.file("c.csv", "record,time\n1,5\n")
         self.assertEqual(planner(*words)[1], "source,time,record\na,5,7\n")
 
     def test_rows(self):
-        self.refused("2 fields, where the header has 3", "record,time,g\n1,2\n")
-        self.refused("1 field, where the header has 2", "record,time\n1\n")
         self.refused("4 fields, where the header has 3", "record,time,g\n1,2,3,4\n")
         self.refused("4 fields, where the header has 3", "record,time,g,,\n1,2,3,4\n")
-        self.refused("3 fields, where the header has 4", "record,time,g,kind,\n1,2,3\n")
+        self.refused("2 fields, where the header has 1", "record\n1,5\n")
+        # A quote that isn't closed takes what is behind it for one field.
+        self.refused("2 fields, where the header has 3", 'record,note,time\n1,"x,5\n2,y,6\n')
+        self.refused("2 fields, where the header has 3", 'record,note,time\r1,"x,5\r2,y,6\r')
+        # Parted otherwise than the header.
+        for row in "1;+5", "1|+5", "1 +5":
+            self.refused(f'record "{row}": expected a number from 1 to 3, a range as 100-109, or +', f"record,time\n{row}\n")
         forms = "expected a number from 1 to 3, a range as 100-109, or +"
         for record in "0", "4", "1-4", "3-2", "0-1", "x", "", "-1", "+1", " 1", "1 - 2", "1-2-3", "1.0", "\u0663", "000000000000000000001", "++":
             self.refused(f'record "{record}": {forms}', f"record,time\n{record},2\n")
@@ -283,6 +357,17 @@ class Refusals(Changing):
         self.refused('"time" of record 4: "+5" is no number', "record,source,time,g,kind,note\n+,web,+5,1,1,1\n")
         self.refused('"time" of record 2: "+5" wants a number in its place, and not "x"', "record,time\n1-2,+5\n", "source,time\na,1\na,x\n")
         self.refused('"g" of record 3: "*1,x" is no number, +N, -N or *N', "record;g\n3;*1,x\n")
+        for word, why in (
+            ("*1,500", "is 1.5 or 1500: write *1.5 or *1500"),
+            ("*1.500", "is 1.5 or 1500: write *1.5 or *1500"),
+            ("*100,000", "is 100 or 100000: write *100 or *100000"),
+            ("*12.125", "is 12.125 or 12125: write *12.1250 or *12125"),
+        ):
+            for mark in ";\t|":
+                self.refused(f'"g" of record 3: "{word}" {why}', f"record{mark}g\n3{mark}{word}\n")
+        for changes in "record;g\n3;*1,5000\n", "record;g\n3;*1,50\n", "record,g\n3,*1.500\n", "record;g\n3;*1500\n3;*0,001\n":
+            self.assertEqual(self.rows(changes)[2], "phone,9,3,0,z\n", changes)
+        self.assertEqual(self.rows("record;note\n3;*1,500\n")[2], 'phone,9,2,0,"*1,500"\n')
         # The limits themselves, and columns that no model can read.
         for trace, changes, wanted in (
             ("source,time,d\na,1,2\n", f"record,time,d\n1,{TIME},+{VALUE - 2}\n", f"a,{TIME},{VALUE}\n"),

@@ -71,6 +71,9 @@ class Models(Changing):
             self.tells(*words, "--edits", edits, error=f"{told}planner: {counts}\n")
             self.assertEqual(text_of(edits), edit)
             self.tells(*words, error=f"planner: {counts}\n")
+        trace = self.file("t.csv", "source,time,g,\nweb,5,20,1\n")
+        told = f'planner: {edits} has no change of "", which {model} doesn\'t name\nplanner: {counts}\n'
+        self.tells("edit", trace, self.file("c.csv", "record,\n1,2\n"), "--model", model, "--edits", edits, error=told)
 
     def test_edits_of_mpedit(self):
         model = self.file("m.txt", "model 1\nsource phone\nsource web\nsplit k cut kind 1 from phone web\nserver s g from k k.1\n")

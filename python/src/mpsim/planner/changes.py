@@ -10,7 +10,7 @@ from .files import counted
 
 
 EXPECTED = "expected record, with names of columns behind it, or with --model set or add"
-# Names in the header of changes that are none of the trace's.
+# Names in the header of changes that are none of the trace's; where the trace has a column `empty` that is one.
 WORDS = "record", "out", "empty"
 
 
@@ -40,6 +40,17 @@ def decoded(path, data):
     return text
 
 
+def recoded(path, data):
+    """The text (str) of changes (bytes) that are no UTF-8 though the trace is: Windows-1252, as `prepare` takes an export. Raises ValueError with the
+    line where they are none, or have the mark of UTF-8."""
+    encoding, why = ("utf-8", "no UTF-8, which its mark says") if data.startswith(codecs.BOM_UTF8) else ("cp1252", "neither UTF-8 nor Windows-1252")
+    try:
+        return data.decode(encoding)
+    except UnicodeDecodeError as fault:
+        line = data.count(b"\n", 0, fault.start) + 1
+        raise ValueError(f"{path}: line {line}: the byte {data[fault.start]:02x} is {why}") from None
+
+
 def _parted(text):
     """The delimiter of a text of CSV (str), and how many rows stand before its header: a spreadsheet's own `sep=;`, or else what stands behind the
     word record."""
@@ -59,7 +70,8 @@ def by_names(path, text, header):
             if names is None and fields:
                 names = _judged_names(where, fields, header) if number > before else None
             elif any(fields):
-                if len(fields) < len(names) or any(fields[len(names) :]):
+                # Empty fields at the end may be left off. A row of several lines that ends early rather has a quote that isn't closed.
+                if any(fields[len(names) :]) or len(fields) < len(names) and re.search(r"[\r\n]", fields[-1]):
                     raise ValueError(f"{where}: {counted(len(fields), 'field')}, where the header has {len(names)}")
                 yield _by_names(where, dict(zip(names, fields)), header, delimiter != ",")
     except csv.Error as fault:
@@ -70,11 +82,11 @@ def by_names(path, text, header):
 
 def _by_names(where, fields, header, has_commas):
     """The change of a row whose fields have these names (a dict of str)."""
-    record, out, emptied = fields.pop("record"), fields.pop("out", ""), fields.pop("empty", "")
+    record, out, emptied = fields.pop("record"), fields.pop("out", ""), "" if "empty" in header else fields.pop("empty", "")
     given = {name: it for name, it in fields.items() if it}
     if out and out.casefold() != "yes":
         raise ValueError(f'{where}: "out" of record {record}: "{out}" is neither yes nor empty')
-    if emptied in given:
+    if emptied and emptied in given:
         raise ValueError(f'{where}: "{emptied}" of record {record}: it is emptied, and takes no value')
     if emptied:
         _judge_name(f'{where}: "empty" of record {record}', emptied, header)
@@ -94,22 +106,22 @@ def _judge_name(where, name, header):
 
 
 def _judged_names(where, fields, header):
-    """The names (list of str) in the header of changes, without empty ones at its end; what isn't a name of the trace may have other capitals. Raises
-    ValueError for one that the trace doesn't have, or that may stand for two."""
+    """The names (list of str) in the header of changes, without empty ones at its end where the trace has none; what isn't a name of the trace may have
+    other capitals. Raises ValueError for one that the trace doesn't have, or that may stand for two."""
+    words = [it for it in WORDS if it != "empty" or it not in header]
     names = [it if it in header else it.strip() for it in fields]
-    names = [it.casefold() if it not in header and it.casefold() in WORDS else it for it in names]
+    names = [it.casefold() if it not in header and it.casefold() in words else it for it in names]
     names[0] = names[0].casefold() if names[0].casefold() == "record" else names[0]
-    while len(names) > 1 and not names[-1]:
+    while len(names) > 1 and not names[-1] and "" not in header:
         names.pop()
     if names[0] != "record":
         raise ValueError(f'{where}: "{names[0]}": {EXPECTED}')
     for name in names:
         if names.count(name) > 1:
             raise ValueError(f'{where}: "{name}" stands twice')
-        if name in ("out", "empty") and name in header:
-            does = "takes records out" if name == "out" else "empties columns"
-            raise ValueError(f'{where}: "{name}" {does}, and the trace has a column of that name: call that otherwise')
-        if name not in WORDS:
+        if name == "out" and name in header:
+            raise ValueError(f'{where}: "out" takes records out, and the trace has a column of that name: call that otherwise')
+        if name not in words:
             _judge_name(where, name, header)
     return names
 

@@ -7,20 +7,22 @@ import re
 
 from ..inputs import Add, Set
 from ..model import columns, sources
-from .changes import EXPECTED, Change, by_edits, by_names, decoded
+from .changes import EXPECTED, Change, by_edits, by_names, decoded, recoded
 from .files import bytes_of, counted, judge_outputs, say, written
 from .lengths import GREATEST_VALUE
 from .models import judged_text
 from .names import is_name
 from .prepare import GREATEST_TIME, RECORDS
 from .progress import uncollected
-from .traces import Trace, pool_warning
+from .traces import Trace, fields_up_to, is_utf8, pool_warning
 
 EXAMPLE = "planner edit trace.csv changes.csv --out edited.csv"
 # What mpedit takes of edits.
 BYTES = 1 << 24
 # What makes a number of the one that is there.
 STEP = re.compile(r"([+-])(\d{1,20})|\*(\d{1,20}(?:[.,]\d{1,20})?)", re.ASCII)
+# So many times, with a fraction in one country and by thousands in another.
+DOUBTFUL = re.compile(r"\*([1-9]\d{0,2})[.,](\d{3})", re.ASCII)
 # The greatest number of 20 digits, which are the most that a number has.
 MOST = 10**20 - 1
 
@@ -39,6 +41,11 @@ def _is_number(text):
     return text.isdigit() and text.isascii() and len(text) <= 20
 
 
+def _is_code(text):
+    """Whether a number (str) is rather a code or a telephone: of one that is counted nobody writes a 0 in front."""
+    return text[0] == "0" and len(text) > 1
+
+
 def _parts(sign, by):
     """The numbers (int) times, more and over of a step, which makes (old * times + more) // over of a number."""
     if sign == "*":
@@ -55,6 +62,12 @@ def _why_no_number(text, may_step):
     if may_step and "," in text and STEP.fullmatch(text):
         return "is no *N: where commas part the fields its mark is a point"
     return "is no number" + (", +N, -N or *N" if may_step else "")
+
+
+def _why_doubtful(whole, part):
+    """Why digits (str) before and behind a mark may be two numbers, and how each of them is written without a doubt."""
+    told = f"{whole}.{part}".rstrip("0").rstrip(".")
+    return f"is {told} or {whole}{part}: write *{told}{'0' * (part[-1] != '0')} or *{whole}{part}"
 
 
 def stepped(old, sign, by):
@@ -140,6 +153,8 @@ class Edited:
             for row in rows:
                 row[place] = text
             return
+        if change.has_commas and (found := DOUBTFUL.fullmatch(text)):
+            raise self._refusal(change, first, place, text, _why_doubtful(*found.groups()))
         times, more, over = _parts(step[1] or "*", step[2] or step[3])
         for number, row in enumerate(rows, first):
             old = row[place]
@@ -158,8 +173,18 @@ class Edited:
         number = next((number for number, row in enumerate(rows, first) if row[place].isdigit()), None)
         if number is not None:
             self._is_told.add(place)
-            why = "the model names no such column" if self.model else "the trace has more than numbers in this column"
-            self.told.append(f'{change.where}: "{self.trace.header[place]}" of record {number}: "{text}" stands there as a text, since {why}')
+            where = f'{change.where}: "{self.trace.header[place]}" of record {number}'
+            self.told.append(f'{where}: "{text}" stands there as a text, since {self._why_text(place)}')
+
+    def _why_text(self, place):
+        """Why a column is one of texts (str)."""
+        if self.model:
+            return "the model names no such column"
+        fields = [row[place] for row in self.trace.rows]
+        if not all(map(_is_number, fields)):
+            return "the trace has more than numbers in this column"
+        code = next(filter(_is_code, fields), None)
+        return f'the trace has "{code}" in this column, which begins with 0' if code else "the trace has no record"
 
     def _judged(self, change, number, place, text):
         """A text of a change (str) that is to stand in a column of a record as it is. Raises ValueError where it can't."""
@@ -178,12 +203,17 @@ class Edited:
     def _refusal(self, change, number, place, text, why):
         return ValueError(f'{change.where}: "{self.trace.header[place]}" of record {number}: "{text}" {why}')
 
+    def is_utf8(self):
+        """Whether the trace has no bytes but those of UTF-8."""
+        return all(map(is_utf8, self._texts))
+
     def _limit(self, place):
         """The greatest number of a column of numbers (int), None of one of text. Of numbers are the times, the columns that the model names, and
-        without a model those in which the trace has nothing else; where it has a number there that is too large for any model, that is no limit."""
+        without a model those in which the trace has nothing else, and none as a code has it, which begins with 0; where it has a number there that is
+        too large for any model, that is no limit."""
         if place not in self._limits:
             fields = set() if self.model else {row[place] for row in self.trace.rows}
-            is_of_numbers = bool(fields) and all(map(_is_number, fields))
+            is_of_numbers = bool(fields) and all(map(_is_number, fields)) and not any(map(_is_code, fields))
             self._limits[place] = (GREATEST_VALUE if max(map(int, fields)) <= GREATEST_VALUE else MOST) if is_of_numbers else None
         return self._limits[place]
 
@@ -218,8 +248,9 @@ class Edited:
         return lines
 
     def unnamed(self):
-        """The names (list of str) of the columns that changes are in, and that no edit of mpedit has, since the model doesn't name them."""
-        return [self.trace.header[place] for place in sorted(self._changed_places.difference(self.places))]
+        """The names (list of str, `""` of one without) of the columns that changes are in, and that no edit of mpedit has, since the model doesn't name
+        them."""
+        return [self.trace.header[place] or '""' for place in sorted(self._changed_places.difference(self.places))]
 
     def counts(self):
         """How many records there are, and how many of them are changed or added, and how many taken out (str)."""
@@ -247,7 +278,8 @@ def _end(text):
 
 def _is_closed(text):
     """Whether a record that is written behind this text is one of its own."""
-    return len(list(csv.reader(io.StringIO((text if _end(text) else text + "\n") + "x", newline="")))) > 1
+    with fields_up_to():
+        return len(list(csv.reader(io.StringIO((text if _end(text) else text + "\n") + "x", newline="")))) > 1
 
 
 def edited(path, changes, model=None):
@@ -256,6 +288,9 @@ def edited(path, changes, model=None):
     made, data = Edited(path, model), bytes_of(changes)
     text = decoded(changes, data)
     if text.split(None, 1)[:1] not in ([], ["set"], ["add"]):
+        if not is_utf8(text) and made.is_utf8():
+            text = recoded(changes, data)
+            made.told.append(f"{changes} is read as Windows-1252")
         found = by_names(changes, text, made.trace.header)
     elif model is None:
         why = "these are edits of mpedit: --model has the order of their values" if text.strip() else f"it is empty: {EXPECTED}"
@@ -264,8 +299,9 @@ def edited(path, changes, model=None):
         raise ValueError(f"{changes}: {len(data)} bytes, where mpedit takes {BYTES}")
     else:
         found = by_edits(changes, text, made.columns, made.places)
-    for change in found:
-        made.make(change)
+    with fields_up_to():
+        for change in found:
+            made.make(change)
     return made
 
 

@@ -24,6 +24,20 @@ def fields_up_to(most=LONGEST):
         csv.field_size_limit(before)
 
 
+def is_utf8(text):
+    """Whether a text that was read with surrogateescape has no bytes but those of UTF-8.
+
+    >>> from mpsim.planner.traces import is_utf8
+    >>> is_utf8("Büro"), is_utf8(b"B\\xfcro".decode("utf-8", "surrogateescape"))
+    (True, False)
+    """
+    try:
+        text.encode()
+    except UnicodeEncodeError:
+        return False
+    return True
+
+
 class Trace:
     """A trace: its `path` (str), its `header` (list of str), and its `rows` (a list of lists of str, of as many fields each), in the order of the
     file, without empty lines. Bytes that aren't UTF-8 stand in it as Python's surrogateescape has them.
