@@ -106,8 +106,8 @@ def _judge_name(where, name, header):
 
 
 def _judged_names(where, fields, header):
-    """The names (list of str) in the header of changes, without empty ones at its end where the trace has none; what isn't a name of the trace may have
-    other capitals. Raises ValueError for one that the trace doesn't have, or that may stand for two."""
+    """The names (list of str) in the header of changes, without empty ones at its end where the trace has none; what isn't a name of the trace may
+    have other capitals. Raises ValueError for one that the trace doesn't have, or that may stand for two."""
     words = [it for it in WORDS if it != "empty" or it not in header]
     names = [it if it in header else it.strip() for it in fields]
     names = [it.casefold() if it not in header and it.casefold() in words else it for it in names]

@@ -248,8 +248,8 @@ class Edited:
         return lines
 
     def unnamed(self):
-        """The names (list of str, `""` of one without) of the columns that changes are in, and that no edit of mpedit has, since the model doesn't name
-        them."""
+        """The names (list of str, `""` where it is empty) of the columns that changes are in, and that no edit of mpedit has, since the model doesn't
+        name them."""
         return [self.trace.header[place] or '""' for place in sorted(self._changed_places.difference(self.places))]
 
     def counts(self):
