@@ -44,7 +44,11 @@ class Models(Changing):
         self.assertFalse((self.folder / "e.txt").exists())
         # What a sweep fills in isn't judged, but in a comment.
         told = f"planner: warning: {{}} isn't judged: {{}} gets its values by planner sweep --set\nplanner: {counts}\n"
-        for text, name in ("loss desk {agents} talk from web\n", "{agents}"), ("loss desk {n:d} talk from web\n", "{n:d}"), ("# {a}\nserver s talk from web\n", None):
+        for text, name in (
+            ("loss desk {agents} talk from web\n", "{agents}"),
+            ("loss desk {n:d} talk from web\n", "{n:d}"),
+            ("# {a}\nserver s talk from web\n", None),
+        ):
             model = self.file("m.txt", f"model 1\nsource web\n{text}")
             error = told.format(model, name) if name else f"planner: {counts}\n"
             self.assertEqual(self.tells("edit", trace, changes, "--model", model, error=error), "source,time,talk\nweb,65,20\n")

@@ -377,7 +377,8 @@ class Values(Test):
         self.assertEqual(some.sources, ["buro", "buro_2", "zed", "zed"])
         self.assertEqual([it for it in some.warned if "source" in it], [f"there is no source '{it}' for --rename" for it in ("Quiet", "q")])
         for names, first in (["Quiet=q"], "Quiet"), (["z=zed", "Quiet=q"], "z"):
-            self.assertRaisesRegex(ValueError, f"there is no source '{first}' for --rename; it has ", prepare, rows, "when", source="who", rename=names)
+            with self.assertRaisesRegex(ValueError, f"there is no source '{first}' for --rename; it has "):
+                prepare(rows, "when", source="who", rename=names)
         # One whose rows are all left out may be renamed too.
         late, given = table("8:00,a,1", "x,B,1", "8:01", "8:02,C,1"), {"format": "clock", "source": "who", "model": "model 1\nsource a\n"}
         late = prepare(late, "when", rename=["B=b", "C=c"], **given)

@@ -29,6 +29,25 @@ class Plans(Test):
         self.assertEqual((plan.scenarios, plan.shards, plan.model(999999)[2]), (1000000, 15625, "999 999\n"))
         self.assertLess(len(plan.text()), 20000)
 
+    def test_nodes_that_a_model_has(self):
+        """A pool is there by the kinds of its nodes; of a text that isn't begun as a model its run tells."""
+        front, servers = "model 1\nsource s\n", "server desk_1 a from desk_queue\nserver desk_2 a from desk_queue.1\n"
+        judged = lambda text: Plan([["x", text]], {}, [{"label": "t"}]).judge_nodes(["s", "desk"])
+        for text in (
+            front + "server desk a from s\n",
+            front + "split desk_queue 2 turn from s\n" + servers,
+            front + "delay desk_queue w from s\ntrunk desk 2 a from desk_queue\n",
+            "garbage\n", "model 3\n", "",
+        ):
+            judged(text)
+        for text, names in (
+            (front + "server desk_queue a from s\n", "s, desk_queue"),
+            (front + "server desk_queue a from s\n" + servers, "s, desk_queue, desk_1, desk_2"),
+            ("# a model\n\n" + front + "split desk_queue 2 turn from s\ndelay desk_1 a from desk_queue\n", "s, desk_queue, desk_1"),
+            (front + "nonsense\n", "s"),
+        ):
+            self.assertRaisesRegex(ValueError, f"^model x: there is no node 'desk'; it has {names}$", judged, text)
+
     def test_values(self):
         found = [values_of(it) for it in ("a=1..3", "a=1..9..4", "b=2,x", "c==5,=7", "d=0..0", "e=0..10..5")]
         self.assertEqual(found, [("a", [1, 2, 3]), ("a", [1, 5, 9]), ("b", ["2", "x"]), ("c", ["=5", "=7"]), ("d", [0]), ("e", [0, 5, 10])])

@@ -206,14 +206,6 @@ class InMemory(InFolder):
         other.write_text(front + "server desk_1 a from desk_queue\nserver desk_2 a from desk_queue.1\n")
         told = self.told(other, self.trace, "--node", "desk")
         self.assertEqual((told[0], told[1].splitlines()[1].split(",")[4:6]), (0, ["desk", "pool"]), told)
-        # It isn't there by the name of its queue alone; and what is no model is refused by its run, in its row.
-        plain, none = self.folder / "plain.txt", self.folder / "none.txt"
-        plain.write_text("model 1\nsource calls\nserver desk_queue a from calls\n")
-        none.write_text("garbage\n")
-        line = "planner: model plain: there is no node 'desk'; it has calls, desk_queue"
-        self.assertEqual(self.told(plain, self.trace, "--node", "desk"), (1, "", [line]))
-        status, out, _ = self.told(none, self.trace, "--node", "desk")
-        self.assertEqual((status, [row["status"] for row in csv.DictReader(io.StringIO(out))]), (11, ["3"]))
         self.told(other, self.trace, "--folder", self.at)
         for way in "--table", "--resume":
             self.assertEqual(self.told("--folder", self.at, way, "--node", "zz")[:2], (1, ""))

@@ -67,8 +67,10 @@ def by_calendar(times, days, opens=None, closes=None):
     found = list(days.midnights(last))
     begins = [days.tick_at(begin) for _, begin, _ in found] + [days.tick_at(end) for _, _, end in found[-1:]]
     clocks = [_clock(it) if it else None for it in (opens, closes)]
-    if clocks[0] == DAY or clocks[1] == 0:
-        raise ValueError(f"--open {opens}: a day is at its end then" if clocks[0] == DAY else f"--close {closes}: the midnight at the end of a day is 24:00")
+    if clocks[0] == DAY:
+        raise ValueError(f"--open {opens}: a day is at its end then")
+    if clocks[1] == 0:
+        raise ValueError(f"--close {closes}: the midnight at the end of a day is 24:00")
     if None not in clocks and clocks[1] <= clocks[0]:
         raise ValueError(f"--close {closes} isn't later than --open {opens}, and days go from midnight to midnight: --every cuts shifts")
     hours = [None if it is None else [days.tick_at(days.place.first(day * DAY + it)) for day, _, _ in found] for it in clocks]

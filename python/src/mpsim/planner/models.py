@@ -15,7 +15,7 @@ def lines_of(text):
 
 
 def in_braces(text):
-    """The first name in braces (a match, with the name as its group) of a model's text, as `{agents}` or `{agents:d}`, which a sweep fills; else None."""
+    """The first name in braces (a match, with the name as its group) of a model's text, as `{agents}` or `{agents:d}`, which sweeps fill; or None."""
     return re.search(r"\{([A-Za-z_]\w*)[^{}]*\}", "\n".join(lines_of(text)), re.ASCII)
 
 

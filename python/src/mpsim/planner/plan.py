@@ -172,8 +172,8 @@ class Plan:
         self.records = Records(len(header), self.time, self.answered, self.columns, column, only, renamed, known)
 
     def judge_renames(self):
-        """Looks at the names that were given once all rows are read; one whose rows are all left out is there too. Of that of a source that no row has
-        a line (str), since a list of names may be meant for each day; where no row has any of them, raises ValueError."""
+        """Looks at the names that were given once all rows are read; one whose rows are all left out is there too. Of that of a source that no row
+        has a line (str), since a list of names may be meant for each day; where no row has any of them, raises ValueError."""
         if self.records.renamed.keys() <= self.records.names.keys():
             return []
         column = self.records.source
