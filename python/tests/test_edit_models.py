@@ -52,6 +52,10 @@ class Models(Changing):
             model = self.file("m.txt", f"model 1\nsource web\n{text}")
             error = told.format(model, name) if name else f"planner: {counts}\n"
             self.assertEqual(self.tells("edit", trace, changes, "--model", model, error=error), "source,time,talk\nweb,65,20\n")
+        model, edits = self.file("m.txt", "model 1\nsource web\nserver s {talk} from web\n"), self.folder / "e.txt"
+        line = f"--edits: {model} has {{talk}}, and mpedit takes no model with names in braces"
+        self.refuses(line, "edit", trace, changes, "--model", model, "--edits", edits)
+        self.assertFalse(edits.exists())
         # Nor by an mpsim that can't be run.
         model, broken = self.file("m.txt", "model 1\nsource web\n"), self.folder / "mpsim"
         broken.write_text("#!/bin/sh\nexit 99\n")

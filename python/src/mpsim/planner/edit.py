@@ -10,7 +10,7 @@ from ..model import columns, sources
 from .changes import EXPECTED, Change, by_edits, by_names, decoded, recoded
 from .files import bytes_of, counted, judge_outputs, say, written
 from .lengths import GREATEST_VALUE
-from .models import judged_text
+from .models import in_braces, judged_text
 from .names import is_name
 from .prepare import GREATEST_TIME, RECORDS
 from .progress import uncollected
@@ -92,7 +92,7 @@ class Edited:
         self.trace = Trace.read(path, self._texts)
         self.rows, self.changed, self.out, self.told = list(self.trace.rows), set(), {}, []
         self.model, text = model, judged_text(model, self.told.append) if model else ""
-        self.columns, header = columns(text), self.trace.header
+        self.columns, self._braces, header = columns(text), in_braces(text), self.trace.header
         for name in self.columns:
             if name not in header[2:]:
                 raise ValueError(f"{path}: there is no column {name!r}, which {model} names; it has {', '.join(header[2:]) or 'none'}")
@@ -235,7 +235,9 @@ class Edited:
 
     def edits(self):
         """The changes as edits of mpedit (a list of str), one for each record that is changed or added. Raises ValueError where one is taken out, and
-        where one has what mpedit doesn't take."""
+        where one has what mpedit doesn't take, or the model has names in braces, whose values may be columns."""
+        if self._braces:
+            raise ValueError(f"--edits: {self.model} has {self._braces[0]}, and mpedit takes no model with names in braces")
         for number, where in self.out.items():
             raise ValueError(f"--edits: {where} takes record {number} out, and no edit of mpedit does that")
         lines, as_edit = [], Change("--edits", None, {}, is_edit=True)
