@@ -10,7 +10,8 @@ _planner() {
     case ${COMP_WORDS[1]} in
         prepare)
             options='--time --format --date --date-format --day --zone --twice --tick --begin --source --demand --end --answered --constant
-                --code --empty --rename --decimal --delimiter --encoding --skip --header --model --left-out --first-lines --out --help'
+                --code --empty --rename --decimal --delimiter --encoding --skip --header --model --left-out --first-lines --out-model --out
+                --help'
             repeated=' --demand --end --constant --code --rename '
             ;;
         scale)

@@ -23,6 +23,7 @@ CALLS = (
     ("prepare export --time when --demand long=talk --source who --model model --out OUT", {"export": "export", "model": "model"}),
     ("prepare export --time when --demand long=talk --source who --model model --left-out OUT", {"export": "export", "model": "model"}),
     ("prepare export --time when --demand long=talk --source who --model model --first-lines OUT", {"export": "export", "model": "model"}),
+    ("prepare export --time when --demand long=talk --source who --model model --out-model OUT", {"export": "export", "model": "model"}),
     ("edit trace changes --model model --out OUT", {"trace": "trace", "changes": "file of changes", "model": "model"}),
     ("edit trace changes --model model --edits OUT", {"trace": "trace", "changes": "file of changes", "model": "model"}),
     ("scale trace --by 2 --twins --out OUT", {"trace": "trace"}),
@@ -75,6 +76,24 @@ class Outputs(InFolder):
                 self.assertRegex(told[2], r"^planner: (soft, new|new, (\./)?new|(\./)?new, new): one file can't be written for two things\n$")
             os.unlink("soft")
         self.assertFalse(os.path.exists("new"))
+
+    def test_a_name_that_is_empty(self):
+        for words, _ in CALLS:
+            self.refuses("the name of a file to be written is empty", *("" if it == "OUT" else it for it in words.split()))
+
+    def test_of_two_files_both_are_there_or_none(self):
+        """One of them is on a disk that is full; it holds for the other whether it comes first or last."""
+        for words, other in (
+            ("prepare export --time when --demand long=talk --source who --model model --out", "--first-lines"),
+            ("prepare export --time when --demand long=talk --source who --model model --out", "--out-model"),
+            ("prepare export --time when --demand long=talk --source who --model model --out", "--left-out"),
+            ("edit trace changes --model model --out", "--edits"),
+            ("pool model trace --node desk --agents 2 --out", "--out-model"),
+        ):
+            for first, second in ("new", "/dev/full"), ("/dev/full", "new"):
+                told = planner(*words.split(), first, other, second)
+                self.assertEqual((told[0], told[2].splitlines()[-1:]), (1, ["planner: /dev/full: No space left on device"]), (words, first, other, second))
+                self.assertFalse(os.path.exists("new"))
 
     def test_what_is_no_file_on_a_disk(self):
         """A device may be read and written, and a name that isn't there yet is nobody's."""

@@ -116,7 +116,7 @@ class Ends(InFolder):
             resource.setrlimit(resource.RLIMIT_FSIZE, (100, 100))
 
         ran = self.run_with("prepare", *ASKED, "--out", "trace.csv", "--left-out", "left.csv", preexec_fn=small)
-        self.assertEqual((ran.returncode, ran.stderr.splitlines()[-1]), (1, f"planner: {self.folder / 'trace.csv'}: File too large"))
+        self.assertEqual((ran.returncode, ran.stderr.splitlines()[-1]), (1, "planner: left.csv: File too large"))
         self.assertEqual((self.left(), text_of(self.folder, "trace.csv")), (["trace.csv"], "before\n"))
 
     def test_outputs_that_are_closed(self):

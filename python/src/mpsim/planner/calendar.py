@@ -45,9 +45,9 @@ def length_text(micros):
     return f"{micros // per}{unit}"
 
 
-def first_lines(tick, start, zone, columns, sources):
+def first_lines(tick, start, zone, columns, sources, more=()):
     """The lines with which a model begins: the tick (int, microseconds), time 0 (an ISO 8601 text or None), its zone (str or None), the columns that
-    a trace has behind `time`, and the sources (lists of str). `told_in` reads them.
+    a trace has behind `time`, the sources (lists of str), and before these `more` comments (list of str). `told_in` reads them.
 
     >>> print(first_lines(100000, "2026-03-02T08:00:00+01:00", "Europe/Berlin", ["talk"], ["phone"]), end="")
     model 1
@@ -55,15 +55,42 @@ def first_lines(tick, start, zone, columns, sources):
     # columns: talk
     source phone
     """
-    at = f", time 0 is {start}" + (f" in {zone}" if zone else "") if start else ""
-    lines = ["model 1", f"# a tick is {length_text(tick)}{at}", *([f"# columns: {', '.join(columns)}"] if columns else [])]
+    lines = ["model 1", _told(tick, start, zone), *([f"# columns: {', '.join(columns)}"] if columns else []), *more]
     return "".join(f"{line}\n" for line in [*lines, *(f"source {it}" for it in sources)])
+
+
+def _told(tick, start, zone):
+    at = f", time 0 is {start}" + (f" in {zone}" if zone else "") if start else ""
+    return f"# a tick is {length_text(tick)}{at}"
+
+
+_TOLD = rf"# a tick is (\d+(?:{'|'.join(UNITS)}))(?:, time 0 is (\S+)(?: in (\S+))?)?"
 
 
 def told_in(text):
     """What the first lines of a model tell: the tick in microseconds, time 0 as an ISO 8601 text, the zone. None each where they don't."""
-    found = re.search(rf"^# a tick is (\d+(?:{'|'.join(UNITS)}))(?:, time 0 is (\S+)(?: in (\S+))?)?\r?$", text, re.M)
+    found = re.search(rf"^{_TOLD}\r?$", text, re.M)
     return (tick_of(found[1]), found[2], found[3]) if found else (None, None, None)
+
+
+def with_told(text, tick, start, zone):
+    """A model's text whose first lines tell this.
+
+    >>> with_told("model 1\\nsource door\\n", 1000000, None, None)
+    'model 1\\n# a tick is 1s\\nsource door\\n'
+    """
+    return with_line(text, _TOLD, _told(tick, start, zone))
+
+
+def with_line(text, pattern, line):
+    """A model's text with a comment in place of the first line that is of a pattern; where there is none, behind the line that has the version."""
+    lines = text.split("\n")
+    at = next((at for at, it in enumerate(lines) if re.fullmatch(pattern, it.removesuffix("\r"))), None)
+    if at is None:
+        at = next((at for at, it in enumerate(lines, 1) if it.split()[:1] == ["model"]), 0)
+        lines.insert(at, lines[at - 1])
+    lines[at] = line + "\r" * lines[at].endswith("\r")
+    return "\n".join(lines)
 
 
 class Calendar:

@@ -8,7 +8,7 @@ import re
 from ..inputs import Add, Set
 from ..model import columns, sources
 from .changes import EXPECTED, Change, by_edits, by_names, decoded, recoded
-from .files import bytes_of, counted, judge_outputs, say, written
+from .files import all_written, bytes_of, counted, judge_outputs, say, written
 from .lengths import GREATEST_VALUE
 from .models import in_braces, judged_text
 from .names import is_name
@@ -311,13 +311,12 @@ def main(asked):
     if asked.edits and not asked.model:
         raise ValueError("--edits wants --model, which has the order of their values")
     judge_outputs([asked.out, asked.edits], {"trace": [asked.trace], "file of changes": [asked.changes], "model": [asked.model]})
-    with contextlib.ExitStack() as stack:
-        stack.enter_context(uncollected())
+    with uncollected(), all_written(asked.edits, asked.out) as (edits, out):
         made = edited(asked.trace, asked.changes, asked.model)
-        edits = made.edits() if asked.edits else []
-        if asked.edits:
-            stack.enter_context(written(asked.edits)).writelines(edits)
-        stack.enter_context(written(asked.out)).writelines(made.lines())
+        if edits:
+            edits.writelines(made.edits())
+        with contextlib.nullcontext(out) if out else written() as file:
+            file.writelines(made.lines())
     if warning := pool_warning(asked.trace, made.trace.header):
         say(warning)
     for line in made.told:

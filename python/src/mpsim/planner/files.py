@@ -60,7 +60,10 @@ def _is_whole(path):
 
 def judge_outputs(outputs, inputs):
     """Looks at the paths of outputs, each of which may be None, before anything is read or written. Raises ValueError where one file is to be written
-    for two things, or one that is read would be written over, by whatever name: `inputs` has the paths (a list of str or None) by what they are."""
+    for two things, or one that is read would be written over, by whatever name, or where a name is empty: `inputs` has the paths (a list of str or
+    None) by what they are."""
+    if "" in outputs:
+        raise ValueError("the name of a file to be written is empty")
     outputs = list(filter(None, outputs))
     if len(set(map(os.path.realpath, outputs))) < len(outputs):
         raise ValueError(f"{', '.join(outputs)}: one file can't be written for two things")
@@ -68,6 +71,17 @@ def judge_outputs(outputs, inputs):
         for what, paths in inputs.items():
             if any(read and os.path.isfile(read) and os.path.samefile(path, read) for read in paths):
                 raise ValueError(f"{path}: it is the {what}, and isn't written over")
+
+
+@contextlib.contextmanager
+def all_written(*paths):
+    """A block with a file for each of these paths, as `written` has one; None for a path that is None. They get their names when all are whole."""
+    with contextlib.ExitStack() as stack:
+        files = [path and stack.enter_context(written(path)) for path in paths]
+        yield files
+        for path, file in zip(paths, files):
+            with _named(path):
+                file and file.flush()
 
 
 @contextlib.contextmanager

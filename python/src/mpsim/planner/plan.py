@@ -1,6 +1,7 @@
 """What becomes of the columns of an export: what is given, what is found, and what has to be said."""
 
 from ..model import columns, sources
+from .codes import codes_in
 from .formats import found_format, judged_format
 from .lengths import GREATEST_VALUE, Lengths, found_decimal
 from .moments import Moments
@@ -123,9 +124,11 @@ class Plan:
             if not equals:
                 raise ValueError(f"--constant {word}: it is NAME=LENGTH, as wrap=90s")
             self.columns.append(Constant(self._named(name), self._ticks(f"--constant {name}", value)))
+        known = codes_in(self.model or "")
         for word in code:
             column, name, _ = self.export.asked(word)
-            self.columns.append(Code(self._named(name, column), column))
+            name = self._named(name, column)
+            self.columns.append(Code(name, column, known.get(name)))
         if len(self.columns) > COLUMNS:
             raise ValueError(f"{len(self.columns)} columns, where a trace has at most {COLUMNS}")
         lacking = [it for it in columns(self.model or "") if it not in [column.name for column in self.columns]]

@@ -13,7 +13,7 @@ from ..inputs import model_text
 from ..model import nodes_of
 from ..report import Report
 from ..runs import run
-from .files import judge_outputs, written
+from .files import all_written, judge_outputs, written
 from .pooled import agent_name, pooled, queue_name
 from .progress import Progress
 from .service import PERCENTS, figure_words, figures, heads
@@ -269,10 +269,9 @@ def _of_agents(asked, within, percents):
             tell(len(rows))
     if asked.out or asked.out_model:
         model, trace = queue.with_pool(agents[0], asked.by)
-        if asked.out:
-            with written(asked.out) as file:
-                csv.writer(file, lineterminator="\n").writerows(trace.lines())
-        if asked.out_model:
-            with written(asked.out_model) as file:
-                file.write(model)
+        with all_written(asked.out, asked.out_model) as (out, out_model):
+            if out:
+                csv.writer(out, lineterminator="\n").writerows(trace.lines())
+            if out_model:
+                out_model.write(model)
     return rows

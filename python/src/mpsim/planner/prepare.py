@@ -6,12 +6,14 @@ import os
 from array import array
 from itertools import islice
 
-from .calendar import first_lines, length_text, tick_of
+from .calendar import Calendar, first_lines, length_text, tick_of, told_in, with_told
+from .codes import line_of, with_codes
 from .exports import Export
-from .files import bytes_of, counted, judge_outputs, say, written
+from .files import all_written, bytes_of, counted, judge_outputs, say, written
 from .formats import NUMBERS, looks_like_clocks
 from .lengths import Lengths
 from .models import judged_text
+from .names import name_for
 from .plan import Plan
 from .progress import Progress, uncollected
 from .records import Code, Demand, End, Left, Sum
@@ -41,7 +43,7 @@ def words(parser):
     add("--day", nargs=3, metavar=("YEAR", "MONTH", "DAY"), help="the day, where it is in three columns of numbers; the time is in a further one")
     add("--zone", metavar="NAME", help="the time zone of times without an offset, as Europe/Berlin; without it days have 24 hours")
     add("--twice", choices=list(TWICE), help="which hour is meant where clocks are set back; order: the second from where the file goes back")
-    add("--tick", default="1s", metavar="LENGTH", help="what a tick is: 1s (where it isn't given), 100ms, 1min")
+    add("--tick", metavar="LENGTH", help="what a tick is: 1s, 100ms, 1min; else what the first lines of --model tell, or 1s")
     add("--begin", default="hour", metavar="WHEN", help="time 0: hour (the last full one before the first job), day, first, 8:00, or in ISO 8601")
     add("--source", metavar="COLUMN", help="who sends the job: a column, or one name for all")
     units = f"UNIT is s, or one of {', '.join(Lengths.NAMES)}"
@@ -49,7 +51,7 @@ def words(parser):
     add("--end", action="append", default=[], metavar="COLUMN[=NAME]", help="a service from its end: it begins at --answered, or else at --time")
     add("--answered", metavar="COLUMN", help="when the services of --end begin")
     add("--constant", action="append", default=[], metavar="NAME=LENGTH", help="a service that all have, as wrap=90s")
-    add("--code", action="append", default=[], metavar="COLUMN[=NAME]", help="a column of words as numbers from 0, for a split")
+    add("--code", action="append", default=[], metavar="COLUMN[=NAME]", help="a column of words as numbers, for a split: those that --model tells, or from 0")
     add("--empty", metavar="LENGTH", help="what an empty service is; else its row is left out")
     add("--rename", action="append", default=[], metavar="OLD=NEW", help="a name for a source, which is OLD in the export")
     add("--decimal", choices=[".", ","], help="the decimal mark; else it is found")
@@ -60,18 +62,21 @@ def words(parser):
     add("--model", metavar="FILE", help="a model: its order of sources counts at one time, other sources are left out, and its columns must be there")
     add("--left-out", metavar="FILE", help="the rows that are left out, with their number and the reason")
     add("--first-lines", metavar="FILE", help="the first lines of a model")
+    add("--out-model", metavar="FILE", help="the model of --model, with the tick, time 0 and codes of this trace")
     add("--out", metavar="FILE", help="the trace; else it goes to the output")
 
 
 class Prepared:
     """A trace that is made: `header` (list of str); `sources` (list of str), `times` (array of int, ticks) and `values` (a list of arrays of int), in
-    the order in which they are written; `names`, the sources in the order of the model; `told` and `warned` (lists of str), what was done; `left` (a
-    dict), how many rows were left out by reason; `tick` (int, microseconds), `zero`, time 0 as an ISO 8601 text or None, and `zone` (str or None)."""
+    the order in which they are written; `names`, the sources in the order of the model; `told` and `warned` (lists of str), what was done; `unlike`
+    (the same), what the first lines of the model say otherwise than those of this trace; `left` (a dict), how many rows were left out by reason;
+    `tick` (int, microseconds), `zero`, time 0 as an ISO 8601 text or None, and `zone` (str or None); `codes`, of each column of words (a dict by
+    name) the number of each word (a dict)."""
 
     def __init__(self, header, names, tick, zone):
-        self.header, self.names, self.tick, self.zone = header, names, tick, zone
+        self.header, self.names, self.tick, self.zone, self.codes = header, names, tick, zone, {}
         self.sources, self.times, self.values = [], array("q"), [array("q") for _ in header[2:]]
-        self.told, self.warned, self.left, self.zero = [], [], {}, None
+        self.told, self.warned, self.unlike, self.left, self.zero = [], [], [], {}, None
 
     def __len__(self):
         return len(self.times)
@@ -93,8 +98,17 @@ class Prepared:
             yield text
 
     def first_lines(self):
-        """The lines with which a model of this trace begins. `planner days`, `hours` and others take time 0 and the tick from them."""
-        return first_lines(self.tick, self.zero, self.zone, self.header[2:], self.names)
+        """The lines with which a model of this trace begins. `planner days`, `hours` and others take time 0 and the tick from them, and the next
+        `prepare` the codes."""
+        codes = [line_of(*it) for it in self.codes.items()]
+        return first_lines(self.tick, self.zero, self.zone, self.header[2:], self.names, filter(None, codes))
+
+    def model(self, text):
+        """A model's text whose first lines tell of this trace: the tick, time 0 and the codes."""
+        text = with_told(text, self.tick, self.zero, self.zone)
+        for name, codes in self.codes.items():
+            text = with_codes(text, name, codes)
+        return text
 
 
 def prepare(
@@ -107,7 +121,7 @@ def prepare(
     day=None,
     zone=None,
     twice=None,
-    tick="1s",
+    tick=None,
     begin="hour",
     source=None,
     demand=(),
@@ -133,7 +147,7 @@ def prepare(
     >>> list(prepare(export, "When", source="Who", demand=["Long=talk:min"]).rows())
     [('desk', 5, 30), ('desk', 17, 90)]
     """
-    per, place = given("--tick", tick_of, tick), Zone(zone, twice)
+    per, place = _tick(tick, model), Zone(zone, twice)
     if skip < 0:
         raise ValueError(f"--skip {skip}: it is at least 0")
     name = "the export" if isinstance(export, (bytes, bytearray)) else os.fspath(export)
@@ -147,6 +161,15 @@ def prepare(
             return _finished(plan, _read(plan, left_out), begin)
     except ValueError as fault:
         raise ValueError(f"{name}: {fault}") from None
+
+
+def _tick(tick, model):
+    """The microseconds of a tick that is given, or else of that which a model tells, where either is there."""
+    told, _, _ = told_in(model or "")
+    per = given("--tick", tick_of, tick) if tick else told or SECOND
+    if told not in (None, per):
+        raise ValueError(f"--tick {tick}: a tick of the model is {length_text(told)}")
+    return per
 
 
 class _Rows:
@@ -229,8 +252,10 @@ def _finished(plan, rows, begin):
     made.warned += unnamed
     ticks = _ticks(plan, rows.stamps, begin, made)
     made.told += plan.place.told()
+    _judge_zero(plan, made)
     _tell_values(plan, rows, made)
     made.told += [f"source {old!r} is called {new}" for old, new in plan.records.names.items() if old != new and new in made.names]
+    made.warned += _alike(plan.records, made.names)
     _sort(made, rows, ticks)
     if rows.left:
         made.left = {why: count for why, (count, _) in rows.left.items()}
@@ -248,6 +273,14 @@ def _order(plan, used):
         raise ValueError(f"{len(found)} sources, where a model has at most {SOURCES}: give one name for all, or --rename several to one")
     known = plan.records.known
     return list(found) if known is None else [it for it in known if it in found]
+
+
+def _alike(records, names):
+    """Warns of sources that a number alone tells apart, which another export may have in another order."""
+    for old, new in records.names.items():
+        plain = name_for(old)
+        if new not in (plain, records.renamed.get(old)) and new in names:
+            yield f"source {old!r} is called {new}, since another one is {plain}, and in another export it may be the other way round: --rename names both"
 
 
 def _ticks(plan, stamps, begin, made):
@@ -306,18 +339,46 @@ def _zero(plan, begin, first):
     return given("--begin", lambda _: place.utc(wall), begin) if offset is None else wall - offset
 
 
+def _judge_zero(plan, made):
+    """Looks whether the model tells another time 0 than that of the trace."""
+    _, start, zone = told_in(plan.model or "")
+    if plan.is_ticks or not start:
+        return
+    said, this = ((at and Calendar(plan.per, at, name).begin, name) for at, name in ((start, zone), (made.zero, made.zone)))
+    if said != this:
+        first, second = (f"{at or 'of no day'}{f' in {name}' if name else ''}" for at, name in ((made.zero, made.zone), (start, zone)))
+        made.unlike.append(f"time 0 is {first}, and in the model {second}, by which hours, days and pages go")
+
+
 def _tell_values(plan, rows, made):
     for it, values in zip(plan.columns, rows.values):
         if isinstance(it, (Demand, Sum)) and it.rounded:
             made.told.append(f"{it.name}: {counted(it.rounded, 'different value')} between two ticks, taken to the nearer one")
         elif isinstance(it, Code):
-            made.told.append(f"{it.name}: " + ", ".join(f"{number} is {word!r}" for word, number in islice(it.codes.items(), LINES)))
-            if len(it.codes) > 8:
-                made.warned.append(f"{it.name} has {len(it.codes):,} values, where a split by remainders has at most 8 outputs")
+            made.codes[it.name] = it.codes
+            made.told.append(f"{it.name}: " + _codes_text(it.codes.items()))
+            made.warned += _code_warnings(it)
+            if plan.model is not None and it.known is None:
+                made.unlike.append(f"{it.name}: the model doesn't tell which word has which number, and in another export they may have others")
         elif isinstance(it, End) and not plan.is_ticks:
             over = sum(value > 12 * HOUR // plan.per for value in values)
             if over:
                 made.warned.append(f"{it.name}: {counted(over, 'service')} of more than 12 hours")
+
+
+def _codes_text(codes):
+    """The first of some words and their numbers."""
+    return ", ".join(f"{number} is {word!r}" for word, number in islice(codes, LINES))
+
+
+def _code_warnings(column):
+    """What there is to warn of at a column of words (Code)."""
+    new = [it for it in column.codes.items() if column.known is not None and it[0] not in column.known]
+    if new:
+        yield f"{column.name}: the model has no number for {counted(len(new), 'word')}: {_codes_text(new)}"
+    count = len(set(column.codes.values()))
+    if count > 8:
+        yield f"{column.name} has {count:,} values, where a split by remainders has at most 8 outputs"
 
 
 def _sort(made, rows, ticks):
@@ -335,13 +396,20 @@ def _sort(made, rows, ticks):
 
 def main(asked):
     """Does what `planner prepare` asks."""
-    options = {name: value for name, value in vars(asked).items() if name not in ("command", "main", "export", "first_lines", "out")}
-    judge_outputs([asked.out, asked.left_out, asked.first_lines], {"export": [asked.export], "model": [asked.model]})
-    with contextlib.ExitStack() as stack:
-        left_out = stack.enter_context(written(asked.left_out)) if asked.left_out else None
-        made = prepare(**{**options, "export": asked.export, "model": judged_text(asked.model, say) if asked.model else None, "left_out": left_out})
-        for line in [*made.told, *(f"warning: {it}" for it in made.warned), f"{counted(len(made), 'record')}, {counted(len(made.names), 'source')}"]:
+    options = {name: value for name, value in vars(asked).items() if name not in ("command", "main", "export", "first_lines", "out_model", "out")}
+    judge_outputs([asked.out, asked.left_out, asked.first_lines, asked.out_model], {"export": [asked.export], "model": [asked.model]})
+    if asked.out_model and not asked.model:
+        raise ValueError("--out-model says nothing without --model")
+    model = judged_text(asked.model, say) if asked.model else None
+    with all_written(asked.left_out, asked.first_lines, asked.out_model, asked.out) as (left_out, lines, out_model, out):
+        made = prepare(**{**options, "export": asked.export, "model": model, "left_out": left_out})
+        unlike = [] if asked.out_model else [f"{it} (--out-model writes a model of this trace)" for it in made.unlike]
+        warned = [f"warning: {it}" for it in [*made.warned, *unlike]]
+        for line in [*made.told, *warned, f"{counted(len(made), 'record')}, {counted(len(made.names), 'source')}"]:
             say(line)
-        if asked.first_lines:
-            stack.enter_context(written(asked.first_lines)).write(made.first_lines())
-        stack.enter_context(written(asked.out)).writelines(made.lines())
+        if lines:
+            lines.write(made.first_lines())
+        if out_model:
+            out_model.write(made.model(model))
+        with contextlib.nullcontext(out) if out else written() as file:
+            file.writelines(made.lines())

@@ -173,10 +173,12 @@ class Constant:
 
 
 class Code:
-    """A column of words as numbers from 0, in the order in which records that stay have them first."""
+    """A column of words as numbers. Those of `known` (a dict, or None) are known; each other one is the next, from 0 or the greatest of these on, in
+    the order in which records that stay have them first."""
 
-    def __init__(self, name, column):
-        self.name, self.column, self.codes = name, column, {}
+    def __init__(self, name, column, known=None):
+        self.name, self.column, self.known, self.codes = name, column, known, dict(known or {})
+        self._next = max(self.codes.values(), default=-1) + 1
 
     def of(self, row, begun):
         # The words of a row that is left out get no number: `code` is asked for those of a row that stays.
@@ -186,7 +188,12 @@ class Code:
         return []
 
     def code(self, row):
-        return self.codes.setdefault(row[self.column].strip(), len(self.codes))
+        word = row[self.column].strip()
+        number = self.codes.get(word)
+        if number is None:
+            number = self.codes[word] = self._next
+            self._next += 1
+        return number
 
 
 class Left(ValueError):
