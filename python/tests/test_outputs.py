@@ -92,7 +92,8 @@ class Outputs(InFolder):
         ):
             for first, second in ("new", "/dev/full"), ("/dev/full", "new"):
                 told = planner(*words.split(), first, other, second)
-                self.assertEqual((told[0], told[2].splitlines()[-1:]), (1, ["planner: /dev/full: No space left on device"]), (words, first, other, second))
+                line = "planner: /dev/full: No space left on device"
+                self.assertEqual((told[0], told[2].splitlines()[-1:]), (1, [line]), (words, first, other, second))
                 self.assertFalse(os.path.exists("new"))
 
     def test_what_is_no_file_on_a_disk(self):

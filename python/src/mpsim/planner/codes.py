@@ -25,8 +25,8 @@ def line_of(name, codes):
 
 
 def codes_in(text):
-    """Of each column (str) of which a model's text tells it, the number (int) of each word (str). Several words may have one number. Raises ValueError
-    where a word has two.
+    """Of each column (str) of which a model's text tells it, the number (int) of each word (str). Several words may have one number. Raises
+    ValueError where a word has two.
 
     >>> from mpsim.planner.codes import codes_in
     >>> codes_in('model 1\\n# kind: 0 is "a", 1 is "b"\\nsource door\\n')

@@ -51,7 +51,8 @@ def words(parser):
     add("--end", action="append", default=[], metavar="COLUMN[=NAME]", help="a service from its end: it begins at --answered, or else at --time")
     add("--answered", metavar="COLUMN", help="when the services of --end begin")
     add("--constant", action="append", default=[], metavar="NAME=LENGTH", help="a service that all have, as wrap=90s")
-    add("--code", action="append", default=[], metavar="COLUMN[=NAME]", help="a column of words as numbers, for a split: those that --model tells, or from 0")
+    codes = "a column of words as numbers, for a split: those that --model tells, or from 0"
+    add("--code", action="append", default=[], metavar="COLUMN[=NAME]", help=codes)
     add("--empty", metavar="LENGTH", help="what an empty service is; else its row is left out")
     add("--rename", action="append", default=[], metavar="OLD=NEW", help="a name for a source, which is OLD in the export")
     add("--decimal", choices=[".", ","], help="the decimal mark; else it is found")
@@ -280,7 +281,8 @@ def _alike(records, names):
     for old, new in records.names.items():
         plain = name_for(old)
         if new not in (plain, records.renamed.get(old)) and new in names:
-            yield f"source {old!r} is called {new}, since another one is {plain}, and in another export it may be the other way round: --rename names both"
+            other = f"another one is {plain}, and in another export it may be the other way round"
+            yield f"source {old!r} is called {new}, since {other}: --rename names both"
 
 
 def _ticks(plan, stamps, begin, made):
