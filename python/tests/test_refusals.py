@@ -13,6 +13,8 @@ prepare = module.prepare
 MODEL = "model 1\nsource a\nserver desk d from a\n"
 ROW = "8:00,a,1"
 DAY = "--day", "when", "who", "long"
+SMALL = "is a small letter, then small letters, digits and underscores, 32 at most"
+NUMBERS = "ticks, unix, unixms, hmm, hmmss, excel, or as strptime has it, as %H.%M"
 
 
 def table(*rows, header="when,who,long"):
@@ -70,7 +72,7 @@ class Refusals(InFolder):
                 "column 'when': '02.03.26 8:00' has a year of two digits: the format may be '%d.%m.%y %H:%M' (--format)",
                 table("02.03.26 8:00,a,1"),
             ),
-            ("column 'when': '805' is a number: the format is one of ticks, unix, unixms, hmm, hmmss, excel (--format)", table("805,a,1")),
+            (f"column 'when': '805' is a number: the format is one of {NUMBERS} (--format)", table("805,a,1")),
             ("column 'long': '1.500' may be thousands or a fraction (--decimal)", table("8:00,a,1.500"), "--demand", "long"),
             (
                 "column 'long': its numbers have both decimal commas and decimal points (--decimal)",
@@ -127,7 +129,8 @@ class Refusals(InFolder):
             ("--constant wrap 1.5s is no whole number of ticks", table(ROW), "--constant", "wrap=1.5s"),
             ("--constant wrap long: no length of time: it is a number and one of us, ms, s, sec, min, h, d", table(ROW), "--constant", "wrap=long"),
             ("--empty 800000d is more than 2^36 ticks", table(ROW), "--empty", "800000d"),
-            ("--rename a=B: it is OLD=NEW, where NEW is a small letter, then small letters, digits and underscores", table(ROW), "--rename", "a=B"),
+            (f"--rename a=B: it is OLD=NEW, where NEW {SMALL}", table(ROW), "--rename", "a=B"),
+            ("--rename a=from: it is OLD=NEW, where NEW stands for something else", table(ROW), "--rename", "a=from"),
             ("--rename a: it is given twice", table(ROW), "--source", "who", "--rename", "a=b", "--rename", " a=c"),
             ("--rename says nothing without a column of --source", table(ROW), "--rename", "a=b"),
             ("--rename says nothing without a column of --source", table(ROW), "--rename", "jobs=b", "--source", "calls"),

@@ -23,13 +23,15 @@ class Scales(Test):
             self.assertRaisesRegex(ValueError, "expected K or K/N", ratio, bad)
 
     def test_how_many_come_out(self):
-        """Of each source as many as the ratio says, evenly, each at a time of its own record or whole shifts behind it."""
+        """Of all as many as the ratio says, and of each source to within one; evenly, each at a time of its own record or whole shifts behind it."""
         draw = random.Random(6)
         times, sources = [draw.randrange(1000) for _ in range(100)], [draw.choice("ab") for _ in range(100)]
         for k, n in (2, 1), (3, 2), (9, 10), (1, 3), (1, 1), (7, 3):
             for shift in 0, 100, 7:
                 made = copies(times, sources, k, n, shift)
-                self.assertEqual(Counter(sources[at] for _, at in made), {it: sources.count(it) * k // n for it in "ab"})
+                self.assertEqual(len(made), 100 * k // n)
+                for it in "ab":
+                    self.assertLess(abs(sum(sources[at] == it for _, at in made) - sources.count(it) * k / n), 1)
                 self.assertEqual(made, sorted(made))
                 counts = Counter(at for _, at in made)
                 self.assertTrue(set(counts.values()) <= {k // n, -(-k // n)} and (k < n or len(counts) == 100))
@@ -47,6 +49,17 @@ class Scales(Test):
         times, sources = [50, 0, 10, 20, 30, 40], ["a", "a", "b", "a", "b", "a"]
         self.assertEqual(copies(times, sources, 1, 2), [(20, 3), (30, 4), (50, 0)])
         self.assertEqual(copies(times, sources, 3, 2), [(0, 1), (10, 2), (20, 3), (20, 3), (30, 4), (30, 4), (40, 5), (50, 0), (50, 0)])
+
+    def test_many_sources_of_few_records(self):
+        """Forty sources of three records: a tenth goes, and a quarter comes, though no source has ten, or four."""
+        times, sources = list(range(120)), [f"ward{at % 40}" for at in range(120)]
+        for k, n, each in (9, 10, {2, 3}), (5, 4, {3, 4}), (1, 2, {1, 2}), (2, 1, {6}):
+            made = Counter(sources[at] for _, at in copies(times, sources, k, n))
+            self.assertEqual((sum(made.values()), set(made.values())), (120 * k // n, each))
+        # One after another: 3 records each, of which every fourth has a copy.
+        self.assertEqual([at for _, at in copies([0, 1, 2, 3, 4, 5], list("aaabbb"), 5, 4)], [0, 1, 2, 3, 3, 4, 5])
+        only = Counter(sources[at] for _, at in copies(times, sources, 4, 3, only=["ward1", "ward2"]))
+        self.assertEqual((only["ward1"], only["ward2"], sum(only.values())), (4, 4, 122))
 
     def test_what_each_does(self):
         times, sources = [0, 10, 25], ["a"] * 3
@@ -97,7 +110,7 @@ class Command(InFolder):
         self.assertEqual(told, f"planner: 4 records of 2: {more}\n")
         told = self.made("--by", "3/2", "--shift", "4")[1]
         more = "of each 2 records of a source 3 stand there, each copy 4 ticks behind the one before; copies past the end begin again at the front"
-        self.assertEqual(told, f"planner: 2 records of 2: {more}\n")
+        self.assertEqual(told, f"planner: 3 records of 2: {more}\n")
         self.assertEqual(self.made("--by", "1", "--twins")[1], "planner: 2 records of 2: each record stands there, as it was\n")
         text, told = self.made("--by", "7/2", "--times")
         self.assertIn("\nb,2,6,", text)

@@ -4,6 +4,7 @@ import csv
 import io
 import math
 import os
+import re
 import subprocess
 import sys
 import unittest
@@ -264,6 +265,12 @@ class Compare(InFolder):
         self.refuses("no report has a node 'x'; they have phone, web, greet, menu, expert, desk, wrap", "compare", REPORT, "--node", "x")
         refused = self.file("s.txt", "scenario 1 status 3\nmpsim: model line 1: expected model 1 or model 2\n")
         self.refuses(f"{refused}: each scenario is refused", "compare", refused)
+        # One that is refused isn't there, and a line says so: differences are those to the first that is.
+        others = re.sub(r"^scenario (\d+)", lambda found: f"scenario {int(found[1]) + 1}", text_of(SWEEP), flags=re.M)
+        some = self.file("some.txt", text_of(refused) + others)
+        status, out, err = planner("compare", some, "--csv")
+        self.assertEqual((status, out.split("\n")[0].split(",")[:2]), (0, ["node", "2"]))
+        self.assertEqual(err, "planner: 1 isn't there, since it is refused: mpsim: model line 1: expected model 1 or model 2\n")
 
 
 class Run(InFolder):

@@ -2,6 +2,7 @@
 
 import csv
 
+from ..errors import Error
 from ..lines import FIGURES
 from ..sweeps import Sweep, load
 from .files import say, written
@@ -75,20 +76,25 @@ def _table(labels, found):
 
 
 def _labelled(paths):
-    """Pairs of a label and a report: of a report its path, of the scenarios of one sweep their numbers."""
+    """Pairs of a label and a report: of a report its path, of the scenarios of one sweep their numbers. Of a scenario that is refused the report is
+    the refusal (an Error)."""
     for path in paths:
         told = load(path)
         if isinstance(told, Sweep):
-            yield from ((f"{path} {label}" if len(paths) > 1 else str(label), it) for label, it in told.reports().items())
+            for label, it in told.items():
+                yield f"{path} {label}" if len(paths) > 1 else str(label), it.refusal if it.report is None else it.report
         else:
             yield path, told
 
 
 def main(asked):
     labelled = list(_labelled(asked.reports))
-    if not labelled:
+    refused = [(label, it) for label, it in labelled if isinstance(it, Error)]
+    if len(refused) == len(labelled):
         raise ValueError(f"{asked.reports[0]}: each scenario is refused")
-    labels, reports = zip(*labelled)
+    for label, it in refused:
+        say(f"{label} isn't there, since it is refused: {it.told}")
+    labels, reports = zip(*(it for it in labelled if it not in refused))
     found = compare(reports, asked.figure, asked.node)
     for line in pool_lines(reports, asked.node):
         say(line)

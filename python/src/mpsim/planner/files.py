@@ -89,7 +89,7 @@ def written(path=None):
     """A block with a file to write text into, which gets its name when it is whole: where the block is left by an exception, what had that name
     stays, and nothing else is left. Without a path it is the output. Bytes that weren't UTF-8 where they were read (surrogateescape) are written as
     they were."""
-    if not path:
+    if path is None:
         with contextlib.suppress(AttributeError):
             sys.stdout.reconfigure(errors="surrogateescape", newline="")
         with _named("the output"):

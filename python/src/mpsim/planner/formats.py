@@ -47,7 +47,7 @@ def found_format(texts):
         if _matches(pattern, some):
             return form
     if _matches(r"\d+(?:[.,]\d+)?", some):
-        raise ValueError(f"{texts[0]!r} is a number: the format is one of {', '.join(NUMBERS)}")
+        raise ValueError(f"{texts[0]!r} is a number: the format is one of {', '.join(NUMBERS)}, or as strptime has it, as %H.%M")
     for form, pattern in _PLAIN.items():
         if _matches(pattern, some):
             return form

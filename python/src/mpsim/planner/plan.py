@@ -192,5 +192,6 @@ class Plan:
 def _renamed(word):
     old, equals, new = word.rpartition("=")
     if not equals or not is_name(new):
-        raise ValueError(f"--rename {word}: it is OLD=NEW, where NEW is a small letter, then small letters, digits and underscores")
+        why = "is a small letter, then small letters, digits and underscores, 32 at most" if new not in TAKEN else "stands for something else"
+        raise ValueError(f"--rename {word}: it is OLD=NEW, where NEW {why}")
     return old.strip(), new

@@ -53,9 +53,10 @@ def closer(times, k, n):
 
 def copies(times, sources, k, n, shift=0, only=()):
     """Pairs of a time and the place of the record that it is of (a list), in the order of time, and at one time in that of the records: of each n
-    records of a source k, as evenly as can be (of the record i of a source, from 0, as many as k (i + 1) / n rounded down is more than k i / n). Each
-    copy is `shift` (int, ticks) behind the one before; what would stand behind the last whole shift begins again at 0. With `only` (names of sources)
-    those alone have copies. Raises ValueError where a copy would come round to its own record.
+    records k, as evenly as can be in each source. The records of a source are counted on from those of the source before it, in the order of the
+    trace, so that few records of many sources come to k/n of all: of the record i, from 0, there are as many as k (i + 1) / n rounded down is more
+    than k i / n. Each copy is `shift` (int, ticks) behind the one before; what would stand behind the last whole shift begins again at 0. With `only`
+    (names of sources) those alone have copies. Raises ValueError where a copy would come round to its own record.
 
     >>> from mpsim.planner.scale import copies
     >>> copies([0, 10, 25], ["a", "a", "a"], 2, 1, shift=10)
@@ -67,10 +68,12 @@ def copies(times, sources, k, n, shift=0, only=()):
     if shift and times and most > rounds:
         why = f"comes round to the same record after {rounds}, where there are {most} of each"
         raise ValueError(f"times go up to {max(times)}, and a shift by {shift} {why}")
-    seen, made = Counter(), []
+    seen, before, made = {}, 0, []
+    for source, count in Counter(it for it in sources if not only or it in only).items():
+        seen[source], before = before, before + count
     for at in sorted(range(len(times)), key=times.__getitem__):
         source, count = sources[at], 1
-        if not only or source in only:
+        if source in seen:
             i = seen[source]
             count, seen[source] = k * (i + 1) // n - k * i // n, i + 1
         made += [((times[at] + copy * shift) % (rounds * shift) if shift else times[at], at) for copy in range(count)]
@@ -93,8 +96,8 @@ def scaled(trace, k, n, way, shift=None, only=()):
 
 def _count(trace, k, n, way, only):
     """How many records `scaled` makes: too many are refused before there is any."""
-    counts = Counter(trace.sources())
-    return sum(count if way == "times" or only and source not in only else k * count // n for source, count in counts.items())
+    taken = 0 if way == "times" else sum(not only or it in only for it in trace.sources())
+    return len(trace.rows) - taken + k * taken // n
 
 
 def means(k, n, way, shift=None, only=()):
