@@ -375,7 +375,8 @@ class Values(Test):
         # A list of names may be that of all days: one that isn't there today is told.
         some = prepare(rows, "when", source="who", rename=["Z=zed", "Quiet=q", "q=r"])
         self.assertEqual(some.sources, ["buro", "buro_2", "zed", "zed"])
-        self.assertEqual([it for it in some.warned if "there is no source" in it], [f"there is no source '{it}' for --rename" for it in ("Quiet", "q")])
+        lacking = [f"there is no source '{it}' for --rename" for it in ("Quiet", "q")]
+        self.assertEqual([it for it in some.warned if "there is no" in it], lacking)
         for names, first in (["Quiet=q"], "Quiet"), (["z=zed", "Quiet=q"], "z"):
             with self.assertRaisesRegex(ValueError, f"there is no source '{first}' for --rename; it has "):
                 prepare(rows, "when", source="who", rename=names)

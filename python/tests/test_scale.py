@@ -120,8 +120,8 @@ class Command(InFolder):
         self.assertIn("each time is 3/2 of what it was: the same jobs come more slowly, and demands are as they were. A day is longer", told)
         self.assertEqual(self.made("--by", "3/3", "--times")[1], "planner: 2 records of 2: each record stands there, as it was\n")
         text, told = self.made("--by", "1/2")
-        self.assertEqual(text, "source,time,d,note\n")
-        self.assertIn("0 records of 2: of each 2 records of a source 1 stand there, at their own times", told)
+        self.assertEqual(text, "source,time,d,note\na,0,5,\udcff\n")
+        self.assertIn("1 record of 2: of each 2 records of a source 1 stand there, at their own times", told)
         text, told = self.made("--by", "2", "--twins", "--source", "a")
         self.assertEqual((text.count("a,0,5"), text.count("b,7,6")), (2, 1))
 
