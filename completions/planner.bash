@@ -58,6 +58,7 @@ _planner() {
             ;;
         page)
             options='--model --out --title --within --tick --start --zone --help'
+            repeated=' --model '
             ;;
         *) return ;;
     esac

@@ -360,6 +360,12 @@ class Commands(WithPool):
         self.file("other.csv", "source,time,d,desk_wait\ndoor,0,4,1\nside,0,4,1\n")
         self.assertEqual(len(self.tells("service", other, calls).splitlines()), 3)
 
+    def test_waits_that_no_column_has(self):
+        trace = self.file("long.csv", "source,time,talk\nweb,1,68719476736\nweb,1,1\nweb,1,1\nphone,0,7\n")
+        line = "with 1 agent at desk a call waits for 68719476743 ticks, where a column has at most 68719476736"
+        self.refuses(line, "pool", self.model, trace, "--node", "desk", "--agents", 1)
+        self.tells("pool", self.model, trace, "--node", "desk", "--agents", 2)
+
     def test_a_full_disk(self):
         """Nothing is left, and what was there stays."""
         words = "pool", self.model, self.trace, "--node", "desk", "--agents", 2, "--out", "/dev/full"

@@ -3,9 +3,10 @@
 import os
 
 from .. import page
+from ..model import nodes_of
 from ..sweeps import Sweep, load
 from . import calendar
-from .files import judge_outputs, say, text_of, written
+from .files import counted, judge_outputs, say, text_of, written
 from .pooled import pool_lines
 from .service import ticks
 from .times import SECOND, moment
@@ -15,7 +16,7 @@ EXAMPLE = "planner page jobs.txt --model model.txt --out run.html"
 
 def words(parser):
     parser.add_argument("reports", metavar="REPORT", nargs="+", help="what mpsim or mpsweep wrote; with lines of jobs (--jobs) there are waits")
-    parser.add_argument("--model", metavar="FILE", help="the model of the reports, for the network")
+    parser.add_argument("--model", action="append", default=[], metavar="FILE", help="the model of all reports, or one for each, for the network")
     parser.add_argument("--out", metavar="FILE", required=True, help="the page; with a name that ends in .svg the network of the first report")
     parser.add_argument("--title", metavar="TEXT", help="its title; else the name of the report")
     parser.add_argument("--within", type=ticks, metavar="TICKS", help="the share served within so many ticks is a figure as well")
@@ -38,6 +39,29 @@ def _labelled(path):
     return [(f"{name} {label}", it) for label, it in told.reports().items()] if isinstance(told, Sweep) else [(name, told)]
 
 
+def _models(asked):
+    """The text of the model (str or None) of each report's file. Raises ValueError where they are more than one, and not one for each."""
+    texts = [text_of(it) for it in asked.model] or [None]
+    if len(texts) not in (1, len(asked.reports)):
+        raise ValueError(f"{len(texts)} models for {counted(len(asked.reports), 'report')}: --model is given once, or once for each")
+    return texts * len(asked.reports) if len(texts) == 1 else texts
+
+
+def _servers(node):
+    """How many servers a node of a model (ModelNode) has, or None where it has none."""
+    asked = node.asked.split()
+    count = {"server": 1, "loss": 1, "tandem": 1 + asked.count("/"), "forkjoin": len(asked) - asked.count("|")}
+    return int(asked[0]) if node.kind == "trunk" else count.get(node.kind)
+
+
+def _unlike(report):
+    """The name of the first node of a report that hasn't as many servers as its model says, by what its utilisation tells; or None."""
+    for it in nodes_of(report.model) if report.span else ():
+        count = _servers(it)
+        if count and round(10**4 * report[it.name].util) != 10**4 * report[it.name].busy // (count * report.span):
+            return it.name
+
+
 def tell_pools(reports):
     """Says which nodes of reports a page has as pools."""
     for line in pool_lines(reports, lacks=True):
@@ -45,16 +69,19 @@ def tell_pools(reports):
 
 
 def main(asked):
-    judge_outputs([asked.out], {"report": asked.reports, "model": [asked.model]})
-    labelled = [it for path in asked.reports for it in _labelled(path)]
-    text = text_of(asked.model) if asked.model else None
-    if text is not None:
-        for _, report in labelled:
+    judge_outputs([asked.out], {"report": asked.reports, "model": asked.model})
+    texts, labelled = _models(asked), []
+    for at, path in enumerate(asked.reports):
+        for label, report in _labelled(path):
             try:
-                report.model = text
+                report.model = texts[at]
             except ValueError as fault:
-                raise ValueError(f"{asked.model}: {fault}") from None
-    times = axes(asked, text)
+                raise ValueError(f"{asked.model[min(at, len(asked.model) - 1)]}: {fault}") from None
+            if texts[at] is not None and (name := _unlike(report)):
+                words = "whose words stand in its box; --model is given for each"
+                say(f"warning: {name} of {label} has another number of servers than the model says, {words}")
+            labelled.append((label, report))
+    times = axes(asked, texts[0])
     if asked.out.endswith(".svg"):
         with written(asked.out) as file:
             file.write(page.drawing(labelled[0][1]))

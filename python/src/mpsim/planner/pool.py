@@ -13,7 +13,8 @@ from ..inputs import model_text
 from ..model import nodes_of
 from ..report import Report
 from ..runs import run
-from .files import all_written, judge_outputs, written
+from .files import all_written, counted, judge_outputs, written
+from .lengths import GREATEST_VALUE
 from .pooled import agent_name, pooled, queue_name
 from .progress import Progress
 from .service import PERCENTS, figure_words, figures, heads
@@ -109,6 +110,9 @@ class Queue:
         can't have so many, or has these names already."""
         model = self._model_of(agents, by)
         who, waits = pool(self.arrivals, self.demands, agents)
+        if (longest := max(waits, default=0)) > GREATEST_VALUE:
+            why = f"a call waits for {longest} ticks, where a column has at most {GREATEST_VALUE}"
+            raise ValueError(f"with {counted(agents, 'agent')} at {self.node} {why}")
         served, waited = [0] * len(self.trace.rows), [0] * len(self.trace.rows)
         for job, agent, wait in zip(self.jobs, who, waits):
             served[job - 1], waited[job - 1] = agent, wait

@@ -70,11 +70,12 @@ def sum_of(path):
 
 class Plan:
     """All scenarios of a sweep, none of them written out: `models` are pairs of a label and a text, `sets` a dict from names to values, `traces` are
-    dicts with a label, a path, and the sum of the file or None. Scenarios are counted trace by trace, in each model by model, in each value by value,
-    the last name first; shards of up to 64 are counted from 1, each with one trace."""
+    dicts with a label, a path, and the sum of the file or None, and `nodes` names of those that have rows, or none where all have. Scenarios are
+    counted trace by trace, in each model by model, in each value by value, the last name first; shards of up to 64 are counted from 1, each with one
+    trace."""
 
-    def __init__(self, models, sets, traces):
-        self.models, self.sets, self.traces = models, sets, traces
+    def __init__(self, models, sets, traces, nodes=()):
+        self.models, self.sets, self.traces, self.nodes = models, sets, traces, list(nodes)
         self.combinations = 1
         for values in sets.values():
             self.combinations *= len(values)
@@ -82,8 +83,9 @@ class Plan:
         self.a_trace = -(-self.each // MODELS)
 
     @classmethod
-    def of(cls, models, sets, traces):
-        """The plan of files (paths) and values. Raises ValueError where a name has no values, or values no name."""
+    def of(cls, models, sets, traces, nodes=()):
+        """The plan of files (paths), values and names of nodes. Raises ValueError where a name has no values, or values no name, and where a model
+        hasn't one of the nodes."""
         if not models or not traces:
             raise ValueError("a sweep wants a model and a trace")
         texts = [_text_of(it) for it in models]
@@ -94,9 +96,10 @@ class Plan:
             if found := in_braces(text):
                 raise ValueError(f"model {label}: {found[0]} has no --set: --set {found[1]}=FROM..TO, or --set {found[1]}=VALUE,VALUE")
         named = [{"label": label, "path": path, "sum": None} for label, path in zip(labels_of(traces), traces)]
-        plan = cls(list(zip(labels_of(models), texts)), sets, named)
+        plan = cls(list(zip(labels_of(models), texts)), sets, named, nodes)
         for at in range(len(models)):
             plan.model(at * plan.combinations)
+        plan.judge_nodes(nodes)
         return plan
 
     @property
@@ -149,7 +152,7 @@ class Plan:
 
     def text(self):
         """The plan as a file has it, with a sum of all that is in it."""
-        told = {"models": self.models, "sets": self.sets, "traces": self.traces}
+        told = {"models": self.models, "sets": self.sets, "traces": self.traces, "nodes": self.nodes}
         return json.dumps({**told, "sum": _sum_of_parts(told)}, indent=1) + "\n"
 
     @classmethod
@@ -158,7 +161,7 @@ class Plan:
         told = json.loads(text)
         if not isinstance(told, dict) or told.pop("sum", None) != _sum_of_parts(told):
             raise ValueError("the sum is another one")
-        return cls(told["models"], told["sets"], told["traces"])
+        return cls(told["models"], told["sets"], told["traces"], told["nodes"])
 
 
 def _kinds_in(text):

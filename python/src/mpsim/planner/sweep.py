@@ -27,7 +27,8 @@ def words(parser):
     parser.add_argument("--set", action="append", default=[], metavar="NAME=VALUES", help="20..40, 20..40..5 or 1,2,5; each with each of others")
     parser.add_argument("--model", dest="models", action="extend", nargs="+", default=[], metavar="FILE", help="further models, or a pattern of them")
     parser.add_argument("--trace", dest="traces", action="extend", nargs="+", default=[], metavar="FILE", help="further traces, or a pattern of them")
-    parser.add_argument("--node", action="append", default=[], metavar="NAME", help="rows of this node, or pool, alone; may be repeated")
+    alone = "rows of this node, or pool, alone; may be repeated; --folder keeps it"
+    parser.add_argument("--node", action="append", default=[], metavar="NAME", help=alone)
     parser.add_argument("--within", type=ticks, metavar="TICKS", help="with two columns of the share served within so many ticks; takes longer")
     parser.add_argument("--page", metavar="FILE", help="an HTML file with curves over the values as well")
     folder = parser.add_argument_group("any number of scenarios, on any machines")
@@ -56,8 +57,7 @@ def _plan(asked):
     models, traces = ([it] if it else [] for it in (asked.model, asked.trace))
     models, traces = files_of([*models, *asked.models]), files_of([*traces, *asked.traces])
     judge_outputs([asked.page], {"model": models, "trace": traces})
-    plan = Plan.of(models, sets_of(asked.set), traces)
-    plan.judge_nodes(asked.node)
+    plan = Plan.of(models, sets_of(asked.set), traces, asked.node)
     for it in plan.traces:
         if warning := pool_warning(it["path"], header_of(it["path"])):
             say(warning)
@@ -212,10 +212,11 @@ def _in_folder(asked):
         return 0
     if not asked.table:
         _run(asked, folder)
-    damaged, refused, status, told = {}, False, folder.plan.head().index("status"), PoolLines(asked.node)
+    nodes = asked.node or folder.plan.nodes
+    damaged, refused, status, told = {}, False, folder.plan.head().index("status"), PoolLines(nodes)
     with written() as file:
         writer = csv.writer(file, lineterminator="\n")
-        for at, row in enumerate(shards.gather(folder, damaged, told, asked.node)):
+        for at, row in enumerate(shards.gather(folder, damaged, told, nodes)):
             writer.writerow(row)
             refused = refused or at > 0 and row[status] != 0
     _tell_pools(told, "planner sweep has them with --within, and without --folder")
