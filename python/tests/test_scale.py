@@ -35,10 +35,10 @@ class Scales(Test):
                 self.assertEqual(made, sorted(made))
                 counts = Counter(at for _, at in made)
                 self.assertTrue(set(counts.values()) <= {k // n, -(-k // n)} and (k < n or len(counts) == 100))
-                around = (max(times) // shift + 1) * shift if shift else 1000
+                ends = (0, 1000) if shift in (0, 7) else (min(times) - shift // 8, max(times) + shift // 8)
                 for time, at in made:
                     self.assertEqual((time - times[at]) % shift if shift else time - times[at], 0)
-                    self.assertTrue(0 <= time < around)
+                    self.assertTrue(ends[0] <= time <= ends[1])
                 # No two copies of a record come at one time, where they are shifted.
                 self.assertEqual(len(set(made)) == len(made), shift > 0 or k <= n)
         made = copies(times, sources, 2, 1, 100, only=["a"])
@@ -68,10 +68,30 @@ class Scales(Test):
         self.assertEqual(copies(times, sources, 2, 1), [(0, 0), (0, 0), (10, 1), (10, 1), (25, 2), (25, 2)])
         self.assertEqual(copies(times, sources, 2, 1, 10), [(0, 0), (5, 2), (10, 0), (10, 1), (20, 1), (25, 2)])
         self.assertEqual(copies(times, sources, 3, 1, 10), [(0, 0), (0, 1), (5, 2), (10, 0), (10, 1), (15, 2), (20, 0), (20, 1), (25, 2)])
+        # The front is that of the trace.
+        later = [(time + 103, at) for time, at in copies(times, sources, 3, 1, 10)]
+        self.assertEqual(copies([it + 103 for it in times], sources, 3, 1, 10), later)
         self.assertEqual((copies([], [], 2, 1, 10), closer([], 2, 1)), ([], []))
         # Within one shift, or where the copies are more than the shifts, one would come round to itself.
         for shift, k in (30, 2), (26, 2), (10, 4):
-            self.assertRaisesRegex(ValueError, "comes round", copies, times, sources, k, 1, shift)
+            self.assertRaisesRegex(ValueError, "whole shifts away from", copies, times, sources, k, 1, shift)
+
+    def test_a_month_by_weeks(self):
+        """Each of 31 days is doubled, by another one of its weekday, and no day comes to be that wasn't there; wherever the month begins."""
+        day, times = 86400, [at * 3600 + 600 for at in range(31 * 24)]
+        for begin in 0, 5 * day + 7000, 14 * day:
+            made = copies([begin + it for it in times], ["a"] * len(times), 2, 1, 7 * day)
+            self.assertEqual(Counter((time - begin) // 3600 for time, _ in made), {at: 2 for at in range(31 * 24)})
+            self.assertEqual(len(set(made)), len(made))
+
+    def test_a_record_of_an_early_or_late_minute(self):
+        """Two days: who came before the first record of the first, or behind the last one of the second, has the other day too; at night nobody."""
+        day = 86400
+        times = [9 * 3600, 18 * 3600 + 60, day + 9 * 3600 - 60, day + 18 * 3600]
+        made = sorted(time for time, _ in copies(times, ["a"] * 4, 2, 1, day))
+        self.assertEqual(made, sorted([*times, *(it + day if it < day else it - day for it in times)]))
+        self.assertRaisesRegex(ValueError, "no other time whole shifts away from 79200", copies, [*times, 22 * 3600], ["a"] * 5, 2, 1, day)
+        self.assertRaisesRegex(ValueError, "there are 2 times whole shifts away from 32400", copies, times, ["a"] * 4, 3, 1, day)
 
     def test_what_each_does_to_waits(self):
         """Calls at random of load 0.4, doubled: theory has a mean wait of 4 services at 0.8. Twins make it twice that."""
@@ -150,7 +170,7 @@ class Command(InFolder):
             why = f"--by {text}: expected K or K/N, whole numbers from 1 on{says}"
             self.refuses(why, "scale", trace, f"--by={text}", "--twins")
         self.refuses("--shift 0: expected a number of ticks, as those of a day or a week", "scale", trace, "--by", 2, "--shift", 0)
-        why = "times go up to 7, and a shift by 8 comes round to the same record after 1, where there are 2 of each"
+        why = "--shift 8: within the trace there is no other time whole shifts away from 7, where 2 records are to stand"
         self.refuses(why, "scale", trace, "--by", 2, "--shift", 8)
         self.refuses(f"{trace}: no record is of the source 'c'", "scale", trace, "--by", 2, "--twins", "--source", "c")
         self.assertEqual(planner("scale", trace, "--by", "2", "--times", "--source", "a")[0], 1)

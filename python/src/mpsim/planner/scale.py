@@ -55,19 +55,15 @@ def copies(times, sources, k, n, shift=0, only=()):
     """Pairs of a time and the place of the record that it is of (a list), in the order of time, and at one time in that of the records: of each n
     records k, as evenly as can be in each source. The records of a source are counted on from those of the source before it, in the order of the
     trace, so that few records of many sources come to k/n of all: of the record i, from 0, there are as many as k (i + 1) / n rounded down is more
-    than k i / n. Each copy is `shift` (int, ticks) behind the one before; what would stand behind the last whole shift begins again at 0. With `only`
-    (names of sources) those alone have copies. Raises ValueError where a copy would come round to its own record.
+    than k i / n. Each copy is `shift` (int, ticks) behind the one before; what would stand behind the last record begins again at the front, at the
+    first time from that of the first record on that is whole shifts away (`around`). With `only` (names of sources) those alone have copies. Raises
+    ValueError where a copy would come round to its own record.
 
     >>> from mpsim.planner.scale import copies
     >>> copies([0, 10, 25], ["a", "a", "a"], 2, 1, shift=10)
-    [(0, 0), (5, 2), (10, 0), (10, 1), (20, 1), (25, 2)]
+    [(0, 0), (0, 1), (5, 2), (10, 0), (10, 1), (25, 2)]
     """
-    most = -(-k // n)
-    # As many shifts as the times reach into.
-    rounds = max(times, default=0) // shift + 1 if shift else 1
-    if shift and times and most > rounds:
-        why = f"comes round to the same record after {rounds}, where there are {most} of each"
-        raise ValueError(f"times go up to {max(times)}, and a shift by {shift} {why}")
+    ends = min(times, default=0), max(times, default=0)
     seen, before, made = {}, 0, []
     for source, count in Counter(it for it in sources if not only or it in only).items():
         seen[source], before = before, before + count
@@ -76,9 +72,30 @@ def copies(times, sources, k, n, shift=0, only=()):
         if source in seen:
             i = seen[source]
             count, seen[source] = k * (i + 1) // n - k * i // n, i + 1
-        made += [((times[at] + copy * shift) % (rounds * shift) if shift else times[at], at) for copy in range(count)]
+        made += [(time, at) for time in (around(times[at], count, shift, *ends) if shift else [times[at]] * count)]
     # At one time copies stand in the order of their records.
     return sorted(made)
+
+
+def around(time, count, shift, first, last):
+    """The times (list of int) of so many copies of a record (int, the record itself counted), each `shift` behind the one before, from its `time` on
+    and round at the end, between `first` and `last` (int, ticks); where there are too few times up to an eighth of a shift outside, so that a record of
+    an early or late minute has its other days too. Raises ValueError where that isn't enough.
+
+    >>> from mpsim.planner.scale import around
+    >>> around(25, 2, 10, 3, 31), around(9, 3, 10, 0, 28)
+    ([25, 5], [9, 19, 29])
+    """
+    front, room = first + (time - first) % shift, shift // 8
+    rounds = (last - front) // shift + 1
+    if rounds < count and front - shift >= max(first - room, 0):
+        front, rounds = front - shift, rounds + 1
+    if rounds < count and front + rounds * shift <= last + room:
+        rounds += 1
+    if rounds < count:
+        some = f"there are {rounds} times" if rounds > 1 else "there is no other time"
+        raise ValueError(f"--shift {shift}: within the trace {some} whole shifts away from {time}, where {count} records are to stand")
+    return [front + ((time - front) // shift + copy) % rounds * shift for copy in range(count)]
 
 
 def scaled(trace, k, n, way, shift=None, only=()):
