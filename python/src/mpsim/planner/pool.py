@@ -129,15 +129,17 @@ class Queue:
         inputs = " ".join(name + (f".{output}" if output else "") for name, output in this.inputs)
         is_read = any(name == self.node for it in self.nodes for name, _ in it.inputs)
         lines = trunk_lines(self.node, agents, self.demand, inputs) if by == "trunk" else agent_lines(self.node, agents, self.demand, inputs, is_read)
-        self._judge(lines)
+        self._judge(lines, None if by == "trunk" else agent_name(self.node, agents + 1))
         return "".join(self._with_lines(lines, version=2 if by == "trunk" else 1))
 
-    def _judge(self, lines):
+    def _judge(self, lines, one_more):
+        """Looks at the names of lines that are to be in the model; and at a server named as one agent more, who would be taken for one of them."""
         there = {it.name for it in self.nodes} - {self.node}
         made = [line.split()[1] for line in lines]
-        for name in made:
+        for name in (*made, queue_name(self.node), *(it.name for it in self.nodes if it.name == one_more and it.kind == "server")):
             if name in there:
                 raise ValueError(f"the model has a node {name!r} already, which the pool at {self.node} wants for itself")
+        for name in made:
             if len(name) > 32:
                 raise ValueError(f"{name!r} would be a node of the pool, and is longer than 32 letters: give {self.node} a shorter name")
         if len(there) + len(made) > NODES:
