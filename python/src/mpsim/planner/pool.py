@@ -14,7 +14,7 @@ from ..model import nodes_of
 from ..report import Report
 from ..runs import run
 from .files import judge_outputs, written
-from .pooled import agent_name, pooled, queue_name
+from .pooled import INPUTS, agent_name, end_names, pooled, queue_name
 from .progress import Progress
 from .service import PERCENTS, figure_words, figures, heads
 from .traces import Trace, told_of
@@ -22,8 +22,8 @@ from .traces import Trace, told_of
 EXAMPLE = """planner pool model.txt trace.csv --node desk --agents 8..15 --within 20
          planner pool model.txt trace.csv --node desk --agents 12 --out pooled.csv --out-model pooled.txt
          planner pool --report jobs.txt --node desk --within 20"""
-# What a model may have: servers of a trunk group, nodes, outputs of a split (each of which an agent may stand at), inputs of a node.
-TRUNK, NODES, OUTPUTS, INPUTS = 255, 64, 8, 8
+# What a model may have: servers of a trunk group, nodes, outputs of a split (each of which an agent may stand at).
+TRUNK, NODES, OUTPUTS = 255, 64, 8
 
 
 def words(parser):
@@ -207,12 +207,10 @@ def _output(name, number):
 
 
 def _gathered(node, names):
-    lines, number = [], 0
-    while len(names) > INPUTS:
-        number += 1
-        some, names = names[:INPUTS], names[INPUTS:]
-        lines.append(f"delay {node}_end{number} =0 from {' '.join(some)}")
-        names.append(f"{node}_end{number}")
+    lines = []
+    for end in end_names(node, len(names)):
+        lines.append(f"delay {end} =0 from {' '.join(names[:INPUTS])}")
+        names = [*names[INPUTS:], end]
     return [*lines, f"delay {node} =0 from {' '.join(names)}"]
 
 
