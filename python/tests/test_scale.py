@@ -52,6 +52,8 @@ class Scales(Test):
         times, sources = [0, 10, 25], ["a"] * 3
         self.assertEqual(closer(times, 2, 1), [(0, 0), (5, 1), (12, 2)])
         self.assertEqual(closer(times, 2, 3), [(0, 0), (15, 1), (37, 2)])
+        # Who came later doesn't go before, in a trace in any order either, where both come at one time.
+        self.assertEqual(closer([11, 0, 10, 10], 2, 1), [(0, 1), (5, 2), (5, 3), (5, 0)])
         self.assertEqual(copies(times, sources, 2, 1), [(0, 0), (0, 0), (10, 1), (10, 1), (25, 2), (25, 2)])
         self.assertEqual(copies(times, sources, 2, 1, 10), [(0, 0), (5, 2), (10, 0), (10, 1), (20, 1), (25, 2)])
         self.assertEqual(copies(times, sources, 3, 1, 10), [(0, 0), (0, 1), (5, 2), (10, 0), (10, 1), (15, 2), (20, 0), (20, 1), (25, 2)])

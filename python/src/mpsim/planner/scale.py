@@ -42,13 +42,14 @@ def ratio(text):
 
 
 def closer(times, k, n):
-    """Pairs of a time and the place of the record that it is of (a list), in the order of time: of each time (int, ticks) n/k, rounded down.
+    """Pairs of a time and the place of the record that it is of (a list), in the order in which the records came: of each time (int, ticks) n/k,
+    rounded down.
 
     >>> from mpsim.planner.scale import closer
-    >>> closer([0, 25, 10], 2, 1)
-    [(0, 0), (5, 2), (12, 1)]
+    >>> closer([0, 25, 10, 24], 2, 1)
+    [(0, 0), (5, 2), (12, 3), (12, 1)]
     """
-    return sorted((time * n // k, at) for at, time in enumerate(times))
+    return [(times[at] * n // k, at) for at in sorted(range(len(times)), key=times.__getitem__)]
 
 
 def copies(times, sources, k, n, shift=0, only=()):
