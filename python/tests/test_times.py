@@ -111,6 +111,23 @@ class Moment(Test):
         self.reads("%d/%b/%Y:%H:%M:%S %z", [it.strftime("%d/%b/%Y:%H:%M:%S -0230") for it in plain], [it + timedelta(minutes=150) for it in plain])
         self.reads("%d.%m.%Y %H:%M:%S.%f", [it.strftime("%d.%m.%Y %H:%M:%S.%f") for it in self.moments], self.moments)
 
+    def test_what_strptime_takes_and_is_not_meant(self):
+        """Of fewer digits than a format has it makes another time, as 13:05 of 135; and without AM or PM nobody knows which half of a day is meant."""
+        for form, good, bad in (
+            ("%H%M", "0135", ["135", "5", "01350"]),
+            ("%Y%m%d%H%M%S", "20260302080500", ["202603020805", "20260302"]),
+            ("%Y%m%d%H%M", "202603020805", ["2026030208", "20260302135"]),
+            ("%Y%m%d", "20260302", ["2026312"]),
+            ("%d%m%Y %H%M", "02032026 0805", ["2032026 0805", "02032026 805"]),
+            ("%m/%d/%Y %I:%M %p", "3/2/2026 1:30 pm", ["3/2/2026 1:30", "3/2/2026 13:30"]),
+            ("%m/%d/%Y %I:%M:%S %p", "3/2/2026 1:30:05 P.M.", ["3/2/2026 1:30:05"]),
+        ):
+            how = Moments(form, Zone())
+            for text in good, *bad:
+                with self.subTest(form=form, text=text):
+                    self.assertEqual(how.is_one(text), text == good)
+        self.assertEqual(Moments("%m/%d/%Y %I:%M %p", Zone()).of("3/2/2026 1:30 pm"), utc(2026, 3, 2, 13, 30))
+
     def test_numbers_since_1970(self):
         plain = [it.replace(microsecond=0) for it in self.moments]
         self.reads("unix", [str(utc(*it.timetuple()[:6]) // SECOND) for it in plain], plain)
