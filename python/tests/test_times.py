@@ -233,6 +233,23 @@ class Demands(Test):
         with self.assertRaises(ValueError):
             Lengths("fortnight", ".", SECOND)
 
+    def test_parts_of_a_microsecond(self):
+        """The nearest tick is that of all digits, also where a tick is no longer than a few microseconds."""
+        for text, unit, tick, ticks in (
+            ("1.0009", "ms", 1, 1001),
+            ("0.0015", "ms", 1, 2),
+            ("0.0014999", "ms", 1, 1),
+            ("0.0000015", "s", 3, 1),
+            ("0.0000014", "s", 3, 0),
+            ("0.00000125", "min", 1, 75),
+            ("0:00:00.0000005", "s", 1, 1),
+            ("0:00:01.000001499", "s", 1, 1000001),
+            ("1.500", "ms", 1, 1500),
+        ):
+            with self.subTest(text):
+                lengths = Lengths(unit, ".", tick)
+                self.assertEqual((lengths.ticks[text], lengths.rounded), (ticks, text not in ("0.00000125", "1.500")))
+
     def test_decimal_marks(self):
         texts = ["1,5", "2"], ["1.5"], ["1.000,5"], ["1,000.5"], ["1.000.000"], ["2", "0:03:30,5"], ["1.500", "1,5"], ["0.500"]
         self.assertEqual([found_decimal(it) for it in texts], [",", ".", ",", ".", ",", None, ",", "."])
