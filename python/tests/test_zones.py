@@ -137,6 +137,9 @@ class Calendars(Test):
             Calendar(SECOND, "8 o'clock")
         with self.assertRaisesRegex(ValueError, "--start says it"):
             Calendar(SECOND).parts("weekday", 7)
+        # In New York clocks were set forward on the 116th day of 1970.
+        with self.assertRaisesRegex(ValueError, "the zone America/New_York wants the date of time 0, .*: --start says it"):
+            Calendar(SECOND, zone="America/New_York")
 
     def test_first_lines(self):
         lines = "model 1\n# a tick is 1s, time 0 is 2026-03-02T08:00:00+01:00 in Europe/Berlin\n# columns: talk, wrap\nsource a\nsource b\n"
