@@ -120,6 +120,8 @@ class Texts(Test):
         self.assertEqual([it.label for it in sweep.values()], list(sweep))
         for count in 0, 7, 9:
             self.assertRaisesRegex(ValueError, f"{count} labels for 8 scenarios", mpsim.Sweep.parse, STORED, list(range(count)))
+        # Else the second would stand in the place of the first.
+        self.assertRaisesRegex(ValueError, "the label 'x' stands twice", mpsim.Sweep.parse, STORED, [*"abcxdefx"])
 
     def test_sweeps_that_are_altered(self):
         lines = STORED.splitlines(keepends=True)
