@@ -137,6 +137,13 @@ class Texts(Test):
             with self.subTest(text), self.assertRaises(mpsim.ReportError):
                 mpsim.Sweep.parse(text)
 
+    def test_a_sweep_that_lacks_its_first_line(self):
+        """It isn't taken for the report of its first scenario alone."""
+        text = STORED.split("\n", 1)[1]
+        with self.assertRaisesRegex(mpsim.ReportError, "report line 8: 'scenario 2 status 0' is no line of a report"):
+            mpsim.Report.parse(text)
+        self.assertEqual(mpsim.Report.parse(text[: text.index("scenario 2")])["callback"].in_, 253)
+
     def test_a_sweep_that_is_cut(self):
         """A run knows how many scenarios there are, so that it is seen where some lack, or there are more."""
         text = STORED[: STORED.index("scenario 3 ")]

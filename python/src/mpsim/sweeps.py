@@ -119,7 +119,7 @@ def scenarios_of(text, labels=None, inputs=None):
             raise ReportError(number, line.decode(errors="surrogateescape").rstrip("\n"), "is no line of a sweep")
         label, status = labels[count - 1] if labels is not None else count, int(found[2])
         if status == 0:
-            reading = Reading(stream, number + 1)
+            reading = Reading(stream, number + 1, in_sweep=True)
             report = reading.report()
             yield Scenario(label, 0, with_model(report, inputs[count]) if inputs else report, None)
             line, number = reading.rest
