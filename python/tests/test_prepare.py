@@ -360,6 +360,10 @@ class Values(Test):
         self.assertEqual(list(with_model.rows()), [("b", 0, 2), ("a", 1, 3), ("a", 1, 5), ("b", 1, 1), ("b", 1, 4)])
         self.assertEqual(list(without.rows()), [("b", 0, 2), ("b", 1, 1), ("b", 1, 4), ("a", 1, 3), ("a", 1, 5)])
         self.assertEqual((with_model.names, without.names), (["a", "b"], ["b", "a"]))
+        # Within a tick times are in their order too, as in an export that has the newest first.
+        newest = table("8:01:01,a,1", "8:00:40,b,2", "8:00:40,a,3", "8:00:40,a,4", "8:00:20,a,5")
+        made = prepare(newest, "when", source="who", demand=["long=d:min"], tick="1min")
+        self.assertEqual(list(made.rows()), [("a", 0, 5), ("a", 0, 3), ("a", 0, 4), ("b", 0, 2), ("a", 1, 1)])
         self.assertIn("records are sorted by time, and at one time by the order of the sources", without.told)
         sorted_rows = prepare(table("8:00,a,1", "8:00,a,2"), "when", source="who", demand=["long=d"])
         self.assertFalse(any("sorted" in it for it in sorted_rows.told))

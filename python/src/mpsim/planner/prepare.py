@@ -321,13 +321,14 @@ def _tell_values(plan, rows, made):
 
 
 def _sort(made, rows, ticks):
-    """Puts the records in the order of time, and at one time of the sources; those that are alike in both stay in the order of the export."""
+    """Puts the records in the order of ticks, and of one tick in that of the sources, and then of the times; those that are alike in all stay in the
+    order of the export."""
     rank = {it: at for at, it in enumerate(made.names)}
     keys = [time * 64 + rank[it] for time, it in zip(ticks, rows.sources)]
-    if all(map(int.__le__, keys, islice(keys, 1, None))):
+    order = sorted(sorted(range(len(keys)), key=rows.stamps.__getitem__), key=keys.__getitem__)
+    if all(map(int.__eq__, order, range(len(keys)))):
         made.sources, made.times, made.values = rows.sources, ticks, rows.values
         return
-    order = sorted(range(len(keys)), key=keys.__getitem__)
     made.told.append("records are sorted by time, and at one time by the order of the sources")
     made.sources = [rows.sources[it] for it in order]
     made.times, *made.values = (array("q", map(column.__getitem__, order)) for column in (ticks, *rows.values))
