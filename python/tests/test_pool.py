@@ -368,8 +368,13 @@ class Commands(WithPool):
 
     def test_a_full_disk(self):
         """Nothing is left, and what was there stays."""
-        words = "pool", self.model, self.trace, "--node", "desk", "--agents", 2, "--out", "/dev/full"
-        self.refuses("/dev/full: No space left on device", *words)
+        words = "pool", self.model, self.trace, "--node", "desk", "--agents", 2
+        self.refuses("/dev/full: No space left on device", *words, "--out", "/dev/full")
+        # Neither is there where one of both can't be written.
+        out = self.folder / "o"
+        self.refuses("/dev/full: No space left on device", *words, "--out", "/dev/full", "--out-model", out)
+        self.refuses(f"{self.folder}/absent/o: No such file or directory", *words, "--out", out, "--out-model", self.folder / "absent" / "o")
+        self.assertFalse(out.exists())
 
 
 if __name__ == "__main__":

@@ -2,6 +2,7 @@
 worked out here, and goes into the trace; the model has a pool in place of a server, and the proved program runs it. It would lose a call at the trunk
 group where more were served at once than there are agents. That nobody waits while an agent is free is tested, and nothing of it is proved."""
 
+import contextlib
 import csv
 import os
 import re
@@ -269,10 +270,9 @@ def _of_agents(asked, within, percents):
             tell(len(rows))
     if asked.out or asked.out_model:
         model, trace = queue.with_pool(agents[0], asked.by)
-        if asked.out:
-            with written(asked.out) as file:
-                csv.writer(file, lineterminator="\n").writerows(trace.lines())
-        if asked.out_model:
-            with written(asked.out_model) as file:
-                file.write(model)
+        with contextlib.ExitStack() as stack:
+            if asked.out_model:
+                stack.enter_context(written(asked.out_model)).write(model)
+            if asked.out:
+                csv.writer(stack.enter_context(written(asked.out)), lineterminator="\n").writerows(trace.lines())
     return rows
