@@ -226,6 +226,9 @@ class Times(Test):
         for begin, ticks in ("hour", 1800), ("day", 30600), ("first", 0), ("8:15", 900), *days:
             zone = "Europe/Berlin" if "+" in begin else None
             self.assertEqual(times("2026-03-02 08:30", begin=begin, zone=zone), [ticks], begin)
+        self.assertEqual(times("2026-03-02 08:30+01:00", begin="2026-03-02T08:00+01:00"), [1800])
+        with self.assertRaisesRegex(ValueError, "it has an offset from UTC, and the times have none: --zone says what those are"):
+            times("2026-03-02 08:30", begin="2026-03-02T08:00+01:00")
         # Hours are those of the clock on the wall.
         self.assertEqual(times("2026-03-02T08:20+05:45", begin="hour", zone="Asia/Kathmandu"), [1200])
         self.assertEqual(times("2026-10-25 12:00", begin="day", zone="Europe/Berlin"), [13 * 3600])

@@ -263,7 +263,7 @@ def _ticks(plan, stamps, begin, made):
             made.warned.append(f"times look like {looks}, and are taken as ticks: --format says what they are")
         return _judged(stamps)
     first, is_utc = min(stamps), any(it.has_offsets for it in readers)
-    zero = _zero(plan, begin, first)
+    zero = _zero(plan, begin, first, is_utc)
     if zero > first:
         raise ValueError(f"{counted(sum(it < zero for it in stamps), 'record')} before --begin {begin}, where time 0 is to be")
     if plan.has_day:
@@ -289,8 +289,8 @@ def _judged(ticks):
     return ticks
 
 
-def _zero(plan, begin, first):
-    """The moment of time 0."""
+def _zero(plan, begin, first, is_utc):
+    """The moment of time 0, of times of which the first is at this moment; `is_utc` says whether some have an offset from UTC."""
     place = plan.place
     if begin == "first":
         return first
@@ -303,6 +303,8 @@ def _zero(plan, begin, first):
     wall, offset = given("--begin", iso, begin)
     if not plan.has_day:
         raise ValueError(f"--begin {begin}: it has a day, and the times have none")
+    if offset is not None and not is_utc and not place.name:
+        raise ValueError(f"--begin {begin}: it has an offset from UTC, and the times have none: --zone says what those are")
     return given("--begin", lambda _: place.utc(wall), begin) if offset is None else wall - offset
 
 
