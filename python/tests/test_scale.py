@@ -114,6 +114,16 @@ class Command(InFolder):
         text, told = self.made("--by", "2", "--twins", "--source", "a")
         self.assertEqual((text.count("a,0,5"), text.count("b,7,6")), (2, 1))
 
+    def test_ends_of_lines_in_a_field(self):
+        """A carriage return ends a record too, and is written in quotes."""
+        self.file("t.csv", 'source,time,d,note\na,0,5,"x\ry"\nb,7,6,"z\r"\n')
+        text, _ = self.made("--by", "1")
+        self.assertEqual(text, 'source,time,d,note\na,0,5,"x\ry"\nb,7,6,"z\r"\n')
+        model = self.file("m.txt", "model 1\nsource a\nsource b\nserver desk d from a b\n")
+        for words in ("days", model, self.trace, "--every", 5), ("pool", model, self.trace, "--node", "desk", "--agents", 2, "--out", self.folder / "p"):
+            self.assertEqual(planner(*words)[0], 0, words)
+        self.assertEqual(mpsim.run(model, self.folder / "p").jobs, 2)
+
     def test_limits(self):
         """As many records as mpsim takes, and times up to its greatest; more is refused in the words of `planner edit`, and nothing is written."""
         self.assertEqual((scale.RECORDS, scale.GREATEST_TIME), (1 << 20, 1 << 60))

@@ -274,5 +274,5 @@ def _of_agents(asked, within, percents):
             if asked.out_model:
                 stack.enter_context(written(asked.out_model)).write(model)
             if asked.out:
-                csv.writer(stack.enter_context(written(asked.out)), lineterminator="\n").writerows(trace.lines())
+                stack.enter_context(written(asked.out)).writelines(trace.texts())
     return rows

@@ -1,6 +1,5 @@
 """More load, or less, of the same trace."""
 
-import csv
 import re
 from collections import Counter
 from fractions import Fraction
@@ -141,7 +140,7 @@ def main(asked):
     if made.rows and (last := int(made.rows[-1][1])) > GREATEST_TIME:
         raise ValueError(f"--by {asked.by}: a time of {last}, which is above {GREATEST_TIME}")
     with written(asked.out) as file:
-        csv.writer(file, lineterminator="\n").writerows(made.lines())
+        file.writelines(made.texts())
     if warning := pool_warning(asked.trace, trace.header):
         say(warning)
     say(f"{counted(len(made.rows), 'record')} of {len(trace.rows):,}: {means(k, n, way, asked.shift, asked.source)}")
