@@ -291,6 +291,10 @@ class Values(Test):
         # A time of the day alone is the next one from the beginning on, in the days of the zone.
         night = table("2026-10-24 23:50,0:05", "2026-10-25 01:50,4:00", header="come,end")
         self.assertEqual(prepare(night, "come", end=["end"], zone="Europe/Berlin", tick="1min").values[0].tolist(), [15, 130 + 60])
+        # Of the hour that was skipped in the morning it is one of the next day; behind the beginning it is none.
+        night = table("2026-03-29 23:50,2:10", "2026-03-29 01:50,2:15", header="come,end")
+        made = prepare(night, "come", end=["end"], zone="Europe/Berlin", tick="1min")
+        self.assertEqual((made.values[0].tolist(), made.left), ([140], {"end: in the hour that 2026-03-29 skips in Europe/Berlin": 1}))
         # A format that was given is that of other times as well.
         given = table("03/02/2026 8:00,03/02/2026 8:01", header="come,end")
         self.assertEqual(prepare(given, "come", format="%d/%m/%Y %H:%M", end=["end"]).values[0].tolist(), [60])
