@@ -1,12 +1,11 @@
 """The command `planner page`: a page of reports that are there."""
 
-import os
-
 from .. import page
 from ..sweeps import Sweep, load
 from . import calendar
 from .files import judge_outputs, say, text_of, written
 from .pooled import pool_lines
+from .scenarios import labels_of
 from .service import ticks
 from .times import SECOND, moment
 
@@ -32,9 +31,9 @@ def axes(asked, text):
     return {"tick": days.tick / SECOND, "start": moment(days.wall(0)) if asked.start or start else None}
 
 
-def _labelled(path):
-    """Pairs of a label and a report, of a file: the name of the file, and behind it the numbers of the scenarios of a sweep."""
-    told, name = load(path), os.path.splitext(os.path.basename(path))[0]
+def _labelled(path, name):
+    """Pairs of a label and a report, of a file that is called so: its name, and behind it the numbers of the scenarios of a sweep."""
+    told = load(path)
     return [(f"{name} {label}", it) for label, it in told.reports().items()] if isinstance(told, Sweep) else [(name, told)]
 
 
@@ -46,7 +45,7 @@ def tell_pools(reports):
 
 def main(asked):
     judge_outputs([asked.out], {"report": asked.reports, "model": [asked.model]})
-    labelled = [it for path in asked.reports for it in _labelled(path)]
+    labelled = [it for path, name in zip(asked.reports, labels_of(asked.reports)) for it in _labelled(path, name)]
     text = text_of(asked.model) if asked.model else None
     if text is not None:
         for _, report in labelled:
