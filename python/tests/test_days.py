@@ -89,6 +89,15 @@ class Days(InFolder):
         told = rows_of(self.tells("days", model, trace, "--open", "3:00", "--node", "desk"), "day")
         self.assertEqual({day: it["span"] for day, it in told.items()}["2026-03-30"], str(6 * HOUR + 30))
 
+    def test_a_day_that_opens_in_the_hour_that_is_skipped(self):
+        """At 2 o'clock it is 3: who comes then comes behind 2:30, and not before it."""
+        rows = [(0, 1), (HOUR + 59 * 60, 2), (2 * HOUR, 4), (2 * HOUR + 29 * 60, 8), (3 * HOUR, 16)]
+        model = self.file("m.txt", TOLD.replace("2026-03-27T08", "2026-03-29T00"))
+        for words, count, busy in (("--open", "2:30"), 2, 28), (("--close", "2:30"), 3, 3):
+            said = f"planner: {count} records before a day opens or after it closes, left out\n"
+            told = self.tells("days", model, self.trace(rows), *words, "--node", "desk", error=said)
+            self.assertEqual(rows_of(told, "day")["2026-03-29"]["busy"], str(busy))
+
     def test_each_day_is_a_run_of_its_own(self):
         draw = random.Random(5)
         rows = [(draw.randrange(10 * DAY), draw.randrange(9000)) for _ in range(300)]

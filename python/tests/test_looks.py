@@ -269,6 +269,16 @@ class Looked(Looking):
         self.assertTrue(told.startswith(f"{datetime.fromtimestamp(last):%Y-%m-%d %H:%M} to "), told)
         self.assertTrue(any(re.fullmatch(r"2026-\d\d-\d\d", it) for it in self.texts(".axis text")))
 
+    def test_times_behind_all_dates(self):
+        """Dates with a time that are taken as ticks are days by their numbers."""
+        for time in 20260302080017, 86400 * 366 * 8000, 0:
+            report = mpsim.run("model 1\nsource s\nserver d =9 from s\n", [("s", time), ("s", time + 86400 * 3)], jobs=True)
+            self.looker.show(page([report], tick=1, start=datetime(2026, 3, 2)))
+            self.looker.press("[data-picture=time]", "End")
+            self.assertEqual(len(self.texts("#pictures figure")), 3)
+            last = self.texts("[data-told=time]")[0]
+            self.assertRegex(last, r" to 2026-03-0\d \d\d:00: " if time == 0 else r" to day \d+ \d\d:\d\d: ")
+
     def test_numbers_that_no_double_holds(self):
         report = many(2, 4096, (1 << 60) + 1)
         self.looker.show(page([report, report]))

@@ -332,10 +332,13 @@ class Files(Test):
         out = self.folder / "a page.html"
         self.assertEqual(self.told("page", JOBS, "--model", MODEL, "--out", out), (0, "", ""))
         self.assertEqual(out.read_text(), page([mpsim.Report.read(JOBS, MODEL)], ["jobs"], title="jobs"))
-        self.assertEqual(self.told("page", JOBS, JOBS, EXAMPLES / "sweep" / "report.txt", "--out", out), (0, "", ""))
-        tree = Tree(out.read_text()).root
-        run = next(it for it in elements(tree, "select") if it[1]["id"] == "run")
-        self.assertEqual([text_in(it) for it in elements(run, "option")], ["jobs", "jobs", *(f"report {it}" for it in range(1, 9))])
+        # Where two are called alike they have their paths.
+        sweep, other = EXAMPLES / "sweep" / "report.txt", EXAMPLES / "callcentre" / "report.txt"
+        for paths, names in ((JOBS, sweep), ["jobs", "report"]), ((JOBS, sweep, other), list(map(str, [JOBS, sweep, other]))):
+            self.assertEqual(self.told("page", *paths, "--out", out), (0, "", ""))
+            run = next(it for it in elements(Tree(out.read_text()).root, "select") if it[1]["id"] == "run")
+            labels = [names[0], *(f"{names[1]} {it}" for it in range(1, 9)), *names[2:]]
+            self.assertEqual([text_in(it) for it in elements(run, "option")], labels)
         self.assertEqual([it.name for it in self.folder.iterdir()], ["a page.html"])
 
     def test_a_model_for_each_report(self):

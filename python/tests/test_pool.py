@@ -177,6 +177,12 @@ class Pool(Test):
         self.assertRaisesRegex(ValueError, "a job comes to desk more than once", Queue, fork, rows, "desk")
         taken = "model 1\nsource desk_queue\nsource door\nserver desk d from door desk_queue\n"
         self.assertRaisesRegex(ValueError, "has a node 'desk_queue' already", Queue(taken, rows, "desk").with_pool, 2)
+        # With two agents a third would be taken for one of them, and with one the split for their queue.
+        more = "model 1\nsource door\nsplit desk_queue 2 turn from door\nserver desk d from desk_queue desk_queue.1\nserver desk_3 =9 from desk\n"
+        for agents, by, name in (2, "agents", "desk_3"), (1, "agents", "desk_queue"), (1, "trunk", "desk_queue"):
+            here = Queue(more if name == "desk_queue" else more.replace("desk_queue", "turns"), rows, "desk")
+            self.assertRaisesRegex(ValueError, f"has a node {name!r} already", here.with_pool, agents, by)
+        self.assertEqual(list(Queue(more.replace("desk_queue", "turns"), rows, "desk").visits(1, "agents").wait), [0])
         long = "model 1\nsource door\nserver " + 27 * "n" + " d from door\n"
         self.assertRaisesRegex(ValueError, "longer than 32 letters", Queue(long, rows, 27 * "n").with_pool, 2)
         has = Trace("t.csv", [*HEAD, "desk_wait"], [["door", "0", "1", "7"]])
@@ -368,8 +374,13 @@ class Commands(WithPool):
 
     def test_a_full_disk(self):
         """Nothing is left, and what was there stays."""
-        words = "pool", self.model, self.trace, "--node", "desk", "--agents", 2, "--out", "/dev/full"
-        self.refuses("/dev/full: No space left on device", *words)
+        words = "pool", self.model, self.trace, "--node", "desk", "--agents", 2
+        self.refuses("/dev/full: No space left on device", *words, "--out", "/dev/full")
+        # Neither is there where one of both can't be written.
+        out = self.folder / "o"
+        self.refuses("/dev/full: No space left on device", *words, "--out", "/dev/full", "--out-model", out)
+        self.refuses(f"{self.folder}/absent/o: No such file or directory", *words, "--out", out, "--out-model", self.folder / "absent" / "o")
+        self.assertFalse(out.exists())
 
 
 if __name__ == "__main__":

@@ -68,6 +68,22 @@ class Whole(WithPool):
             span = next(it[3] for it in words_of(text, "jobs"))
             self.assertEqual(rows, [f"{at},0,{span},{bare}," for at in (1, 2)])
 
+    def test_a_node_that_is_named_alike_keeps_its_row(self):
+        """The pool stands in place of what it was made of, of two agents, of nine and of sixteen, and of no other delay."""
+        calls = self.file("c.csv", "source,time,talk\n" + "".join(f"phone,{at},9\n" for at in range(40)))
+        for agents, ends in (2, []), (9, ["desk_end1"]), (16, ["desk_end1", "desk_end2"]):
+            own = ["desk_end", "desk_end_2", "desk_ending", *["desk_end1"][len(ends) :]]
+            lines = [f"delay {name} =1 from {before}\n" for name, before in zip(own, ["desk", *own])]
+            model = self.file("c.txt", "model 1\nsource phone\nserver desk talk from phone\n" + "".join(lines))
+            trace, pool = self.folder / "p.csv", self.folder / "p.txt"
+            self.tells("pool", model, calls, "--node", "desk", "--agents", agents, "--by", "agents", "--out", trace, "--out-model", pool)
+            report = mpsim.run(pool, trace)
+            gone = {"desk_queue", *ends}
+            self.assertEqual([it.name for it in report.nodes if it.name in gone], ["desk_queue", *ends])
+            rows = planner("table", pool, trace)[1].splitlines()[1:]
+            names = [it.name for it in report.nodes if it.name not in {*gone, "desk"}]
+            self.assertEqual(sorted(it.split(",")[0] for it in rows), sorted([*names, "desk"]))
+
     def test_a_sweep_has_a_pool_as_a_whole(self):
         """With the shares within a time by its waits; without the lines of jobs its mean wait is known. In a folder the same."""
         for by, where in ("trunk", "desk_queue"), ("agents", "desk_1 to desk_2"):

@@ -226,6 +226,9 @@ class Times(Test):
         for begin, ticks in ("hour", 1800), ("day", 30600), ("first", 0), ("8:15", 900), *days:
             zone = "Europe/Berlin" if "+" in begin else None
             self.assertEqual(times("2026-03-02 08:30", begin=begin, zone=zone), [ticks], begin)
+        self.assertEqual(times("2026-03-02 08:30+01:00", begin="2026-03-02T08:00+01:00"), [1800])
+        with self.assertRaisesRegex(ValueError, "it has an offset from UTC, and the times have none: --zone says what those are"):
+            times("2026-03-02 08:30", begin="2026-03-02T08:00+01:00")
         # Hours are those of the clock on the wall.
         self.assertEqual(times("2026-03-02T08:20+05:45", begin="hour", zone="Asia/Kathmandu"), [1200])
         self.assertEqual(times("2026-10-25 12:00", begin="day", zone="Europe/Berlin"), [13 * 3600])
@@ -288,6 +291,10 @@ class Values(Test):
         # A time of the day alone is the next one from the beginning on, in the days of the zone.
         night = table("2026-10-24 23:50,0:05", "2026-10-25 01:50,4:00", header="come,end")
         self.assertEqual(prepare(night, "come", end=["end"], zone="Europe/Berlin", tick="1min").values[0].tolist(), [15, 130 + 60])
+        # Of the hour that was skipped in the morning it is one of the next day; behind the beginning it is none.
+        night = table("2026-03-29 23:50,2:10", "2026-03-29 01:50,2:15", header="come,end")
+        made = prepare(night, "come", end=["end"], zone="Europe/Berlin", tick="1min")
+        self.assertEqual((made.values[0].tolist(), made.left), ([140], {"end: in the hour that 2026-03-29 skips in Europe/Berlin": 1}))
         # A format that was given is that of other times as well.
         given = table("03/02/2026 8:00,03/02/2026 8:01", header="come,end")
         self.assertEqual(prepare(given, "come", format="%d/%m/%Y %H:%M", end=["end"]).values[0].tolist(), [60])
@@ -360,6 +367,10 @@ class Values(Test):
         self.assertEqual(list(with_model.rows()), [("b", 0, 2), ("a", 1, 3), ("a", 1, 5), ("b", 1, 1), ("b", 1, 4)])
         self.assertEqual(list(without.rows()), [("b", 0, 2), ("b", 1, 1), ("b", 1, 4), ("a", 1, 3), ("a", 1, 5)])
         self.assertEqual((with_model.names, without.names), (["a", "b"], ["b", "a"]))
+        # Within a tick times are in their order too, as in an export that has the newest first.
+        newest = table("8:01:01,a,1", "8:00:40,b,2", "8:00:40,a,3", "8:00:40,a,4", "8:00:20,a,5")
+        made = prepare(newest, "when", source="who", demand=["long=d:min"], tick="1min")
+        self.assertEqual(list(made.rows()), [("a", 0, 5), ("a", 0, 3), ("a", 0, 4), ("b", 0, 2), ("a", 1, 1)])
         self.assertIn("records are sorted by time, and at one time by the order of the sources", without.told)
         sorted_rows = prepare(table("8:00,a,1", "8:00,a,2"), "when", source="who", demand=["long=d"])
         self.assertFalse(any("sorted" in it for it in sorted_rows.told))

@@ -65,6 +65,8 @@ class Scales(Test):
         times, sources = [0, 10, 25], ["a"] * 3
         self.assertEqual(closer(times, 2, 1), [(0, 0), (5, 1), (12, 2)])
         self.assertEqual(closer(times, 2, 3), [(0, 0), (15, 1), (37, 2)])
+        # Who came later doesn't go before, in a trace in any order either, where both come at one time.
+        self.assertEqual(closer([11, 0, 10, 10], 2, 1), [(0, 1), (5, 2), (5, 3), (5, 0)])
         self.assertEqual(copies(times, sources, 2, 1), [(0, 0), (0, 0), (10, 1), (10, 1), (25, 2), (25, 2)])
         self.assertEqual(copies(times, sources, 2, 1, 10), [(0, 0), (5, 2), (10, 0), (10, 1), (20, 1), (25, 2)])
         self.assertEqual(copies(times, sources, 3, 1, 10), [(0, 0), (0, 1), (5, 2), (10, 0), (10, 1), (15, 2), (20, 0), (20, 1), (25, 2)])
@@ -144,6 +146,16 @@ class Command(InFolder):
         self.assertIn("1 record of 2: of each 2 records of a source 1 stand there, at their own times", told)
         text, told = self.made("--by", "2", "--twins", "--source", "a")
         self.assertEqual((text.count("a,0,5"), text.count("b,7,6")), (2, 1))
+
+    def test_ends_of_lines_in_a_field(self):
+        """A carriage return ends a record too, and is written in quotes."""
+        self.file("t.csv", 'source,time,d,note\na,0,5,"x\ry"\nb,7,6,"z\r"\n')
+        text, _ = self.made("--by", "1")
+        self.assertEqual(text, 'source,time,d,note\na,0,5,"x\ry"\nb,7,6,"z\r"\n')
+        model = self.file("m.txt", "model 1\nsource a\nsource b\nserver desk d from a b\n")
+        for words in ("days", model, self.trace, "--every", 5), ("pool", model, self.trace, "--node", "desk", "--agents", 2, "--out", self.folder / "p"):
+            self.assertEqual(planner(*words)[0], 0, words)
+        self.assertEqual(mpsim.run(model, self.folder / "p").jobs, 2)
 
     def test_limits(self):
         """As many records as mpsim takes, and times up to its greatest; more is refused in the words of `planner edit`, and nothing is written."""

@@ -56,6 +56,10 @@ class Service(InFolder):
         self.assertEqual(told[6:], ["p90", "p50", "max", *shares])
         told = rows_of(self.tells("sojourns", JOBS, "--by", "all", *twice))[0]
         self.assertEqual(told, ["jobs", "mean_sojourn", "p90", "p50", "max", "within_5", "within_0"])
+        # All digits are in the name.
+        for words, at in (("service", JOBS, "--node", "desk"), 6), (("sojourns", JOBS, "--by", "all"), 2):
+            told = rows_of(self.tells(*words, "--percentile", "99.99995", "--percentile", "100.0"))[0]
+            self.assertEqual(told[at : at + 2], ["p99.99995", "p100"])
 
     def test_beside_each_stored_report(self):
         """Counts and percentiles as the lines of the nodes have them, shares as the library."""

@@ -111,6 +111,23 @@ class Moment(Test):
         self.reads("%d/%b/%Y:%H:%M:%S %z", [it.strftime("%d/%b/%Y:%H:%M:%S -0230") for it in plain], [it + timedelta(minutes=150) for it in plain])
         self.reads("%d.%m.%Y %H:%M:%S.%f", [it.strftime("%d.%m.%Y %H:%M:%S.%f") for it in self.moments], self.moments)
 
+    def test_what_strptime_takes_and_is_not_meant(self):
+        """Of fewer digits than a format has it makes another time, as 13:05 of 135; and without AM or PM nobody knows which half of a day is meant."""
+        for form, good, bad in (
+            ("%H%M", "0135", ["135", "5", "01350"]),
+            ("%Y%m%d%H%M%S", "20260302080500", ["202603020805", "20260302"]),
+            ("%Y%m%d%H%M", "202603020805", ["2026030208", "20260302135"]),
+            ("%Y%m%d", "20260302", ["2026312"]),
+            ("%d%m%Y %H%M", "02032026 0805", ["2032026 0805", "02032026 805"]),
+            ("%m/%d/%Y %I:%M %p", "3/2/2026 1:30 pm", ["3/2/2026 1:30", "3/2/2026 13:30"]),
+            ("%m/%d/%Y %I:%M:%S %p", "3/2/2026 1:30:05 P.M.", ["3/2/2026 1:30:05"]),
+        ):
+            how = Moments(form, Zone())
+            for text in good, *bad:
+                with self.subTest(form=form, text=text):
+                    self.assertEqual(how.is_one(text), text == good)
+        self.assertEqual(Moments("%m/%d/%Y %I:%M %p", Zone()).of("3/2/2026 1:30 pm"), utc(2026, 3, 2, 13, 30))
+
     def test_numbers_since_1970(self):
         plain = [it.replace(microsecond=0) for it in self.moments]
         self.reads("unix", [str(utc(*it.timetuple()[:6]) // SECOND) for it in plain], plain)
@@ -215,6 +232,23 @@ class Demands(Test):
                 self.read(text, "s", decimal)
         with self.assertRaises(ValueError):
             Lengths("fortnight", ".", SECOND)
+
+    def test_parts_of_a_microsecond(self):
+        """The nearest tick is that of all digits, also where a tick is no longer than a few microseconds."""
+        for text, unit, tick, ticks in (
+            ("1.0009", "ms", 1, 1001),
+            ("0.0015", "ms", 1, 2),
+            ("0.0014999", "ms", 1, 1),
+            ("0.0000015", "s", 3, 1),
+            ("0.0000014", "s", 3, 0),
+            ("0.00000125", "min", 1, 75),
+            ("0:00:00.0000005", "s", 1, 1),
+            ("0:00:01.000001499", "s", 1, 1000001),
+            ("1.500", "ms", 1, 1500),
+        ):
+            with self.subTest(text):
+                lengths = Lengths(unit, ".", tick)
+                self.assertEqual((lengths.ticks[text], lengths.rounded), (ticks, text not in ("0.00000125", "1.500")))
 
     def test_decimal_marks(self):
         texts = ["1,5", "2"], ["1.5"], ["1.000,5"], ["1,000.5"], ["1.000.000"], ["2", "0:03:30,5"], ["1.500", "1,5"], ["0.500"]

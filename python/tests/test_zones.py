@@ -55,7 +55,9 @@ class Zones(Test):
         wall, begin = micros(datetime(2026, 3, 29, 2, 30)), micros(datetime(2026, 3, 29, 1, 0))
         with self.assertRaisesRegex(Unread, "in the hour that 2026-03-29 skips in Europe/Berlin"):
             Zone("Europe/Berlin").utc(wall)
-        self.assertEqual(Zone("Europe/Berlin").first(wall), begin + 1800 * SECOND)
+        self.assertEqual([Zone("Europe/Berlin").first(wall + it) for it in (-1800 * SECOND, 0, 1, 1800 * SECOND)], [begin] * 4)
+        # A day whose first hour is skipped begins where clocks are set forward.
+        self.assertEqual(Zone("Africa/Cairo").first(micros(datetime(2026, 4, 24))), micros(datetime(2026, 4, 23, 22)))
         self.assertEqual(Zone("Europe/Berlin").utc(micros(datetime(2026, 3, 29, 3, 0))), begin)
 
     def test_days_on_which_clocks_change(self):
@@ -137,6 +139,9 @@ class Calendars(Test):
             Calendar(SECOND, "8 o'clock")
         with self.assertRaisesRegex(ValueError, "--start says it"):
             Calendar(SECOND).parts("weekday", 7)
+        # In New York clocks were set forward on the 116th day of 1970.
+        with self.assertRaisesRegex(ValueError, "the zone America/New_York wants the date of time 0, .*: --start says it"):
+            Calendar(SECOND, zone="America/New_York")
 
     def test_first_lines(self):
         lines = "model 1\n# a tick is 1s, time 0 is 2026-03-02T08:00:00+01:00 in Europe/Berlin\n# columns: talk, wrap\nsource a\nsource b\n"

@@ -68,6 +68,19 @@ def records_of(lines):
         kept.clear()
 
 
+class _Line:
+    """In place of a file for a writer of CSV, which gives back what this does: the text of a row."""
+
+    write = staticmethod(str)
+
+
+def row_writer():
+    """What makes the text of a row of CSV, without its end. By the end that is cut off carriage returns in a field are quoted too, by each version of
+    Python."""
+    write = csv.writer(_Line, lineterminator="\r\n").writerow
+    return lambda row: write(row)[:-2]
+
+
 class Input:
     """A file for a program: a path as it was given, or what `write` puts into a file of bytes in memory, until `close`."""
 
@@ -235,12 +248,11 @@ def _whole(value):
 
 
 def _write_rows(file, rows):
-    text = _Text(file)
-    writer = csv.writer(text, lineterminator="\n")
+    text, line_of = _Text(file), row_writer()
     for number, row in enumerate(rows):
         if isinstance(row, (str, bytes)):
             raise TypeError(f"trace record {number} is a text, and no row: {row!r}")
-        writer.writerow([_whole(it) for it in row])
+        text.write(line_of([_whole(it) for it in row]) + "\n")
     text.flush()
 
 

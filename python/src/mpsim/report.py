@@ -169,9 +169,9 @@ def stream_of(text):
 
 class Reading:
     """A report that is being read. Its first lines are there at once, as `form`, `jobs`, `span`, `nodes`, `exits` and `again` of a Report; `pieces`
-    gives the visits."""
+    gives the visits. In a sweep (`in_sweep`, bool) the next scenario may stand behind it."""
 
-    def __init__(self, text, first=1):
+    def __init__(self, text, first=1, in_sweep=False):
         self._stream, self._number = stream_of(text), first - 1
         self.again = None
         self._next()
@@ -185,7 +185,7 @@ class Reading:
         if self._line.startswith(b"again "):
             self.again = Again(*map(int, self._line_of("again").groups()))
         self._has_jobs = self._line.startswith(b"job ") and not self.again
-        if not self._has_jobs and self._line and not self._line.startswith(b"scenario "):
+        if not self._has_jobs and self._line and not (in_sweep and self._line.startswith(b"scenario ")):
             raise self._fault(self._line)
 
     @property

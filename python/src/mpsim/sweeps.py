@@ -43,7 +43,8 @@ class Sweep(dict):
     @classmethod
     def parse(cls, text, labels=None):
         """The sweep of what mpsweep wrote (str, bytes or an open file of bytes), with these labels (a list, one for each scenario), or else with the
-        numbers of the scenarios (int, from 1). Raises ReportError where it is none, and ValueError where there are more labels, or fewer.
+        numbers of the scenarios (int, from 1). Raises ReportError where it is none, and ValueError where there are more labels, or fewer, or one of
+        them stands twice.
 
         >>> import mpsim
         >>> mpsim.Sweep.parse("scenario 1 status 3\\nmpsim: model line 1: expected model 1 or model 2\\n", ["today"])["today"].status
@@ -52,6 +53,9 @@ class Sweep(dict):
         found = list(scenarios_of(text))
         if labels is not None and len(labels) != len(found):
             raise ValueError(f"{len(labels)} labels for {len(found)} scenarios")
+        for label in labels or ():
+            if labels.count(label) > 1:
+                raise ValueError(f"the label {label!r} stands twice")
         return cls((it, scenario._replace(label=it)) for it, scenario in zip(labels or range(1, len(found) + 1), found))
 
     def reports(self):
@@ -115,7 +119,7 @@ def scenarios_of(text, labels=None, inputs=None):
             raise ReportError(number, line.decode(errors="surrogateescape").rstrip("\n"), "is no line of a sweep")
         label, status = labels[count - 1] if labels is not None else count, int(found[2])
         if status == 0:
-            reading = Reading(stream, number + 1)
+            reading = Reading(stream, number + 1, in_sweep=True)
             report = reading.report()
             yield Scenario(label, 0, with_model(report, inputs[count]) if inputs else report, None)
             line, number = reading.rest

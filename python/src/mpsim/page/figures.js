@@ -4,10 +4,12 @@ const shown = value => value === null || value === undefined ? '–'
 const percent = share => `${(100 * share).toFixed(1)} %`;
 
 // The place of a tick on the clock, where the page knows how long a tick is, with the date where it knows that too, or the day's number.
-const DAY = 86400;
+// Dates go up to the year 9999: where more is taken for ticks than they are, days have numbers.
+const DAY = 86400, LAST = Date.UTC(9999, 11, 31);
 const twoDigits = value => String(value).padStart(2, '0');
 function dateOf(day, calendar) {
-  return calendar.date ? new Date(Date.parse(calendar.date + 'T00:00Z') + day * DAY * 1000).toISOString().slice(0, 10) : `day ${day + 1}`;
+  const date = new Date(Date.parse(calendar.date + 'T00:00Z') + day * DAY * 1000);
+  return date <= LAST ? date.toISOString().slice(0, 10) : `day ${day + 1}`;
 }
 function clock(ticks, calendar, parts) {
   if (!calendar.tick) return shown(ticks);

@@ -95,12 +95,14 @@ def with_line(text, pattern, line):
 
 class Calendar:
     """Which day and hour a tick belongs to. `tick` (int) is in microseconds, `start` an ISO 8601 text, `zone` a name. Without a start time 0 is a
-    midnight; days change where the clock of the zone shows midnight."""
+    midnight; days change where the clock of the zone shows midnight. Raises ValueError where one is none, and for a zone without a start."""
 
     def __init__(self, tick, start=None, zone=None):
         if tick is None:
             raise ValueError("how long is a tick? A model whose first lines `planner prepare` wrote tells it")
         self.tick, self.place, self.is_dated = tick, Zone(zone), start is not None
+        if zone and not self.is_dated:
+            raise ValueError(f"the zone {zone} wants the date of time 0, or nobody knows when its clocks change: --start says it")
         wall, offset = given("time 0,", iso, start) if start else (0, None)
         # An offset without a zone has no days on which clocks change: moments are what its clock shows.
         self.begin = wall - offset if offset is not None and zone else wall if offset is not None or not zone else self.place.first(wall)

@@ -5,7 +5,7 @@ import csv
 import io
 import re
 
-from ..inputs import Add, Set
+from ..inputs import Add, Set, row_writer
 from ..model import columns, sources
 from .changes import EXPECTED, Change, by_edits, by_names, decoded, recoded
 from .files import all_written, bytes_of, counted, judge_outputs, say, written
@@ -25,6 +25,7 @@ STEP = re.compile(r"([+-])(\d{1,20})|\*(\d{1,20}(?:[.,]\d{1,20})?)", re.ASCII)
 DOUBTFUL = re.compile(r"\*([1-9]\d{0,2})[.,](\d{3})", re.ASCII)
 # The greatest number of 20 digits, which are the most that a number has.
 MOST = 10**20 - 1
+_line_of = row_writer()
 
 
 def words(parser):
@@ -258,17 +259,6 @@ class Edited:
         """How many records there are, and how many of them are changed or added, and how many taken out (str)."""
         before, now, out = len(self.trace.rows), len(self.rows) - len(self.out), sum(it < len(self._texts) for it in self.out)
         return f"{counted(now, 'record')} of {before:,}: {len(self.changed):,} changed, {now - before + out:,} added, {out:,} taken out"
-
-
-class _Line:
-    """In place of a file for a writer of CSV, which gives back what this does: the text of a row."""
-
-    write = staticmethod(str)
-
-
-def _line_of(row, write=csv.writer(_Line, lineterminator="\r\n").writerow):
-    """The text of a row without its end. With this end carriage returns in a field are quoted too, by each version of Python."""
-    return write(row)[:-2]
 
 
 def _end(text):

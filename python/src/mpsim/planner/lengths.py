@@ -56,15 +56,16 @@ class Lengths:
         self.ticks = Cache(self._work)
 
     def _work(self, text):
-        ticks, left = divmod(self.micros(text), self.tick)
-        ticks += 2 * left >= self.tick
+        length, tick = self._length(text)
+        ticks, left = divmod(length, tick)
+        ticks += 2 * left >= tick
         if ticks > GREATEST_VALUE:
             raise Unread("above 2^36 ticks")
         self.rounded += left > 0
         return ticks
 
-    def micros(self, text):
-        """Microseconds, cut to the whole one."""
+    def _length(self, text):
+        """A length and a tick (int), both in such parts of a microsecond that they are whole."""
         text = text.strip()
         if not text:
             raise Unread("empty")
@@ -73,14 +74,14 @@ class Lengths:
         if ":" in text or self.unit == "h:mm:ss":
             return self._of_span(text)
         if self.unit == "excel":
-            return excel(text)
+            return excel(text), self.tick
         if self.decimal is None and re.search("[.,]", text):
             raise Asks("a number with a mark, which may be a decimal one: --decimal says it")
         found = self._number.fullmatch(text)
         if not found:
             raise Unread(f"no number with a decimal {'comma' if self.decimal == ',' else 'point'}")
         rest = found[2] or ""
-        return int(re.sub(r"\D", "", found[1]) + rest) * self.per // 10 ** len(rest)
+        return int(re.sub(r"\D", "", found[1]) + rest) * self.per, 10 ** len(rest) * self.tick
 
     def _of_span(self, text):
         found = SPAN.fullmatch(text)
@@ -89,5 +90,5 @@ class Lengths:
         if found[3] is None and self.unit not in ("h:mm", "m:ss"):
             raise Asks("h:mm or m:ss: the unit says which")
         first, second = (MINUTE, SECOND) if found[3] is None and self.unit == "m:ss" else (HOUR, MINUTE)
-        fraction = int((found[4] or "0").ljust(6, "0")[:6])
-        return int(found[1]) * first + int(found[2]) * second + int(found[3] or 0) * SECOND + fraction
+        whole = int(found[1]) * first + int(found[2]) * second + int(found[3] or 0) * SECOND
+        return 1000 * whole + int((found[4] or "0").ljust(9, "0")), 1000 * self.tick

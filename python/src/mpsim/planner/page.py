@@ -1,13 +1,12 @@
 """The command `planner page`: a page of reports that are there."""
 
-import os
-
 from .. import page
 from ..model import nodes_of
 from ..sweeps import Sweep, load
 from . import calendar
 from .files import counted, judge_outputs, say, text_of, written
 from .pooled import pool_lines
+from .scenarios import labels_of
 from .service import ticks
 from .times import SECOND, moment
 
@@ -33,9 +32,9 @@ def axes(asked, text):
     return {"tick": days.tick / SECOND, "start": moment(days.wall(0)) if asked.start or start else None}
 
 
-def _labelled(path):
-    """Pairs of a label and a report, of a file: the name of the file, and behind it the numbers of the scenarios of a sweep."""
-    told, name = load(path), os.path.splitext(os.path.basename(path))[0]
+def _labelled(path, name):
+    """Pairs of a label and a report, of a file that is called so: its name, and behind it the numbers of the scenarios of a sweep."""
+    told = load(path)
     return [(f"{name} {label}", it) for label, it in told.reports().items()] if isinstance(told, Sweep) else [(name, told)]
 
 
@@ -71,15 +70,15 @@ def tell_pools(reports):
 def main(asked):
     judge_outputs([asked.out], {"report": asked.reports, "model": asked.model})
     texts, labelled = _models(asked), []
-    for at, path in enumerate(asked.reports):
-        for label, report in _labelled(path):
+    for at, (path, name) in enumerate(zip(asked.reports, labels_of(asked.reports))):
+        for label, report in _labelled(path, name):
             try:
                 report.model = texts[at]
             except ValueError as fault:
                 raise ValueError(f"{asked.model[min(at, len(asked.model) - 1)]}: {fault}") from None
-            if texts[at] is not None and (name := _unlike(report)):
+            if texts[at] is not None and (other := _unlike(report)):
                 words = "whose words stand in its box; --model is given for each"
-                say(f"warning: {name} of {label} has another number of servers than the model says, {words}")
+                say(f"warning: {other} of {label} has another number of servers than the model says, {words}")
             labelled.append((label, report))
     times = axes(asked, texts[0])
     if asked.out.endswith(".svg"):

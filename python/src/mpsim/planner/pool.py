@@ -15,7 +15,7 @@ from ..report import Report
 from ..runs import run
 from .files import all_written, counted, judge_outputs, written
 from .lengths import GREATEST_VALUE
-from .pooled import agent_name, pooled, queue_name
+from .pooled import INPUTS, agent_name, end_names, pooled, queue_name
 from .progress import Progress
 from .service import PERCENTS, figure_words, figures, heads
 from .traces import Trace, told_of
@@ -23,8 +23,8 @@ from .traces import Trace, told_of
 EXAMPLE = """planner pool model.txt trace.csv --node desk --agents 8..15 --within 20
          planner pool model.txt trace.csv --node desk --agents 12 --out pooled.csv --out-model pooled.txt
          planner pool --report jobs.txt --node desk --within 20"""
-# What a model may have: servers of a trunk group, nodes, outputs of a split (each of which an agent may stand at), inputs of a node.
-TRUNK, NODES, OUTPUTS, INPUTS = 255, 64, 8, 8
+# What a model may have: servers of a trunk group, nodes, outputs of a split (each of which an agent may stand at).
+TRUNK, NODES, OUTPUTS = 255, 64, 8
 
 
 def words(parser):
@@ -133,15 +133,17 @@ class Queue:
         inputs = " ".join(name + (f".{output}" if output else "") for name, output in this.inputs)
         is_read = any(name == self.node for it in self.nodes for name, _ in it.inputs)
         lines = trunk_lines(self.node, agents, self.demand, inputs) if by == "trunk" else agent_lines(self.node, agents, self.demand, inputs, is_read)
-        self._judge(lines)
+        self._judge(lines, None if by == "trunk" else agent_name(self.node, agents + 1))
         return "".join(self._with_lines(lines, version=2 if by == "trunk" else 1))
 
-    def _judge(self, lines):
+    def _judge(self, lines, one_more):
+        """Looks at the names of lines that are to be in the model; and at a server named as one agent more, who would be taken for one of them."""
         there = {it.name for it in self.nodes} - {self.node}
         made = [line.split()[1] for line in lines]
-        for name in made:
+        for name in (*made, queue_name(self.node), *(it.name for it in self.nodes if it.name == one_more and it.kind == "server")):
             if name in there:
                 raise ValueError(f"the model has a node {name!r} already, which the pool at {self.node} wants for itself")
+        for name in made:
             if len(name) > 32:
                 raise ValueError(f"{name!r} would be a node of the pool, and is longer than 32 letters: give {self.node} a shorter name")
         if len(there) + len(made) > NODES:
@@ -209,12 +211,10 @@ def _output(name, number):
 
 
 def _gathered(node, names):
-    lines, number = [], 0
-    while len(names) > INPUTS:
-        number += 1
-        some, names = names[:INPUTS], names[INPUTS:]
-        lines.append(f"delay {node}_end{number} =0 from {' '.join(some)}")
-        names.append(f"{node}_end{number}")
+    lines = []
+    for end in end_names(node, len(names)):
+        lines.append(f"delay {end} =0 from {' '.join(names[:INPUTS])}")
+        names = [*names[INPUTS:], end]
     return [*lines, f"delay {node} =0 from {' '.join(names)}"]
 
 
@@ -275,7 +275,7 @@ def _of_agents(asked, within, percents):
         model, trace = queue.with_pool(agents[0], asked.by)
         with all_written(asked.out, asked.out_model) as (out, out_model):
             if out:
-                csv.writer(out, lineterminator="\n").writerows(trace.lines())
+                out.writelines(trace.texts())
             if out_model:
                 out_model.write(model)
     return rows

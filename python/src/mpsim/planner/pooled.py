@@ -7,6 +7,9 @@ from ..lines import Node
 from ..model import nodes_of
 from ..node_visits import NodeVisits, percentile_of
 
+# A node has so many inputs at most.
+INPUTS = 8
+
 
 def queue_name(pool):
     """The node at which the calls of a pool come, where they wait, or are told apart."""
@@ -16,6 +19,11 @@ def queue_name(pool):
 def agent_name(pool, number):
     """The node of an agent, from 1."""
     return f"{pool}_{number}"
+
+
+def end_names(pool, agents):
+    """The delays of 0 (a list of str) that gather what so many agents let out, eight at a time, before the one that has the name of the pool."""
+    return [f"{pool}_end{it}" for it in range(1, -(-max(agents - INPUTS, 0) // (INPUTS - 1)) + 1)]
 
 
 def pooled(report, pool):
@@ -144,8 +152,9 @@ def pool_lines(reports, names=(), lacks=False):
 def parts(report, pool):
     """The names of the nodes of a pool (list of str) in place of which it stands as a whole: its queue, and its trunk group, or what gathers the
     calls that its agents let out."""
-    ends = (it.name for it in report.nodes if it.kind == "delay" and it.name.startswith(f"{pool}_end"))
-    return [queue_name(pool), pool, *(() if _kind(report, pool) == "trunk" else ends)]
+    # Where nobody reads what the agents let out, no node has the pool's name.
+    ends = end_names(pool, len(_agents_of(report, pool))) if _kind(report, pool) == "delay" else ()
+    return [queue_name(pool), pool, *ends]
 
 
 def names_of(report, nodes=()):

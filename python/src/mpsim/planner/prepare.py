@@ -298,7 +298,7 @@ def _ticks(plan, stamps, begin, made):
             made.warned.append(f"times look like {looks}, and are taken as ticks: --format says what they are")
         return _judged(stamps)
     first, is_utc = min(stamps), any(it.has_offsets for it in readers)
-    zero = _zero(plan, begin, first)
+    zero = _zero(plan, begin, first, is_utc)
     if zero > first:
         raise ValueError(f"{counted(sum(it < zero for it in stamps), 'record')} before --begin {begin}, where time 0 is to be")
     if plan.has_day:
@@ -324,8 +324,8 @@ def _judged(ticks):
     return ticks
 
 
-def _zero(plan, begin, first):
-    """The moment of time 0."""
+def _zero(plan, begin, first, is_utc):
+    """The moment of time 0, of times of which the first is at this moment; `is_utc` says whether some have an offset from UTC."""
     place = plan.place
     if begin == "first":
         return first
@@ -338,6 +338,8 @@ def _zero(plan, begin, first):
     wall, offset = given("--begin", iso, begin)
     if not plan.has_day:
         raise ValueError(f"--begin {begin}: it has a day, and the times have none")
+    if offset is not None and not is_utc and not place.name:
+        raise ValueError(f"--begin {begin}: it has an offset from UTC, and the times have none: --zone says what those are")
     return given("--begin", lambda _: place.utc(wall), begin) if offset is None else wall - offset
 
 
@@ -384,13 +386,14 @@ def _code_warnings(column):
 
 
 def _sort(made, rows, ticks):
-    """Puts the records in the order of time, and at one time of the sources; those that are alike in both stay in the order of the export."""
+    """Puts the records in the order of ticks, and of one tick in that of the sources, and then of the times; those that are alike in all stay in the
+    order of the export."""
     rank = {it: at for at, it in enumerate(made.names)}
     keys = [time * 64 + rank[it] for time, it in zip(ticks, rows.sources)]
-    if all(map(int.__le__, keys, islice(keys, 1, None))):
+    order = sorted(sorted(range(len(keys)), key=rows.stamps.__getitem__), key=keys.__getitem__)
+    if all(map(int.__eq__, order, range(len(keys)))):
         made.sources, made.times, made.values = rows.sources, ticks, rows.values
         return
-    order = sorted(range(len(keys)), key=keys.__getitem__)
     made.told.append("records are sorted by time, and at one time by the order of the sources")
     made.sources = [rows.sources[it] for it in order]
     made.times, *made.values = (array("q", map(column.__getitem__, order)) for column in (ticks, *rows.values))

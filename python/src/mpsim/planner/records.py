@@ -81,8 +81,15 @@ class Times:
         value = self.how.of(row[self.column], than)
         if not self.how.is_of_day:
             return value
-        midnight = self.zone.wall(than) // DAY * DAY
-        moment = self.zone.utc(midnight + value, self._seen, than)
+        shown = self.zone.wall(than)
+        midnight = shown // DAY * DAY
+        try:
+            moment = self.zone.utc(midnight + value, self._seen, than)
+        except Unread:
+            # Skipped before that one, it is of the next day.
+            if midnight + value >= shown:
+                raise
+            moment = than - 1
         return moment if moment >= than else self.zone.utc(midnight + DAY + value, self._seen, than)
 
 

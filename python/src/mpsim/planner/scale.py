@@ -1,6 +1,5 @@
 """More load, or less, of the same trace."""
 
-import csv
 import re
 from collections import Counter
 from fractions import Fraction
@@ -42,13 +41,14 @@ def ratio(text):
 
 
 def closer(times, k, n):
-    """Pairs of a time and the place of the record that it is of (a list), in the order of time: of each time (int, ticks) n/k, rounded down.
+    """Pairs of a time and the place of the record that it is of (a list), in the order in which the records came: of each time (int, ticks) n/k,
+    rounded down.
 
     >>> from mpsim.planner.scale import closer
-    >>> closer([0, 25, 10], 2, 1)
-    [(0, 0), (5, 2), (12, 1)]
+    >>> closer([0, 25, 10, 24], 2, 1)
+    [(0, 0), (5, 2), (12, 3), (12, 1)]
     """
-    return sorted((time * n // k, at) for at, time in enumerate(times))
+    return [(times[at] * n // k, at) for at in sorted(range(len(times)), key=times.__getitem__)]
 
 
 def copies(times, sources, k, n, shift=0, only=()):
@@ -160,7 +160,7 @@ def main(asked):
     if made.rows and (last := int(made.rows[-1][1])) > GREATEST_TIME:
         raise ValueError(f"--by {asked.by}: a time of {last}, which is above {GREATEST_TIME}")
     with written(asked.out) as file:
-        csv.writer(file, lineterminator="\n").writerows(made.lines())
+        file.writelines(made.texts())
     if warning := pool_warning(asked.trace, trace.header):
         say(warning)
     say(f"{counted(len(made.rows), 'record')} of {len(trace.rows):,}: {means(k, n, way, asked.shift, asked.source)}")

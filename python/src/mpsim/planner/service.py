@@ -45,7 +45,7 @@ class Once(argparse.Action):
 def heads(within=(20,), percents=PERCENTS):
     """The names of the figures (list of str) that `figures` gives."""
     shares = [f"within_{it}_of_{whom}" for it in within for whom in ("all", "departed")]
-    return ["came", "departed", "lost", "held", "mean_wait", *(f"p{it:g}" for it in percents), "max", *shares]
+    return ["came", "departed", "lost", "held", "mean_wait", *(f"p{it:.15g}" for it in percents), "max", *shares]
 
 
 def figures(waits, within=(20,), percents=PERCENTS):

@@ -88,7 +88,7 @@ def table(report, by="both", within=(), percents=PERCENTS):
         key = (rank[it.source] if is_by_source else -1, rank[it.left_at] if is_by_end else -1, it.lost and is_by_end)
         found.setdefault(key, array("q")).append(it.sojourn)
     heads = ["source"] * is_by_source + ["left_at", "how"] * is_by_end
-    yield [*heads, "jobs", "mean_sojourn", *(f"p{it:g}" for it in percents), "max", *(f"within_{it}" for it in within)]
+    yield [*heads, "jobs", "mean_sojourn", *(f"p{it:.15g}" for it in percents), "max", *(f"within_{it}" for it in within)]
     names = [it.name for it in report.nodes]
     for (source, end, is_lost), times in sorted(found.items()):
         times = sorted(times)

@@ -6,7 +6,7 @@ import io
 import os
 
 from ..errors import Error
-from ..inputs import records_of
+from ..inputs import records_of, row_writer
 from .files import bytes_of
 
 
@@ -107,9 +107,14 @@ class Trace:
         return Trace(self.path, [*self.header, *columns], [[*row, *it] for row, it in zip(self.rows, more)])
 
     def lines(self):
-        """The header and the rows: a trace for `mpsim.run`, and for a writer of CSV."""
+        """The header and the rows: a trace for `mpsim.run`."""
         yield self.header
         yield from self.rows
+
+    def texts(self):
+        """The header and the rows as texts (str), each with its line feed."""
+        line_of = row_writer()
+        return (f"{line_of(it)}\n" for it in self.lines())
 
 
 def pool_warning(path, header):

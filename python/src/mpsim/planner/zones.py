@@ -34,8 +34,14 @@ class Zone:
         return at_utc(here), at_utc(here.replace(fold=1))
 
     def first(self, wall):
-        """The first moment at which a clock shows this, or would if it were set forward later."""
-        return self._both(wall)[0] if self.zone else wall
+        """The first moment at which a clock shows this or, where it is set forward over it, more."""
+        if not self.zone:
+            return wall
+        found, before = self._both(wall)
+        while found - before > 1:
+            between = (found + before) // 2
+            found, before = (between, before) if self.wall(between) >= wall else (found, between)
+        return found
 
     def utc(self, wall, seen=None, than=None):
         """The moment at which a clock shows this. Of the hour that comes twice the first that isn't before `than`, where that is given; else the one
