@@ -366,6 +366,17 @@ class Commands(WithPool):
         self.file("other.csv", "source,time,d,desk_wait\ndoor,0,4,1\nside,0,4,1\n")
         self.assertEqual(len(self.tells("service", other, calls).splitlines()), 3)
 
+    def test_the_pool_in_front_is_made_first(self):
+        model = self.file("two.txt", "model 1\nsource phone\nsource web\nserver desk talk from phone web\nserver back =3 from desk\n")
+        made = [self.folder / it for it in ("b.csv", "b.txt")]
+        line = "the pool at back stands behind desk: make that at desk first, which says when calls come to back"
+        for by in "trunk", "agents":
+            words = "--agents", 2, "--by", by
+            self.tells("pool", model, self.trace, "--node", "back", *words, "--out", made[0], "--out-model", made[1])
+            self.refuses(line, "pool", made[1], made[0], "--node", "desk", *words)
+            self.tells("pool", model, self.trace, "--node", "desk", *words, "--out", made[0], "--out-model", made[1])
+            self.tells("pool", made[1], made[0], "--node", "back", *words)
+
     def test_waits_that_no_column_has(self):
         trace = self.file("long.csv", "source,time,talk\nweb,1,68719476736\nweb,1,1\nweb,1,1\nphone,0,7\n")
         line = "with 1 agent at desk a call waits for 68719476743 ticks, where a column has at most 68719476736"

@@ -153,7 +153,8 @@ class Command(InFolder):
         text, _ = self.made("--by", "1")
         self.assertEqual(text, 'source,time,d,note\na,0,5,"x\ry"\nb,7,6,"z\r"\n')
         model = self.file("m.txt", "model 1\nsource a\nsource b\nserver desk d from a b\n")
-        for words in ("days", model, self.trace, "--every", 5), ("pool", model, self.trace, "--node", "desk", "--agents", 2, "--out", self.folder / "p"):
+        pool = "pool", model, self.trace, "--node", "desk", "--agents", 2, "--out", self.folder / "p"
+        for words in ("days", model, self.trace, "--every", 5), pool:
             self.assertEqual(planner(*words)[0], 0, words)
         self.assertEqual(mpsim.run(model, self.folder / "p").jobs, 2)
 

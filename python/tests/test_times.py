@@ -112,7 +112,7 @@ class Moment(Test):
         self.reads("%d.%m.%Y %H:%M:%S.%f", [it.strftime("%d.%m.%Y %H:%M:%S.%f") for it in self.moments], self.moments)
 
     def test_what_strptime_takes_and_is_not_meant(self):
-        """Of fewer digits than a format has it makes another time, as 13:05 of 135; and without AM or PM nobody knows which half of a day is meant."""
+        """Of fewer digits than a format has it makes another time, as 13:05 of 135; without AM or PM nobody knows which half of a day is meant."""
         for form, good, bad in (
             ("%H%M", "0135", ["135", "5", "01350"]),
             ("%Y%m%d%H%M%S", "20260302080500", ["202603020805", "20260302"]),

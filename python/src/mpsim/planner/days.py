@@ -8,6 +8,7 @@ from ..errors import BoundError, VisitsError
 from ..runs import run
 from ..sweeps import Scenario, Sweep
 from . import calendar
+from .anew import anew, standing
 from .files import counted, say, text_of, written
 from .hours import days_until
 from .pooled import pool_lines, pools
@@ -94,18 +95,20 @@ def by_ticks(times, every):
 
 def days(model, trace, pieces, tell=lambda done: None, path=None):
     """A Sweep of which each scenario is the run of a piece (Day) of a trace (Trace), by the names of the pieces, in a network that is empty at its
-    time 0; and of how many pieces somebody is still there when the next begins (int), who isn't there in its run. The model is one that `mpsim.run`
-    takes, and is read once for each. A piece whose run is refused, for the bound or a node with too many visits, hands over its refusal; for all
-    else what `mpsim.run` raises is raised, with the path of the model where that is given. `tell` is called with how many are done."""
-    times, sweep, over = trace.times(), Sweep(), 0
+    time 0; and of how many pieces somebody is still there when the next begins (int), who isn't there in its run. Who serves and waits at a pool is
+    worked out for the records of the piece alone (`anew`). The model is one that `mpsim.run` takes, and is read for each. A piece whose run is
+    refused, for the bound or a node with too many visits, hands over its refusal; for all else what `mpsim.run` raises is raised, with the path of
+    the model where that is given. `tell` is called with how many are done."""
+    times, sweep, over, known = trace.times(), Sweep(), 0, standing(model, trace)
     for done, it in enumerate(pieces):
         tell(done)
-        rows = [trace.header, *([trace.rows[at][0], times[at] - it.zero, *trace.rows[at][2:]] for at in it.records)]
+        piece = Trace(trace.path, trace.header, [[trace.rows[at][0], times[at] - it.zero, *trace.rows[at][2:]] for at in it.records])
         try:
             with told_of(trace, it.records, path):
-                report = run(model, rows)
+                piece = anew(piece, known)
+                report = run(model, piece.lines(), jobs=bool(known))
                 # The percentiles of a pool want its visits.
-                report = run(model, rows, jobs=True) if pools(report) else report
+                report = run(model, piece.lines(), jobs=True) if not known and pools(report) else report
         except (BoundError, VisitsError) as fault:
             sweep[it.name] = Scenario(it.name, fault.status, None, fault)
             continue

@@ -11,6 +11,7 @@ from heapq import heapreplace
 from ..errors import BoundError
 from ..inputs import model_text
 from ..model import nodes_of
+from ..node_visits import NodeVisits
 from ..report import Report
 from ..runs import run
 from .files import all_written, counted, judge_outputs, written
@@ -83,25 +84,28 @@ class Queue:
         if not found or found[0].kind != "server":
             servers = ", ".join(it.name for it in self.nodes if it.kind == "server") or "none"
             raise ValueError(f"{node} is no server of the model, in whose place a pool can stand; it has {servers}")
+        self._judge_order()
         self.demand = found[0].asked
-        visits = report.visits[node] if report.visits else []
-        self.jobs, self.arrivals = (list(visits.job), list(visits.arrive)) if visits else ([], [])
-        if len(set(self.jobs)) < len(self.jobs):
-            raise ValueError(f"a job comes to {node} more than once, and its record has room for one wait")
-        fixed = int(self.demand[1:]) if self.demand.startswith("=") else None
-        values = [fixed] * len(trace.rows) if fixed is not None else trace.numbers(self.demand)
-        self.demands = [values[job - 1] for job in self.jobs]
+        self.jobs, self.arrivals, self.demands = calls_at(report, node, node, self.demand, trace)
+
+    def _judge_order(self):
+        """Raises ValueError where a pool stands behind this one already: when calls come to it hangs on who serves here."""
+        nodes = {it.name: it for it in self.nodes}
+        for it in self.nodes:
+            name, asked = it.name.removesuffix(queue_name("")), it.asked.split()
+            is_pool = it.kind == "delay" and asked == [f"{name}_wait"] or it.kind == "split" and asked[:2] == ["cut", f"{name}_agent"]
+            if is_pool and self.node in in_front(nodes, [it.name]):
+                why = f"make that at {self.node} first, which says when calls come to {name}"
+                raise ValueError(f"the pool at {name} stands behind {self.node}: {why}")
 
     def _with_one(self):
         """The report of the model as it is, of which the arrivals are wanted: they are the same whoever serves. Where one server is late for the
-        bound of the model, nobody waits in it, and there is no bound: that is judged when the pool runs."""
+        bound of the model, it is that of `front`: lateness is judged when the pool runs."""
         with told_of(self.trace, model=self.path):
             try:
                 return run(self.text.encode(errors="surrogateescape"), self.trace.lines(), jobs=True)
             except BoundError:
-                lines = [line for line in self.text.split("\n") if line.split()[:1] != ["bound"]]
-                lines = [line.replace("server", "delay", 1) if line.split()[:2] == ["server", self.node] else line for line in lines]
-                return run("\n".join(lines), self.trace.lines(), jobs=True)
+                return run(front(self.text, [self.node]), self.trace.lines(), jobs=True)
 
     def with_pool(self, agents, by="trunk"):
         """The model (str) and the trace (Trace) with a pool of so many agents (int) in place of the server. The trace has two columns more,
@@ -109,14 +113,8 @@ class Queue:
         `by` is "trunk" (up to 255 agents) or "agents", a server for each (as many as the nodes of a model allow). Raises ValueError where a model
         can't have so many, or has these names already."""
         model = self._model_of(agents, by)
-        who, waits = pool(self.arrivals, self.demands, agents)
-        if (longest := max(waits, default=0)) > GREATEST_VALUE:
-            why = f"a call waits for {longest} ticks, where a column has at most {GREATEST_VALUE}"
-            raise ValueError(f"with {counted(agents, 'agent')} at {self.node} {why}")
-        served, waited = [0] * len(self.trace.rows), [0] * len(self.trace.rows)
-        for job, agent, wait in zip(self.jobs, who, waits):
-            served[job - 1], waited[job - 1] = agent, wait
-        return model, self.trace.with_columns(**{f"{self.node}_agent": served, f"{self.node}_wait": waited})
+        calls = self.jobs, self.arrivals, self.demands
+        return model, self.trace.with_columns(**columns_of(self.node, agents, calls, len(self.trace.rows)))
 
     def run(self, agents, by="trunk"):
         """The report (Report) of a pool of so many agents (int), with visits."""
@@ -130,7 +128,7 @@ class Queue:
 
     def _model_of(self, agents, by):
         this = next(it for it in self.nodes if it.name == self.node)
-        inputs = " ".join(name + (f".{output}" if output else "") for name, output in this.inputs)
+        inputs = inputs_of(this)
         is_read = any(name == self.node for it in self.nodes for name, _ in it.inputs)
         lines = trunk_lines(self.node, agents, self.demand, inputs) if by == "trunk" else agent_lines(self.node, agents, self.demand, inputs, is_read)
         self._judge(lines, None if by == "trunk" else agent_name(self.node, agents + 1))
@@ -160,6 +158,55 @@ class Queue:
                 is_begun, line = True, f"model {max(int(words[1]), version)}"
             if line:
                 yield f"{line}\n"
+
+
+def calls_at(report, node, pool, demand, trace):
+    """The calls of a pool (str) that come to a node (str) in a report with visits: their records, from 1, their arrivals, and their demands by the
+    trace (Trace) of the run (lists of int). Raises ValueError where a job comes there more than once."""
+    # Where nobody is in the network there are no lines of jobs.
+    visits = report.visits[node] if report.visits else NodeVisits(node)
+    jobs = list(visits.job)
+    if len(set(jobs)) < len(jobs):
+        raise ValueError(f"a job comes to {pool} more than once, and its record has room for one wait")
+    values = [int(demand[1:])] * len(trace.rows) if demand.startswith("=") else trace.numbers(demand)
+    return jobs, list(visits.arrive), [values[job - 1] for job in jobs]
+
+
+def columns_of(node, agents, calls, records):
+    """The columns of a pool (a dict of str to lists of int): who serves the call of each of so many records, and for how long it waits, both 0 for
+    one that doesn't come there. The calls are as `calls_at` gives them. Raises ValueError where one waits for longer than a column may say."""
+    jobs, arrivals, demands = calls
+    served, waited = [0] * records, [0] * records
+    for job, agent, wait in zip(jobs, *pool(arrivals, demands, agents)):
+        served[job - 1], waited[job - 1] = agent, wait
+    if (longest := max(waited, default=0)) > GREATEST_VALUE:
+        why = f"a call waits for {longest} ticks, where a column has at most {GREATEST_VALUE}"
+        raise ValueError(f"with {counted(agents, 'agent')} at {node} {why}")
+    return {f"{node}_agent": served, f"{node}_wait": waited}
+
+
+def inputs_of(node):
+    """The words behind `from` of a node (ModelNode)."""
+    return " ".join(name + (f".{output}" if output else "") for name, output in node.inputs)
+
+
+def front(text, names):
+    """The model (str) of nodes of these names, of all that stand in front of them and of the sources, without a bound: when jobs come there is the
+    same in it, and nobody is late. Lines keep their numbers."""
+    kept = in_front({it.name: it for it in nodes_of(text)}, names)
+    lines = [(line, line.split()) for line in text.split("\n")]
+    return "\n".join(line if words[:1] in (["model"], ["source"]) or kept.intersection(words[1:2]) else "" for line, words in lines)
+
+
+def in_front(nodes, names):
+    """The names (set of str) of nodes and of all that stand in front of them; `nodes` are those of the model by their names (dict of ModelNode)."""
+    found, left = set(), [it for it in names if it in nodes]
+    while left:
+        name = left.pop()
+        if name not in found:
+            found.add(name)
+            left += [it for it, _ in nodes[name].inputs if it in nodes]
+    return found
 
 
 def trunk_lines(node, agents, demand, inputs):

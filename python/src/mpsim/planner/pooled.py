@@ -40,7 +40,7 @@ def pooled(report, pool):
     """
     if _kind(report, pool) == "trunk" and _kind(report, queue_name(pool)) == "delay":
         return _of_trunk_group(report, pool)
-    agents = [report.visits[it] for it in _agents_of(report, pool)]
+    agents = [report.visits[it] for it in agents_of(report, pool)]
     if not agents:
         names = ", ".join(it.name for it in report.nodes)
         raise ValueError(f"the report has no pool {pool!r}, neither by a trunk group nor agent by agent; its nodes are {names}")
@@ -52,8 +52,9 @@ def _kind(report, name):
     return report[name].kind if name in report else None
 
 
-def _agents_of(report, pool):
-    """The names of the servers of a pool that has one for each agent."""
+def agents_of(report, pool):
+    """The names of the servers (list of str) of a pool that has one for each agent, in a report, or among nodes of a model by their names (a dict of
+    ModelNode)."""
     agents = []
     while _kind(report, agent_name(pool, len(agents) + 1)) == "server":
         agents.append(agent_name(pool, len(agents) + 1))
@@ -73,7 +74,7 @@ def _named_as_pools(report):
                 continue
             agents = [pool]
         elif it.kind == "split":
-            agents = _agents_of(report, pool)
+            agents = agents_of(report, pool)
         else:
             continue
         if agents and it.out == sum(report[name].in_ for name in agents):
@@ -117,7 +118,7 @@ class PoolLines:
         for pool in _named_as_pools(report):
             if self._names and pool not in self._names:
                 continue
-            agents = _agents_of(report, pool)
+            agents = agents_of(report, pool)
             where = queue_name(pool) if _kind(report, pool) == "trunk" else f"{agents[0]} to {agents[-1]}"
             self._where.setdefault(pool, where)
             self._lost[pool] = max(self._lost.get(pool, 0), _lost(report, pool))
@@ -153,7 +154,7 @@ def parts(report, pool):
     """The names of the nodes of a pool (list of str) in place of which it stands as a whole: its queue, and its trunk group, or what gathers the
     calls that its agents let out."""
     # Where nobody reads what the agents let out, no node has the pool's name.
-    ends = end_names(pool, len(_agents_of(report, pool))) if _kind(report, pool) == "delay" else ()
+    ends = end_names(pool, len(agents_of(report, pool))) if _kind(report, pool) == "delay" else ()
     return [queue_name(pool), pool, *ends]
 
 
@@ -203,7 +204,7 @@ def visits_at(report, names):
 def _node(report, pool):
     """A pool as a node."""
     queue, is_trunk = report[queue_name(pool)], _kind(report, pool) == "trunk"
-    agents = [report[it] for it in ([pool] if is_trunk else _agents_of(report, pool))]
+    agents = [report[it] for it in ([pool] if is_trunk else agents_of(report, pool))]
     # Who is in the delay waits.
     wait = queue.area if is_trunk else sum(it.wait for it in agents)
     busy, area = sum(it.busy for it in agents), sum(it.area for it in [queue, *agents])

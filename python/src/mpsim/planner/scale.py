@@ -79,8 +79,8 @@ def copies(times, sources, k, n, shift=0, only=()):
 
 def around(time, count, shift, first, last):
     """The times (list of int) of so many copies of a record (int, the record itself counted), each `shift` behind the one before, from its `time` on
-    and round at the end, between `first` and `last` (int, ticks); where there are too few times up to an eighth of a shift outside, so that a record of
-    an early or late minute has its other days too. Raises ValueError where that isn't enough.
+    and round at the end, between `first` and `last` (int, ticks); where there are too few times up to an eighth of a shift outside, so that a record
+    of an early or late minute has its other days too. Raises ValueError where that isn't enough.
 
     >>> from mpsim.planner.scale import around
     >>> around(25, 2, 10, 3, 31), around(9, 3, 10, 0, 28)

@@ -106,6 +106,15 @@ class Trace:
         more = zip(*[map(str, it) for it in columns.values()])
         return Trace(self.path, [*self.header, *columns], [[*row, *it] for row, it in zip(self.rows, more)])
 
+    def with_values(self, **columns):
+        """The trace with these values (lists of int) in the columns of these names behind the times, as far as they are there."""
+        places = {self.header.index(name, 2): values for name, values in columns.items() if name in self.header[2:]}
+        rows = [list(row) for row in self.rows]
+        for place, values in places.items():
+            for row, value in zip(rows, values):
+                row[place] = str(value)
+        return Trace(self.path, self.header, rows)
+
     def lines(self):
         """The header and the rows: a trace for `mpsim.run`."""
         yield self.header
