@@ -17,7 +17,7 @@ from commands import InFolder, planner
 from ground import DESK, EXAMPLES, PYTHON, ROOT, SOURCES, Test, text_of
 
 import mpsim
-from mpsim.planner import COMMANDS
+from mpsim.planner import COMMANDS, command
 from mpsim.planner.command import line_of
 from mpsim.planner.files import bytes_of, text_of as model_text, written
 from mpsim.planner.progress import Progress
@@ -93,6 +93,16 @@ class Ends(InFolder):
 
     def left(self):
         return sorted(it.name for it in self.folder.iterdir())
+
+    def test_an_option_that_is_given_twice(self):
+        """Each that has one value, of each command: of two values the first would be lost."""
+        for name in COMMANDS:
+            parser = command._parser(name)._subparsers._group_actions[0].choices[name]
+            for it in parser._actions:
+                if isinstance(it, command._Once) and it.option_strings:
+                    values = [next(iter(it.choices), "1") if it.choices else "1"] * (it.nargs if isinstance(it.nargs, int) else 1)
+                    status, out, err = planner(name, *[it.option_strings[-1], *values] * 2)
+                    self.assertEqual((status, out, err.split(" (")[0]), (2, "", f"planner: {it.option_strings[-1]} is given twice"))
 
     def test_a_link(self):
         (self.folder / "planner").symlink_to(ROOT / "tools" / "planner")

@@ -304,6 +304,18 @@ class Values(Test):
         rows = table("8:00:00,8:00:00", "8:00:00,8:00:29", "8:00:00,8:00:30", header="come,end")
         self.assertEqual(prepare(rows, "come", end=["end"], tick="1min").values[0].tolist(), [0, 0, 1])
 
+    def test_ends_with_beginnings_of_their_own(self):
+        """A scan and its report: each has when it begins. A row in which the later beginning is empty, or is before the job comes, is left out."""
+        header = "come,scan,scanned,read,done"
+        rows = table("8:00,8:05,8:15,9:00,9:05", "8:10,8:20,8:21,,", "8:20,8:30,8:31,8:10,8:12", header=header)
+        made = prepare(rows, "come", end=["scanned=scan", "done=report"], answered=["scan", "read"], begin="day", date=None)
+        self.assertEqual([list(it) for it in made.rows()], [["jobs", 8 * 3600, 600, 300], ["jobs", 8 * 3600 + 1200, 60, 120]])
+        self.assertEqual(made.left, {"read is empty": 1})
+        one = prepare(rows, "come", end=["scanned=scan"], answered="scan", begin="day")
+        self.assertEqual(one.values[0].tolist(), [600, 60, 60])
+        with self.assertRaisesRegex(ValueError, "--answered is given 2 times for 3 of --end: it is given once, or once for each"):
+            prepare(rows, "come", end=["scanned=a", "done=b", "read=c"], answered=["scan", "read"])
+
     def test_rows_that_are_left_out_have_no_code(self):
         rows = table("8:00,x,p", "8:01,a,q", "8:02,a,r")
         made = prepare(rows, "when", source="who", code=["long=kind"], model="model 1\nsource a\n")

@@ -96,6 +96,11 @@ class Refusals(InFolder):
             ("column 'when' has ticks, so that --zone says nothing", table("5,a,1"), "--format", "ticks", "--zone", "Europe/Berlin"),
             ("--begin 8:00: it says nothing of times that are ticks", table("5,a,1"), "--format", "ticks", "--begin", "8:00"),
             ("--date-format says nothing without --date", table(ROW), "--date-format", "iso"),
+            (
+                "column 'when': 'Summe' isn't written as '01.10.2026' is; where a format is given such rows are left out (--format)",
+                table("01.10.2026,a,1", "Summe,,9", "02.10.2026,a,1"),
+            ),
+            ("times are before the year 1 or after the year 9999: is it another --format?", table("1772436600000,a,1"), "--format", "unix"),
             ("--answered says nothing without --end", table(ROW), "--answered", "when"),
             ("column 'when' has more than the time of the day, so that --date says nothing", table("2026-03-02,a,1"), "--date", "when"),
             ("column 'when' has more than the time of the day, so that --day says nothing", table("2026-03-02,a,1"), *DAY),

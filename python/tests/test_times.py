@@ -169,7 +169,9 @@ class Formats(Test):
             (["02.03.26 08:00"], "'02.03.26 08:00' has a year of two digits: the format may be '%d.%m.%y %H:%M'"),
             (["46083.25"], "'46083.25' is a number: the format is one of ticks, unix"),
             (["1772434817"], "is a number"),
-            (["2026-03-02"] * 8 + ["x", "y"], "is of no format that is found by itself"),
+            (["2026-03-02"] * 8 + ["x", "y"], "'x' isn't written as '2026-03-02' is; where a format is given such rows are left out"),
+            (["01.10.2026 7:00", "01.10.2026 7:00", "01.10.2026 7:00:30"], "'01.10.2026 7:00:30' isn't written as '01.10.2026 7:00' is"),
+            (["2026-03-02", "x"], "'2026-03-02' is of no format that is found by itself"),
             (["", " "], "no time to find the format by"),
         ):
             with self.assertRaises(ValueError) as caught:

@@ -16,8 +16,24 @@ from .files import say
 from .traces import fields_up_to
 
 
+class _Once(argparse._StoreAction):
+    """An option with a value that is given once: of two values the first would be lost."""
+
+    is_given = False
+
+    def __call__(self, parser, namespace, values, option_string=None):
+        if option_string and self.is_given:
+            parser.error(f"{option_string} is given twice")
+        self.is_given = True
+        super().__call__(parser, namespace, values, option_string)
+
+
 class _Parser(argparse.ArgumentParser):
     """Words that are none are told in one line."""
+
+    def __init__(self, *args, **named):
+        super().__init__(*args, **named)
+        self.register("action", None, _Once)
 
     def error(self, message):
         self.exit(2, f"planner: {message} ({self.prog} --help tells more)\n")

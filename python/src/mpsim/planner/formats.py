@@ -27,6 +27,16 @@ _PLAIN = {
 }
 
 
+# Of dates with a mark: the mark, what stands behind, and its directives.
+_DATES = {
+    rf"\d+{re.escape(mark)}\d+{re.escape(mark)}\d+{comma}{pattern}": (mark, comma + pattern, comma + clock)
+    for mark in "./-"
+    for comma in ("", ",")
+    for pattern, clock in _CLOCKS.items()
+    if clock or not comma
+}
+
+
 def _matches(pattern, texts):
     """The matches of a pattern, where no more than a tenth of the texts has none; else an empty list."""
     found = [it for it in map(re.compile(pattern, re.ASCII).fullmatch, texts) if it]
@@ -51,12 +61,14 @@ def found_format(texts):
     for form, pattern in _PLAIN.items():
         if _matches(pattern, some):
             return form
-    for mark in "./-":
-        for comma in "", ",":
-            for pattern, clock in _CLOCKS.items():
-                rest = (comma if clock else "") + pattern
-                if _matches(rf"\d+{re.escape(mark)}\d+{re.escape(mark)}\d+{rest}", some):
-                    return _found_date(texts, mark, rest, (comma if clock else "") + clock)
+    for pattern, (mark, rest, clock) in _DATES.items():
+        if _matches(pattern, some):
+            return _found_date(texts, mark, rest, clock)
+    for pattern in (*_PACKED, *_PLAIN.values(), *_DATES):
+        are = [bool(re.fullmatch(pattern, it, re.ASCII)) for it in some]
+        if 2 * sum(are) > len(are):
+            odd, like = some[are.index(False)], some[are.index(True)]
+            raise ValueError(f"{odd!r} isn't written as {like!r} is; where a format is given such rows are left out")
     raise ValueError(f"{texts[0]!r} is of no format that is found by itself")
 
 

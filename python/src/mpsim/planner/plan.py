@@ -79,12 +79,12 @@ class Plan:
         if date_format and not date:
             raise ValueError("--date-format says nothing without --date")
         self.time = Times(column, how, self.place, dates)
-        self.answered = None if answered is None else self._more_times(answered)
+        self.answered = list(map(self._more_times, answered))
 
     def readers(self):
         """All columns of times."""
         ends = [it.times for it in self.columns if isinstance(it, End)]
-        return [self.time, *([self.answered] if self.answered else []), *ends]
+        return [self.time, *self.answered, *ends]
 
     def _named(self, name, column=None):
         """The name of a column of the trace, made of the one in the export where none is given."""
@@ -113,12 +113,15 @@ class Plan:
         for it in self.columns:
             if isinstance(it, Sum):
                 self.told.append(f"{it.name} is the sum of {' and '.join(repr(self.export.header[part.column]) for part in it.parts)}")
-        for word in end:
-            column, name, _ = self.export.asked(word)
-            times = self._more_times(self.export.header[column])
-            self.columns.append(End(self._named(name, column), times, 1 if self.is_ticks else self.per, empty))
         if self.answered and not end:
             raise ValueError("--answered says nothing without --end")
+        if len(self.answered) not in (0, 1, len(end)):
+            raise ValueError(f"--answered is given {len(self.answered)} times for {len(end)} of --end: it is given once, or once for each")
+        for number, word in enumerate(end, 1):
+            column, name, _ = self.export.asked(word)
+            times = self._more_times(self.export.header[column])
+            begin = min(number, len(self.answered))
+            self.columns.append(End(self._named(name, column), times, 1 if self.is_ticks else self.per, empty, begin))
         for word in constant:
             name, equals, value = word.partition("=")
             if not equals:

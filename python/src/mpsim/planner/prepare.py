@@ -49,7 +49,7 @@ def words(parser):
     units = f"UNIT is s, or one of {', '.join(Lengths.NAMES)}"
     add("--demand", action="append", default=[], metavar="COLUMN[=NAME][:UNIT]", help=f"a service; {units}; those of one NAME are added up")
     add("--end", action="append", default=[], metavar="COLUMN[=NAME]", help="a service from its end: it begins at --answered, or else at --time")
-    add("--answered", metavar="COLUMN", help="when the services of --end begin")
+    add("--answered", action="append", default=[], metavar="COLUMN", help="when the services of --end begin: one column for all, or one for each")
     add("--constant", action="append", default=[], metavar="NAME=LENGTH", help="a service that all have, as wrap=90s")
     codes = "a column of words as numbers, for a split: those that --model tells, or from 0"
     add("--code", action="append", default=[], metavar="COLUMN[=NAME]", help=codes)
@@ -127,7 +127,7 @@ def prepare(
     source=None,
     demand=(),
     end=(),
-    answered=None,
+    answered=(),
     constant=(),
     code=(),
     empty=None,
@@ -156,12 +156,14 @@ def prepare(
     try:
         with fields_up_to(FIELD):
             plan = Plan(Export(data, encoding, delimiter, skip, header), place, per, format, decimal, model)
-            plan.times(time, date, date_format, day, answered)
+            plan.times(time, date, date_format, day, [answered] if isinstance(answered, str) else answered)
             plan.values(demand, end, constant, code, empty)
             plan.sources(source, rename)
             return _finished(plan, _read(plan, left_out), begin)
     except ValueError as fault:
         raise ValueError(f"{name}: {fault}") from None
+    except OverflowError:
+        raise ValueError(f"{name}: times are before the year 1 or after the year 9999: is it another --format?") from None
 
 
 def _tick(tick, model):

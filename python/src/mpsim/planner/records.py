@@ -144,19 +144,21 @@ class Sum:
 
 
 class End:
-    """What is from the moment at which a service begins to that of a column (Times), in ticks, to the nearest."""
+    """What is from the moment at which a service begins to that of a column (Times), in ticks, to the nearest. `begin` (int) says which moment that is:
+    0 when the job comes, 1 and so on those of `Records.answered`."""
 
-    def __init__(self, name, times, tick, empty=None):
-        self.name, self.column, self.times, self.tick, self.empty = name, times.column, times, tick, empty
+    def __init__(self, name, times, tick, empty=None, begin=0):
+        self.name, self.column, self.times, self.tick, self.empty, self.begin = name, times.column, times, tick, empty, begin
         self.code = None
 
     def of(self, row, begun):
         if self.empty is not None and not row[self.column].strip():
             return self.empty
-        end = self.times.later(row, begun)
-        if end < begun:
+        begin = begun[self.begin]
+        end = self.times.later(row, begin)
+        if end < begin:
             raise Unread("before it begins")
-        ticks = (2 * (end - begun) + self.tick) // (2 * self.tick)
+        ticks = (2 * (end - begin) + self.tick) // (2 * self.tick)
         if ticks > GREATEST_VALUE:
             raise Unread("above 2^36 ticks")
         return ticks
@@ -212,8 +214,8 @@ class Left(ValueError):
 
 
 class Records:
-    """Makes records of rows. `width` is how many fields the header has, `time` when a job comes, `answered` when a service of an `End` begins
-    (Times), or None where it is then; `values` are what makes the columns of the trace. `source` is a column, or `only` the name that all have;
+    """Makes records of rows. `width` is how many fields the header has, `time` when a job comes (Times), `answered` when services of an `End`
+    begin (a list of Times); `values` are what makes the columns of the trace. `source` is a column, or `only` the name that all have;
     `renamed` has names that were given, and `known` those that there are, None where any may be."""
 
     def __init__(self, width, time, answered, values, source=None, only=None, renamed=None, known=None):
@@ -256,13 +258,14 @@ class Records:
             raise Left(None, f"another number of fields than the header's {self.width}")
         at = self.time.column
         try:
-            stamp = begun = self.time.first(row)
+            stamp = self.time.first(row)
             if not -MOST < stamp < MOST:
                 raise Unread("out of the range of times")
-            if self.answered is not None:
-                at = self.answered.column
-                begun = self.answered.later(row, stamp)
-                if begun < stamp:
+            begun = [stamp]
+            for it in self.answered:
+                at = it.column
+                begun.append(it.later(row, stamp))
+                if begun[-1] < stamp:
                     raise Unread("before the job comes")
             made = [None, stamp]
             for it in self.values:
