@@ -2,6 +2,7 @@
 
 import io
 import random
+import time
 import unittest
 import unittest.mock
 from datetime import datetime, timedelta
@@ -388,6 +389,13 @@ class Values(Test):
         self.assertFalse(any("sorted" in it for it in sorted_rows.told))
         other = prepare(table("8:00:02,x,1", "8:00:03,a,1"), "when", source="who", demand=["long=d"], model=model)
         self.assertEqual((other.left, other.names), ({"who: the model has no source x": 1}, ["a"]))
+
+    def test_a_source_in_each_row(self):
+        """As of a wrong column: it is refused in a time that grows with the rows, and not with their square."""
+        begin, rows = time.process_time(), table(*(f"2026-03-02 08:00,id{it},1" for it in range(30000)))
+        with self.assertRaisesRegex(ValueError, "30000 sources, where a model has at most 63"):
+            prepare(rows, "when", source="who")
+        self.assertLess(time.process_time() - begin, 4)
 
     def test_sources(self):
         rows = table("8:00,Büro,1", "8:00,buro,1", "8:00,Z,1", "8:00, Z ,1", "8:00,,1")

@@ -222,6 +222,7 @@ class Records:
         self.width, self.time, self.answered, self.values = width, time, answered, values
         self.source, self.only, self.known = source, only, known
         self.renamed, self.names = renamed or {}, {}
+        self._taken = set(self.renamed.values())
         self._named = Cache(self._name_of)
         self._codes = [at for at, it in enumerate(values) if it.code]
 
@@ -231,10 +232,11 @@ class Records:
             raise Unread("empty")
         if text in self.names:
             return self.names[text]
-        made = self.renamed.get(text) or name_for(text, {*self.names.values(), *self.renamed.values()})
+        made = self.renamed.get(text) or name_for(text, self._taken)
         if self.known is not None and made not in self.known:
             raise Unread(f"the model has no source {made}")
         self.names[text] = made
+        self._taken.add(made)
         return made
 
     def many(self, rows):
