@@ -213,6 +213,16 @@ class Looked(Looking):
             self.looker.click("#compared thead button")
             self.assertEqual(self.texts("#compared tbody th"), want)
 
+    def test_the_figures_of_another_run_are_not_sorted(self):
+        """The table says that it is sorted as long as it has the figures by which it was."""
+        self.looker.show(page(self.several))
+        self.looker.click("#nodes thead button", 3)
+        self.assertEqual(self.attributes("#nodes thead th", "aria-sort").count("none"), len(self.texts("#nodes thead th")) - 1)
+        self.looker.click("g.node", 2)
+        self.assertIn("descending", self.attributes("#nodes thead th", "aria-sort"))
+        self.looker.pick("#run", 1)
+        self.assertEqual(set(self.attributes("#nodes thead th", "aria-sort")), {"none"})
+
     def test_network_of_another_run(self):
         """It is the one that stands in a page of that run alone; so is the line above."""
         calm = mpsim.run(places(6).replace("server greet g", "server greet =0"), day(2, 30), jobs=True)

@@ -68,6 +68,8 @@ function refillTable() {
       fill(row.cells[at + 2], { 'data-v': value ?? '' }, []).textContent = shown(value);
     });
   });
+  // They stand as before, which is no order of these figures.
+  document.querySelectorAll('#nodes thead th').forEach(it => it.setAttribute('aria-sort', 'none'));
 }
 function refillBoxes() {
   const { nodes, asked, kinds } = data.runs[state.run];
