@@ -85,6 +85,11 @@ class Exports(Test):
             marked = ("\ufeff" + text).encode(code) if code != "cp437" else text.encode(code)
             self.assertEqual(prepare(marked, "when", source="who", encoding=code).sources, ["buro"])
         self.assertEqual(found_encoding(b"a\nb\nx\xfc")[1].split(",")[0], "line 3 has the byte fc")
+        # As those of DOS have it: two words that differ in such bytes would be one.
+        dos = "when,who\n8:00,Bär\n8:00,Büro\n"
+        with self.assertRaisesRegex(ValueError, r"line 3: the byte 81 is no UTF-8 and no Windows-1252 \(--encoding\)"):
+            prepare(dos.encode("cp850"), "when", source="who")
+        self.assertEqual(prepare(dos.encode("cp850"), "when", source="who", encoding="cp850").sources, ["bar", "buro"])
 
     def test_delimiters(self):
         for lines, mark in (

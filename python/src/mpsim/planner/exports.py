@@ -32,6 +32,10 @@ def found_encoding(data):
             raise _undecoded(data, "UTF-8, which its mark says", fault) from None
         line = data.count(b"\n", 0, fault.start) + 1
         what = f"line {line} has the byte {data[fault.start]:02x}, which is no UTF-8"
+        try:
+            data.decode("cp1252")
+        except UnicodeDecodeError as other:
+            raise _undecoded(data, "UTF-8 and no Windows-1252", other) from None
         return "cp1252", f"{what}: all is taken as Windows-1252, which has what Latin-1 has"
     return "utf-8-sig", "the encoding is UTF-8 with a mark" if data.startswith(codecs.BOM_UTF8) else None
 
