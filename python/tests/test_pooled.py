@@ -84,6 +84,15 @@ class Whole(WithPool):
             names = [it.name for it in report.nodes if it.name not in {*gone, "desk"}]
             self.assertEqual(sorted(it.split(",")[0] for it in rows), sorted([*names, "desk"]))
 
+    def test_servers_of_ones_own_are_no_pool(self):
+        """Of three servers behind a split of another name no one's waits are told as those of all."""
+        model = self.file("own.txt", "model 1\nsource a\nsplit who 2 turn from a\nserver ct_1 d from who\nserver ct_2 d from who.1\n")
+        trace = self.file("own.csv", "source,time,d\na,0,4\na,1,4\na,2,4\n")
+        servers = "it has no node ct_queue, which planner pool would have put in front of the servers ct_1 to ct_2"
+        for command in "service", "hours":
+            words = command, model, trace, "--pool", "ct", *(["--tick", "1s"] if command == "hours" else [])
+            self.refuses(f"the report has no pool 'ct': {servers}", *words)
+
     def test_a_sweep_has_a_pool_as_a_whole(self):
         """With the shares within a time by its waits; without the lines of jobs its mean wait is known. In a folder the same."""
         for by, where in ("trunk", "desk_queue"), ("agents", "desk_1 to desk_2"):

@@ -257,6 +257,9 @@ class Times(Test):
         rows = table("2026-10-25 02:50,2026-10-25 02:10", "2026-10-25 02:52,2026-10-25 02:58", "2026-10-25 02:01,2026-10-25 02:03", header="come,end")
         made = prepare(rows, "come", end=["end"], zone="Europe/Berlin", twice="order", tick="1min")
         self.assertEqual((list(made.times), made.values[0].tolist()), ([50, 52, 61], [20, 6, 2]))
+        # A file that has the newest first goes back at each row, so that nobody knows which hour is meant.
+        with self.assertRaisesRegex(ValueError, "row 4, .*'2026-10-25 02:05:00'.*goes back more than once there: --twice order wants rows in"):
+            times("2026-10-25 02:50:00", "2026-10-25 02:20:00", "2026-10-25 02:05:00", zone="Europe/Berlin", twice="order")
         gone = prepare(table("2026-03-29 02:30,a,1", "2026-03-29 03:30,a,1"), "when", zone="Europe/Berlin")
         self.assertEqual(gone.left, {"when: in the hour that 2026-03-29 skips in Europe/Berlin": 1})
 

@@ -44,6 +44,9 @@ def pooled(report, pool):
     if not agents:
         names = ", ".join(it.name for it in report.nodes)
         raise ValueError(f"the report has no pool {pool!r}, neither by a trunk group nor agent by agent; its nodes are {names}")
+    if len(agents) > 1 and queue_name(pool) not in report:
+        more = f"which planner pool would have put in front of the servers {agent_name(pool, 1)} to {agent_name(pool, len(agents))}"
+        raise ValueError(f"the report has no pool {pool!r}: it has no node {queue_name(pool)}, {more}")
     # One agent has no split.
     return _of_agents(pool, report.visits.get(queue_name(pool), agents[0]), agents)
 

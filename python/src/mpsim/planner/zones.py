@@ -46,7 +46,7 @@ class Zone:
     def utc(self, wall, seen=None, than=None):
         """The moment at which a clock shows this. Of the hour that comes twice the first that isn't before `than`, where that is given; else the one
         that `twice` says, for which `seen` (a dict) keeps what was read before. Raises Unread where no clock shows it, and Asks where `twice` isn't
-        given."""
+        given, or is "order" and the file goes back there once more."""
         if not self.zone:
             return wall
         since = wall % DAY
@@ -66,6 +66,9 @@ class Zone:
             raise Asks(f"in the hour that {day} has twice in {self.name}: --twice says which is meant, first, second or order")
         if self.twice == "order":
             last, is_second = seen.get(day, (wall, False))
+            if is_second and wall < last:
+                more = "and the file goes back more than once there: --twice order wants rows in the order of time"
+                raise Asks(f"in the hour that {day} has twice in {self.name}, {more}")
             seen[day] = wall, is_second or wall < last
             return two if seen[day][1] else one
         return one if self.twice == "first" else two
