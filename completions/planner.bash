@@ -12,7 +12,7 @@ _planner() {
             options='--time --format --date --date-format --day --zone --twice --tick --begin --source --demand --end --answered --constant
                 --code --empty --rename --decimal --delimiter --encoding --skip --header --model --left-out --first-lines --out-model --out
                 --help'
-            repeated=' --demand --end --constant --code --rename '
+            repeated=' --demand --end --answered --constant --code --rename '
             ;;
         scale)
             options='--by --shift --times --twins --source --out --help'

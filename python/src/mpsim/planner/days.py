@@ -35,7 +35,8 @@ def words(parser):
     parser.add_argument("trace")
     parser.add_argument("--node", action="append", default=[], metavar="NAME", help="rows of this node, or pool, alone; may be repeated")
     parser.add_argument("--open", metavar="H:MM", help="time 0 of each day; else it is the first record of the day")
-    parser.add_argument("--close", metavar="H:MM", help="later than --open; records of this time and later are left out, and counted")
+    closes = "records of this time and later are left out, and counted; where it isn't later than --open, it is that of the next day"
+    parser.add_argument("--close", metavar="H:MM", help=closes)
     parser.add_argument("--every", type=int, metavar="TICKS", help="no days, but pieces of so many ticks from time 0 on")
     calendar.words(parser)
 
@@ -61,21 +62,33 @@ def cut(times, begins, names, opens=None, closes=None):
 
 
 def by_calendar(times, days, opens=None, closes=None):
-    """The pieces of times by the days of a calendar (Calendar), as `cut` gives them. `opens` and `closes` are times of the day (str, as "8:00").
-    Raises ValueError where one is none, or a day closes before it opens."""
+    """The pieces of times by the days of a calendar (Calendar), as `cut` gives them. `opens` and `closes` are times of the day (str, as "8:00"). A
+    day that closes before it opens, or then, closes on the next one, and is called as the one on which it opens. Raises ValueError where a time is
+    none.
+
+    >>> from mpsim.planner.calendar import Calendar
+    >>> from mpsim.planner.days import by_calendar
+    >>> at = [hour * 3600 for hour in (3, 12, 19, 29, 43)]
+    >>> days, left = by_calendar(at, Calendar(10**6, "2026-03-02T00:00"), "18:00", "6:00")
+    >>> [(it.name, it.zero // 3600, it.records) for it in days], left
+    ([('2026-03-01', -6, (0,)), ('2026-03-02', 18, (2, 3)), ('2026-03-03', 42, (4,))], 1)
+    """
     last = max(times, default=0)
     days_until(days, last)
-    found = list(days.midnights(last))
-    begins = [days.tick_at(begin) for _, begin, _ in found] + [days.tick_at(end) for _, _, end in found[-1:]]
+    found = [day for day, _, _ in days.midnights(last)]
     clocks = [_clock(it) if it else None for it in (opens, closes)]
     if clocks[0] == DAY:
         raise ValueError(f"--open {opens}: a day is at its end then")
     if clocks[1] == 0:
         raise ValueError(f"--close {closes}: the midnight at the end of a day is 24:00")
+    changes = 0
     if None not in clocks and clocks[1] <= clocks[0]:
-        raise ValueError(f"--close {closes} isn't later than --open {opens}, and days go from midnight to midnight: --every cuts shifts")
-    hours = [None if it is None else [days.tick_at(days.place.first(day * DAY + it)) for day, _, _ in found] for it in clocks]
-    return cut(times, begins, [days.name(day) for day, _, _ in found], *hours)
+        # Such days begin as they open, the first of them on the day before.
+        found, changes, clocks[1] = [found[0] - 1, *found] if found else [], clocks[0], clocks[1] + DAY
+    tick_of = lambda day, clock: days.tick_at(days.place.first(day * DAY + clock))
+    begins = [tick_of(day, changes) for day in [*found, *(it + 1 for it in found[-1:])]]
+    hours = [None if it is None else [tick_of(day, it) for day in found] for it in clocks]
+    return cut(times, begins, [days.name(day) for day in found], *hours)
 
 
 def _clock(text):
