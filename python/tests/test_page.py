@@ -16,6 +16,7 @@ import unittest
 from ground import CASES, EXAMPLES, MODEL, SOURCES, Test, heeds_signals, nodes_of, text_of, words_of
 from looking import Tree, elements
 from looking import text_of as text_in
+from test_page_models import data_of
 
 import mpsim
 from mpsim.node_visits import HELD, LOST, NodeVisits, Visits
@@ -341,34 +342,11 @@ class Files(Test):
             self.assertEqual([text_in(it) for it in elements(run, "option")], labels)
         self.assertEqual([it.name for it in self.folder.iterdir()], ["a page.html"])
 
-    def test_a_model_for_each_report(self):
-        """In the box of a node are the words of the model of that run. One model for reports of others is told by the number of servers."""
-        trace, paths = [("calls", at, 9) for at in range(4)], []
-        for count in 2, 3:
-            model, report = self.folder / f"m{count}.txt", self.folder / f"r{count}.txt"
-            behind = "tandem rest =1 / 1 =2 from ct\nforkjoin both =1 =2 | =3 from rest\n"
-            model.write_text(f"model 2\nsource calls\ntrunk ct {count} d from calls\n{behind}")
-            report.write_text("".join(mpsim.run(model, trace).lines()))
-            paths += [(report, model)]
-        out, (reports, models) = self.folder / "page.html", zip(*paths)
-        asked = lambda: [it["asked"]["ct"] for it in self.data(out)["runs"]]
-        self.assertEqual(self.told("page", *reports, "--model", models[0], "--model", models[1], "--out", out), (0, "", ""))
-        self.assertEqual(asked(), ["trunk 2 d", "trunk 3 d"])
-        line = "ct of r3 has another number of servers than the model says, whose words stand in its box; --model is given for each"
-        self.assertEqual(self.told("page", *reports, "--model", models[0], "--out", out), (0, "", f"planner: warning: {line}\n"))
-        line = "3 models for 2 reports: --model is given once, or once for each"
-        self.assertEqual(self.told("page", *reports, *["--model", models[0]] * 3, "--out", out), (1, "", f"planner: {line}\n"))
-        self.assertEqual(self.told("page", reports[0], "--model", models[0], "--out", models[0])[0], 1)
-
-    def data(self, path):
-        """What the script of a page works on."""
-        return json.loads(text_in(next(it for it in elements(Tree(path.read_text()).root, "script") if it[1].get("id") == "data")))
-
     def test_time_of_the_day(self):
         out = self.folder / "page.html"
         words = "page", JOBS, "--out", out, "--tick", "500ms", "--start", "2026-03-02T08:00:30"
         self.assertEqual(self.told(*words), (0, "", ""))
-        data = self.data(out)
+        data = data_of(out)
         self.assertEqual((data["tick"], data["date"], data["start"]), (0.5, "2026-03-02", 28830))
 
     def test_words_that_are_refused(self):

@@ -7,6 +7,7 @@ from commands import InFolder, planner
 from ground import ROOT, Test, programs_in, text_of
 
 from mpsim.planner import prepare as module
+from mpsim.planner import prepared
 
 prepare = module.prepare
 
@@ -230,9 +231,9 @@ class Limits(Test):
     def test_records_and_bytes(self):
         """The limits are those of docs/ERRORS.md; smaller ones are tried."""
         errors = text_of(ROOT, "docs", "ERRORS.md").replace(",", "")
-        for limit in module.RECORDS, module.BYTES:
+        for limit in module.RECORDS, prepared.BYTES:
             self.assertRegex(errors, rf"\b{limit}\b")
-        with unittest.mock.patch.multiple(module, RECORDS=3, BYTES=33):
+        with unittest.mock.patch.object(module, "RECORDS", 3), unittest.mock.patch.object(prepared, "BYTES", 33):
             with self.assertRaisesRegex(ValueError, "more than 3 records, which a trace can't have: cut the export"):
                 prepare(table(*[ROW] * 4), "when")
             # Each record has `jobs,0` and a line feed, with the value two more; the header has 11 or 13.

@@ -2,6 +2,7 @@
 
 import unittest
 
+from commands import InFolder
 from ground import Test
 
 from mpsim.planner.scenarios import Plan, labels_of, sets_of, values_of
@@ -63,6 +64,20 @@ class Plans(Test):
     def test_ranges(self):
         self.assertEqual([ranges(it) for it in ([1], [1, 2, 3, 7], range(5), [])], ["1", "1-3, 7", "0-4", ""])
         self.assertEqual(ranges(range(0, 50, 2), 3), "0, 2, 4 and 22 more")
+
+
+class Kept(InFolder):
+    def test_nodes_that_a_folder_keeps(self):
+        """The table of one node is that again where the sweep goes on, unless another is asked for."""
+        model = self.file("m.txt", "model 2\nsource calls\ntrunk lines {lines} a from calls\n")
+        trace, at = self.file("t.csv", "source,time,a\ncalls,0,5\ncalls,1,5\n"), self.folder / "kept"
+        count = "planner: 2 scenarios in 1 shards, {} to run\n"
+        want = self.tells("sweep", model, trace, "--set", "lines=1,2", "--folder", at, "--node", "lines", error=count.format(1))
+        nodes = lambda text: [row.split(",")[5] for row in text.splitlines()]
+        self.assertEqual(nodes(want), ["node", "lines", "lines"])
+        for way, told in ("--table", ""), ("--resume", count.format(0)):
+            self.assertEqual(self.tells("sweep", "--folder", at, way, error=told), want)
+            self.assertEqual(nodes(self.tells("sweep", "--folder", at, way, "--node", "calls", error=told)), ["node", "calls", "calls"])
 
 
 if __name__ == "__main__":

@@ -210,16 +210,6 @@ class InMemory(InFolder):
         for way in "--table", "--resume":
             self.assertEqual(self.told("--folder", self.at, way, "--node", "zz")[:2], (1, ""))
 
-    def test_nodes_that_a_folder_keeps(self):
-        """The table of one node is that again where the sweep goes on, unless another is asked for."""
-        words = self.model, self.trace, "--set", "lines=1,2", "--set", "column=a", "--folder", self.at
-        status, want, _ = self.told(*words, "--node", "lines")
-        self.assertEqual((status, [row.split(",")[6] for row in want.splitlines()]), (0, ["node", "lines", "lines"]))
-        for way in "--table", "--resume":
-            self.assertEqual(self.told("--folder", self.at, way)[:2], (0, want))
-            other = self.told("--folder", self.at, way, "--node", "calls")[1]
-            self.assertEqual([row.split(",")[6] for row in other.splitlines()], ["node", "calls", "calls"])
-
 
 class Shards(InFolder):
     def test_one_table_however_it_is_run(self):

@@ -144,8 +144,8 @@ class Sum:
 
 
 class End:
-    """What is from the moment at which a service begins to that of a column (Times), in ticks, to the nearest. `begin` (int) says which moment that is:
-    0 when the job comes, 1 and so on those of `Records.answered`."""
+    """What is from the moment at which a service begins to that of a column (Times), in ticks, to the nearest. `begin` (int) says which moment that
+    is: 0 when the job comes, 1 and so on those of `Records.answered`."""
 
     def __init__(self, name, times, tick, empty=None, begin=0):
         self.name, self.column, self.times, self.tick, self.empty, self.begin = name, times.column, times, tick, empty, begin

@@ -61,7 +61,7 @@ def copies(times, sources, k, n, shift=0, only=()):
 
     >>> from mpsim.planner.scale import copies
     >>> copies([0, 10, 25], ["a", "a", "a"], 2, 1, shift=10)
-    [(0, 0), (0, 1), (5, 2), (10, 0), (10, 1), (25, 2)]
+    [(0, 0), (5, 2), (10, 0), (10, 1), (20, 1), (25, 2)]
     """
     ends = min(times, default=0), max(times, default=0)
     seen, before, made = {}, 0, []

@@ -1,0 +1,40 @@
+"""A page of reports of several models."""
+
+import json
+import unittest
+
+from commands import InFolder, planner
+from looking import Tree, elements
+from looking import text_of as text_in
+
+import mpsim
+
+
+def data_of(path):
+    """What the script of a page works on."""
+    return json.loads(text_in(next(it for it in elements(Tree(path.read_text()).root, "script") if it[1].get("id") == "data")))
+
+
+class Models(InFolder):
+    def test_a_model_for_each_report(self):
+        """In the box of a node are the words of the model of that run. One model for reports of others is told by the number of servers."""
+        trace, paths = [("calls", at, 9) for at in range(4)], []
+        for count in 2, 3:
+            model, report = self.folder / f"m{count}.txt", self.folder / f"r{count}.txt"
+            behind = "tandem rest =1 / 1 =2 from ct\nforkjoin both =1 =2 | =3 from rest\n"
+            model.write_text(f"model 2\nsource calls\ntrunk ct {count} d from calls\n{behind}")
+            report.write_text("".join(mpsim.run(model, trace).lines()))
+            paths += [(report, model)]
+        out, (reports, models) = self.folder / "page.html", zip(*paths)
+        asked = lambda: [it["asked"]["ct"] for it in data_of(out)["runs"]]
+        self.assertEqual(planner("page", *reports, "--model", models[0], "--model", models[1], "--out", out), (0, "", ""))
+        self.assertEqual(asked(), ["trunk 2 d", "trunk 3 d"])
+        line = "ct of r3 has another number of servers than the model says, whose words stand in its box; --model is given for each"
+        self.assertEqual(planner("page", *reports, "--model", models[0], "--out", out), (0, "", f"planner: warning: {line}\n"))
+        line = "3 models for 2 reports: --model is given once, or once for each"
+        self.assertEqual(planner("page", *reports, *["--model", models[0]] * 3, "--out", out), (1, "", f"planner: {line}\n"))
+        self.assertEqual(planner("page", reports[0], "--model", models[0], "--out", models[0])[0], 1)
+
+
+if __name__ == "__main__":
+    unittest.main()
