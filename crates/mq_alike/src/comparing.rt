@@ -84,6 +84,7 @@ fn asks_for_same(former: &FormerRows, rows: &Rows, kind: &Kind, job: u32) -> boo
     }
 }
 
+// Whether a job asks for the same by a demand as before the edits.
 fn asks_one(former: &FormerRows, rows: &Rows, demand: &Demand, job: u32) -> bool
     requires set { former.now.from ≤ job }
     requires earlier { HasDemand (rows_before former.now rows.now) demand.now job }
@@ -93,6 +94,7 @@ fn asks_one(former: &FormerRows, rows: &Rows, demand: &Demand, job: u32) -> bool
     demand_of(&former.rows, demand, job - former.from) == demand_of(rows, demand, job)
 }
 
+// Whether it does at each of these stages.
 fn asks_stages(former: &FormerRows, rows: &Rows, stages: &List<Stage>, job: u32) -> bool
     requires set { former.now.from ≤ job }
     requires earlier { AllByRecursion (λ stage. HasDemand (rows_before former.now rows.now) stage.demand job) stages.now }
@@ -107,6 +109,7 @@ fn asks_stages(former: &FormerRows, rows: &Rows, stages: &List<Stage>, job: u32)
     true
 }
 
+// Whether it does by each of these demands.
 fn asks_each(former: &FormerRows, rows: &Rows, demands: &List<Demand>, job: u32) -> bool
     requires set { former.now.from ≤ job }
     requires earlier { AllByRecursion (λ demand. HasDemand (rows_before former.now rows.now) demand job) demands.now }
@@ -121,6 +124,7 @@ fn asks_each(former: &FormerRows, rows: &Rows, demands: &List<Demand>, job: u32)
     true
 }
 
+// Whether it does by each demand of these branches.
 fn asks_branches(former: &FormerRows, rows: &Rows, branches: &List<List<Demand>>, job: u32) -> bool
     requires set { former.now.from ≤ job }
     requires earlier { AllByRecursion (λ demands. AllByRecursion (λ demand. HasDemand (rows_before former.now rows.now) demand job) demands) branches.now }

@@ -20,7 +20,7 @@ pub fn demands_of(
     demands_in(alloc, rows, demand, jobs.as_slice())
 }
 
-// The demand of each job of a slice.
+/// The demand of each job of a slice, in ticks, by position. It refuses for want of memory alone.
 // Its loop is not inlined, so that it has the registers to itself.
 #[inline(never)]
 pub fn demands_in(

@@ -11,7 +11,7 @@ use mq_asked::Asked;
 use mq_base::{List, OutOfMemory};
 use mq_core::Stream;
 use mq_crew::Gate;
-use mq_forkjoin::later_times;
+use mq_forkjoin::{copy_of, later_times};
 use mq_stations::ForkJoinScan;
 use std::alloc::Global;
 use std::thread::Threads;
@@ -59,12 +59,6 @@ fn begun<'a>(
     }
     let latest = copy_of(alloc, &arrivals.time)?;
     Ok(Passage { branches, latest })
-}
-
-fn copy_of(alloc: Global, times: &List<u64>) -> Result<List<u64>, OutOfMemory>
-    ensures { IfOk result (λ copy. copy ≡ times.now) }
-{
-    Ok(List::from_vec(Vec::from_slice(alloc, times.as_slice())?))
 }
 
 // The next server of a branch.

@@ -31,6 +31,13 @@ leaves_with kind s position = (behaviour_of kind).exit s position
 abbrev pub fate_of : Kind → Station Local → ℕ → Option Fate
 fate_of kind s position = option_map (fate_by kind) (leaves_with kind s position)
 
+-- when the visits depart that do, by position
+abbrev pub departure_times : List Fate → List ℕ
+departure_times [] = []
+departure_times (Departs time ∷ fates) = time ∷ departure_times fates
+departure_times (Lost ∷ fates) = departure_times fates
+departure_times (Held ∷ fates) = departure_times fates
+
 -- whether visits may stay in a node of this kind for good
 abbrev pub keeps_visits : Kind → Bool
 keeps_visits kind = (behaviour_of kind).keeps

@@ -1,5 +1,5 @@
 -- That the numbers worked out from sequences are the run's own tallies.
-use Rattle.std.specs.Prelude.{◌≡◌, ◌<◌, ◌+◌, ℕ, length, Some, None, slice_get}
+use Rattle.std.specs.Prelude.{◌≡◌, ◌<◌, ℕ, length, Some, None, slice_get}
 use Rattle.mq_core.specs.Sequences.{sequence_totals, sequence_exit, sequence_span, sequence_refusal, visits_by_node}
 use Rattle.mq_core.specs.Local.{Local}
 use Rattle.mq_core.specs.Machine.{Station}
@@ -33,14 +33,6 @@ abbrev pub IsFineBelow : Plan → Rows → ℕ → Type 0
 IsFineBelow plan rows rank =
     (r v : ℕ) (node : Node) → r < rank → slice_get plan.order r ≡ Some v → slice_get plan.net.nodes v ≡ Some node →
     sequence_refusal plan.net.bound v (visits_of node.kind ((run_of plan rows).stations v)) ≡ None
-
--- one node more
-abbrev pub FineGrows : Type 0
-FineGrows =
-    (plan : Plan) (rows : Rows) (rank v : ℕ) (node : Node) →
-    slice_get plan.order rank ≡ Some v → slice_get plan.net.nodes v ≡ Some node → IsFineBelow plan rows rank →
-    sequence_refusal plan.net.bound v (visits_of node.kind ((run_of plan rows).stations v)) ≡ None →
-    IsFineBelow plan rows (rank + 1)
 
 -- where no node of a lower rank is refused, the refusal of the next node that has one is that of the run
 abbrev pub RefusalIsFirst : Type 0

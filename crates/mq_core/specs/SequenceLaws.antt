@@ -162,7 +162,7 @@ NoNodeCopies net = (v : ℕ) (node : Node) → slice_get net.nodes v ≡ Some no
 abbrev pub FirstVersionCopiesNothing : Type 0
 FirstVersionCopiesNothing = (net : Network) → IsTrue (is_sound net) → net.version ≡ 1 → NoNodeCopies net
 
--- where no node copies, a job visits a node at most once
+-- where no node copies, a node has no more visits than there are rows
 abbrev pub VisitsAreFew : Type 0
 VisitsAreFew =
     (plan : Plan) (rows : Rows) → IsReadFor plan.net rows → NoNodeCopies plan.net → (v : ℕ) →

@@ -6,7 +6,7 @@ ghost use Rattle.mq_core.specs.Alone.{NodesFareAlone, NodesFlowAlone};
 ghost use Rattle.mq_core.specs.Bounded.{DeparturesAreBounded};
 ghost use Rattle.mq_core.specs.Fates.{AreasAreSojourns, BusyIsServices, FoundsAreCounts, HeldAreEntries, RunEnds, SpanIsLatest};
 ghost use Rattle.mq_core.specs.SequenceLaws.{ArrivalsAreStreams, SequencesAreBlind, SequencesGoByFates, DepartsInTime, FatesAreInTime, JobsAreRows, FirstVersionCopiesNothing, NodesAreSequences, NodesFlow, OrdersKeepItems, StreamsRise, VisitsAreFew, VisitsStayBareTime};
-ghost use Rattle.mq_core.specs.NumberLaws.{ExitsAreStreams, FineGrows, RefusalIsFirst, RefusalIsNone, SpanIsSequences, TotalsAreSequences};
+ghost use Rattle.mq_core.specs.NumberLaws.{ExitsAreStreams, RefusalIsFirst, RefusalIsNone, SpanIsSequences, TotalsAreSequences};
 ghost use Rattle.mq_core.specs.Matched.{DepartsAsTakenOut, VisitsFareByMatch};
 ghost use Rattle.mq_core.specs.RowLaws.{NoneBeforeItsRow};
 ghost use Rattle.mq_core.specs.RunLaws.{SequencesMakeRuns, OutputsHaveStreams, RunsHaveSequences, StreamsMakeOutputs};
@@ -135,11 +135,6 @@ pub fn refusal_is_none()
     ensures { RefusalIsNone }
 {}
 
-/// That no node below a rank is refused, one rank further.
-pub fn fine_grows()
-    ensures { FineGrows }
-{}
-
 /// What a node lets out is the recurrence of its kind over its visits.
 pub fn nodes_flow()
     ensures { NodesFlow }
@@ -209,8 +204,8 @@ pub fn first_version_copies_nothing()
     ensures { FirstVersionCopiesNothing }
 {}
 
-/// Where no node of a network lets out more than one job by an event, a job visits a node at most
-/// once.
+/// Where no node of a network lets out more than one job by an event, a node has no more visits than
+/// there are rows.
 pub fn visits_are_few()
     ensures { VisitsAreFew }
 {}

@@ -15,7 +15,7 @@ pub use handlers::{Handlers, Standard};
 pub use kinds::{is_source, outputs_of, outputs_of_route, servers_of};
 pub use laws::{
     areas_are_sojourns, arrivals_are_read, arrivals_are_streams, busy_is_services, departs_in_time,
-    departures_are_bounded, events_go_forward, exits_are_streams, fates_are_in_time, fine_grows,
+    departures_are_bounded, events_go_forward, exits_are_streams, fates_are_in_time,
     first_version_copies_nothing, founds_are_counts, held_are_entries, jobs_are_rows,
     nodes_are_in_limits, nodes_are_sequences, nodes_flow, nodes_flow_alone, nodes_run_alone,
     orders_keep_items, orders_rank, outputs_have_streams, refusal_is_first, refusal_is_none,

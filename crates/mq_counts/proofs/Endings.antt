@@ -2,7 +2,7 @@
 use Rattle.std.proofs.Common.{◌≡◌, ℕ, zero, suc, ◌+◌, ◌-◌, ◌<◌, ◌≤◌, ◌++◌, List, [], ◌∷◌, Some, length, length-append, map, max, refl, sym, subst, ap, ◌∙◌, arith}
 use Rattle.std.specs.Prelude.{fold, slice_get}
 use Rattle.std.specs.List.{AllByRecursion as Each}
-use Rattle.std.proofs.Math.Nat.{le-max_left, le-max_right}
+use Rattle.std.proofs.Math.Nat.{le-max_right}
 use Rattle.std.proofs.lemmas.Option.{get_or_from_slice_get, slice_get_within}
 use Rattle.mq_base.proofs.lemmas.Each.{Each-append}
 use Rattle.mq_base.proofs.lemmas.Lists.{get-some, some_inj}
@@ -18,6 +18,7 @@ use Rattle.mq_core.specs.declared.model.Rows.{Rows}
 use Rattle.mq_core.specs.declared.model.Stream.{Stream}
 use Rattle.mq_core.specs.declared.model.Visits.{Visits}
 use Rattle.mq_counts.proofs.Lists.{pushed-at}
+use Rattle.mq_counts.proofs.Staying.{above}
 use Rattle.mq_counts.specs.Counts.{AreCountable, AreCounts, AreCountsOf, AreNodeCounts, IsCountAt, IsCountOf}
 use Rattle.mq_counts.specs.Later.{HeldStayOn, held_on}
 use Rattle.mq_counts.specs.Runs.{AreFirstSequences, AreSequencesOf}
@@ -68,13 +69,6 @@ node-counts plan rows form all counts sequences are = record {
 }
 
 -- Totals. The last event at a node is no later than that of the run.
-above : (a : ℕ) (xs : List ℕ) → a ≤ fold max a xs
-above a [] = omega arith
-above a (x ∷ xs) =
-    let rest = above (max a x) xs in
-    let left = le-max_left a x in
-    omega arith
-
 in-span : (plan : Plan) (rows : Rows) (first a v : ℕ) (nodes : List Node) (node : Node) → slice_get nodes v ≡ Some node →
     greatest_time (visits_of node.kind ((run_of plan rows).stations (first + v))) ≤ fold max a (map greatest_time (visits_by_node (run_of plan rows) first nodes))
 in-span plan rows first a v [] node e = absurd cc

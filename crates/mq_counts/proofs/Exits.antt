@@ -30,9 +30,6 @@ pub record AreReadTo (nodes : List Node) (v : ℕ) (streams : List Stream) (coun
   pub few : most ≤ 1048576
   pub each : (out : ℕ) (flag : Bool) → slice_get read out ≡ Some flag → (flag ≡ is_read nodes v out) × ((stream : Stream) → slice_get streams out ≡ Some stream → flag ≡ false → length stream.job ≤ most)
 
-pub read-none : (nodes : List Node) (v : ℕ) (streams : List Stream) (read : List Bool) → read ≡ [] → AreReadTo nodes v streams 0 read 0
-read-none nodes v streams read none = rw none (record { len = refl; few = omega arith; each = λ out flag here. absurd cc })
-
 pub read-more : (nodes : List Node) (v : ℕ) (streams : List Stream) (out : ℕ) (read read' : List Bool) (most told most' : ℕ) (flag : Bool) → AreReadTo nodes v streams out read most →
     flag ≡ is_read nodes v out → ((stream : Stream) → slice_get streams out ≡ Some stream → flag ≡ false → told ≡ length stream.job) → told ≤ 1048576 → most' ≡ max most told → read' ≡ read ++ flag ∷ [] → AreReadTo nodes v streams (out + 1) read' most'
 read-more nodes v streams out read read' most told most' flag so_far is all few greater grown =
@@ -66,10 +63,7 @@ streams-are nodes rows sequences out its so_far e table streams = record {
   read = λ o inside. let len = so_far.len in let flag = get-some its.read o (omega arith) in flag.1 ∙ ap Some (so_far.each o flag.0 flag.1).0;
 }
 
--- Nodes. None, one more, and all.
-pub streams-none : (nodes : List Node) (rows : Rows) (all : List NodeSequences) (streams : List NodeStreams) → streams ≡ [] → AreNodeStreams nodes rows all 0 streams
-streams-none nodes rows all streams none = rw none (record { len = refl; fit = tt; each = λ i its here sequences there. absurd cc })
-
+-- Nodes. One more.
 pub streams-more : (nodes : List Node) (rows : Rows) (all : List NodeSequences) (i : ℕ) (streams streams' : List NodeStreams) (sequences : NodeSequences) (its : NodeStreams) → AreNodeStreams nodes rows all i streams → slice_get all i ≡ Some sequences → AreStreams its → AreStreamsIn nodes rows sequences its →
     streams' ≡ streams ++ its ∷ [] → AreNodeStreams nodes rows all (i + 1) streams'
 streams-more nodes rows all i streams streams' sequences its so_far here fit are grown =
@@ -82,9 +76,6 @@ streams-more nodes rows all i streams streams' sequences its so_far here fit are
       each = pushed-at (λ j (x : NodeStreams). (e : NodeSequences) → slice_get all j ≡ Some e → AreStreamsIn nodes rows e x) i streams streams' its so_far.len so_far.each
           (λ e there. subst (λ (x : NodeSequences). AreStreamsIn nodes rows x its) (some_inj sequences e (sym here ∙ there)) are) grown;
     }
-
-pub streams-all : (nodes : List Node) (rows : Rows) (all : List NodeSequences) (i : ℕ) (streams : List NodeStreams) → AreNodeStreams nodes rows all i streams → i ≡ length all → AreNodeStreams nodes rows all (length all) streams
-streams-all nodes rows all i streams so_far e = subst (λ n. AreNodeStreams nodes rows all n streams) e so_far
 
 -- few jobs make few pieces
 pub few-exit-pieces : (node : NodeStreams) → AreStreams node → exit_pieces node ≤ 128
@@ -104,11 +95,6 @@ exits-few all h few = let most = pieces-few all h in omega arith
 abbrev pub IsExitBefore : NodeStreams → ℕ → ℕ → Exit → Type 0
 IsExitBefore node out b exit =
     (stream : Stream) → slice_get (streams_in node.streams) out ≡ Some stream → slice_get node.read out ≡ Some false → IsExitOf node.rows.now (stream_between 0 (start_of 16384 (length stream.job) b) stream) exit
-
-pub exit-before-none : (node : NodeStreams) (out : ℕ) (exit : Exit) → exit.count ≡ 0 → exit.sojourn ≡ 0 → IsExitBefore node out 0 exit
-exit-before-none node out exit nobody none stream here free =
-    let start : 0 ≡ start_of 16384 (length stream.job) 0 = omega arith in
-    subst (λ n. IsExitOf node.rows.now (stream_between 0 n stream) exit) start (record { told = λ k. (nobody k, none k); small = omega arith })
 
 pub exit-before-more : ExitsJoin → (node : NodeStreams) (out b : ℕ) (sum piece sum' : Exit) → AreStreams node → IsExitBefore node out b sum → IsExitIn node b out piece → sum'.count ≡ sum.count + piece.count → sum'.sojourn ≡ sum.sojourn + piece.sojourn → IsExitBefore node out (b + 1) sum'
 exit-before-more law node out b sum piece sum' fit before its count sojourn stream here free =

@@ -1,11 +1,11 @@
 -- The sequences of a run, at a node and an output: for the proofs of mq_report too.
-use Rattle.std.proofs.Common.{◌≡◌, ℕ, ◌<◌, List, Some, sym, ap, ◌∙◌, length}
+use Rattle.std.proofs.Common.{◌≡◌, ℕ, ◌<◌, List, Some, sym, ◌∙◌, length}
 use Rattle.std.specs.Prelude.{slice_get}
 use Rattle.std.proofs.lemmas.Option.{slice_get_within}
 use Rattle.mq_base.proofs.lemmas.Lists.{some_inj}
 use Rattle.mq_core.specs.Sequences.{IsRunOf, streams_below}
-use Rattle.mq_core.specs.Results.{visits_of, stream_from}
-use Rattle.mq_core.specs.RunLaws.{RunsHaveSequences, OutputsHaveStreams}
+use Rattle.mq_core.specs.Results.{visits_of}
+use Rattle.mq_core.specs.RunLaws.{RunsHaveSequences}
 use Rattle.mq_core.specs.Sound.{outputs_in}
 use Rattle.mq_core.specs.StandardTable.{run_of}
 use Rattle.mq_core.specs.declared.model.Node.{Node}
@@ -28,13 +28,3 @@ outputs_inside law plan rows run v node is here = slice_get_within run.outputs v
 pub outputs_are : RunsHaveSequences → (plan : Plan) (rows : Rows) (run : Run) (v : ℕ) (node : Node) (streams : List Stream) → IsRunOf plan rows run → slice_get plan.net.nodes v ≡ Some node → slice_get run.outputs v ≡ Some streams →
     streams_below (run_of plan rows) v (outputs_in node.kind) ≡ streams
 outputs_are law plan rows run v node streams is here there = some_inj _ _ (sym (law plan rows run is v node here).outputs ∙ there)
-
-pub stream_inside : RunsHaveSequences → OutputsHaveStreams → (plan : Plan) (rows : Rows) (run : Run) (v out : ℕ) (node : Node) (streams : List Stream) → IsRunOf plan rows run → slice_get plan.net.nodes v ≡ Some node → slice_get run.outputs v ≡ Some streams → out < outputs_in node.kind →
-    out < length streams
-stream_inside law streams_law plan rows run v out node streams is here there within =
-    slice_get_within streams out _ (ap (λ l. slice_get l out) (sym (outputs_are law plan rows run v node streams is here there)) ∙ streams_law (run_of plan rows) v (outputs_in node.kind) out within)
-
-pub stream_is : RunsHaveSequences → OutputsHaveStreams → (plan : Plan) (rows : Rows) (run : Run) (v out : ℕ) (node : Node) (streams : List Stream) (stream : Stream) → IsRunOf plan rows run → slice_get plan.net.nodes v ≡ Some node → slice_get run.outputs v ≡ Some streams →
-    slice_get streams out ≡ Some stream → out < outputs_in node.kind → stream_from ((run_of plan rows).stations v) out ≡ stream
-stream_is law streams_law plan rows run v out node streams stream is here there at within =
-    some_inj _ _ (sym (streams_law (run_of plan rows) v (outputs_in node.kind) out within) ∙ (ap (λ l. slice_get l out) (outputs_are law plan rows run v node streams is here there) ∙ at))

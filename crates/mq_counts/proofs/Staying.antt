@@ -14,7 +14,8 @@ use Rattle.mq_core.specs.declared.model.Rows.{Rows}
 use Rattle.mq_core.specs.declared.model.Visits.{Visits}
 use Rattle.mq_counts.specs.Later.{held_on}
 
-above : (a : ℕ) (xs : List ℕ) → a ≤ fold max a xs
+-- the greatest is no less than what it began with
+pub above : (a : ℕ) (xs : List ℕ) → a ≤ fold max a xs
 above a [] = omega arith
 above a (x ∷ xs) =
     let rest = above (max a x) xs in

@@ -115,7 +115,7 @@ pub fn run_pieces<P: Pieces, G: Gate, R: Threads + Sync>(
 }
 
 /// All pieces, as `run_pieces` gives them. Where there are fewer than two, they are made at once, with
-/// no worker and no gate.
+/// no worker and no gate. It refuses for want of memory alone.
 pub fn made<P: Pieces, G: Gate, R: Threads + Sync>(
     rt: &R,
     alloc: Global,

@@ -15,7 +15,7 @@ fn vacant<T: Drop>(alloc: Global, count: u32) -> Result<Vec<Option<T>>, OutOfMem
     Ok(slots)
 }
 
-/// Both lists, one after the other, or the refusal of either.
+/// Both lists, one after the other, or the refusal of either. It refuses for want of memory alone.
 pub fn merged<T: Drop>(
     first: Result<Vec<T>, OutOfMemory>,
     second: Result<Vec<T>, OutOfMemory>,

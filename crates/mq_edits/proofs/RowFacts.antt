@@ -9,7 +9,7 @@ use Rattle.mq_core.specs.Theorems.{IsReadFor}
 use Rattle.mq_core.specs.Wiring.{is_source}
 use Rattle.mq_core.specs.declared.model.Network.{Network}
 use Rattle.mq_core.specs.declared.model.Rows.{Rows}
-use Rattle.mq_edits.specs.Edited.{AreEditsFor, AreInEach, AreInPlace, HasPlace, HaveNumbers, IsEditFor, edited_by, edited_columns, edited_list, edited_rows, number_of, rows_after, source_of}
+use Rattle.mq_edits.specs.Edited.{AreEditsFor, AreInPlace, HasPlace, HaveNumbers, IsEditFor, edited_by, edited_columns, edited_list, edited_rows, number_of, rows_after, source_of}
 use Rattle.mq_edits.specs.declared.edit.Edit.{Edit}
 use Rattle.mq_edits.specs.declared.edit.Edit.TheVariants.{Set, Add}
 
@@ -53,11 +53,6 @@ edit_at net rows (e ∷ edits) (suc k) edit read is = edit_at net (rows_after ro
 
 pub have_numbers : (net : Network) (rows place : ℕ) (edits : List Edit) → AreEditsFor net rows edits → place ≤ length net.columns → HaveNumbers place edits
 have_numbers net rows place edits read less = λ k edit is. let (n, e) = edit_at net rows edits k edit read is in omega (arith, e.each, less)
-
-pub in_each : (net : Network) (rows : Rows) (edits : List Edit) → IsReadFor net rows → AreEditsFor net (length rows.source) edits → AreInEach rows.demands edits
-in_each net rows edits read fit = λ k column is.
-    let same = read.columns k column is in
-    (rw same read.count, rw same (in_place net (length rows.source) edits fit))
 
 -- Lengths.
 abbrev rows_behind : ℕ → List Edit → ℕ

@@ -18,7 +18,7 @@ use Rattle.mq_edits.specs.Edited.{AreEditsFor, HasPlace, IsEditFor, rows_after}
 use Rattle.mq_edits.specs.Edits.{add_fault, add_in, count_fault, edits_of_lines, edits_of_words, is_add, is_record, is_set, lines_fault, record_named, row_fault, rows_added, set_fault, set_in, source_in, time_in, value_fault, values_in, word_at, words_fault}
 use Rattle.mq_edits.specs.declared.edit.Edit.{Edit}
 use Rattle.mq_edits.specs.declared.fault.EditFault.{EditFault}
-use Rattle.mq_edits.specs.declared.fault.EditFault.TheVariants.{BadNumber, UnknownRow, UnknownSource}
+use Rattle.mq_edits.specs.declared.fault.EditFault.TheVariants.{BadNumber, UnknownSource}
 
 -- Numbers.
 pub no_number : (text : List ℕ) (limit : ℕ) → None ≡ number_of text limit → is_number text limit ≡ false
@@ -134,17 +134,6 @@ set_row net rows line row words count some = elim (cases_Bool (is_record rows (w
       (rw (count_good line (length net.columns + 4) (length words + 1) count, holds) refl, cc)
   | inr fails ↦ let made : record_named rows (word_at words 0) ≡ None = rw fails refl in absurd (cc)
 ]
-
-pub set_unknown : (net : Network) (rows line : ℕ) (words : List Word) → length words + 1 ≡ length net.columns + 4 → None ≡ record_named rows (word_at words 0) → set_fault net rows line words ≡ Some (UnknownRow line)
-set_unknown net rows line words count none = elim (cases_Bool (is_record rows (word_at words 0))) [
-  | inl holds ↦ let made : record_named rows (word_at words 0) ≡ Some (digits_value 10 (word_at words 0) - 1) = rw holds refl in absurd (cc)
-  | inr fails ↦ rw (count_good line (length net.columns + 4) (length words + 1) count, fails) refl
-]
-
-pub add_row : (net : Network) (rows line : ℕ) (words : List Word) → length words + 1 ≡ length net.columns + 3 → rows < 1048576 → add_fault net rows line words ≡ row_fault net line 2 words
-add_row net rows line words count few =
-    let holds : nat_lt rows 1048576 ≡ true = grind (arith, common_steps, few) in
-    rw (count_good line (length net.columns + 3) (length words + 1) count, holds) refl
 
 -- Rows without a fault.
 record IsGoodRow (net : Network) (words : List Word) : Type 0 where

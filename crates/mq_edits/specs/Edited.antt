@@ -64,10 +64,6 @@ AreInPlace rows (edit ∷ edits) = HasPlace rows edit × AreInPlace (rows_after 
 abbrev pub HaveNumbers : ℕ → List Edit → Type 0
 HaveNumbers place edits = (k : ℕ) (edit : Edit) → slice_get edits k ≡ Some edit → place ≤ length (values_of edit)
 
--- of each list, of at most so many rows as there may be, the edits name rows that there are
-abbrev pub AreInEach : List (List ℕ) → List Edit → Type 0
-AreInEach columns edits = (k : ℕ) (column : List ℕ) → slice_get columns k ≡ Some column → (length column ≤ 1048576) × AreInPlace (length column) edits
-
 -- an edit is read for a network and for so many rows: the row that it gives has a source node, a time and one value a column, in their limits
 pub record IsEditFor (net : Network) (rows : ℕ) (edit : Edit) : Type 0 where
   pub place : HasPlace rows edit

@@ -202,6 +202,7 @@ pub fn edit_rows(
 
 /// The rows that edits make of those of a trace, one edit after another. The rows are read for a network, and the edits
 /// for it and as many rows; so the rows that come out are read for that network too.
+/// It refuses for want of memory alone.
 pub fn edited(alloc: Global, rows: &Rows, edits: &List<Edit>) -> Result<Rows, OutOfMemory>
     requires { (net : Network) × IsReadFor net rows.now × AreEditsFor net (length rows.now.source) edits.now }
     ensures exact { IfOk result (λ new. new ≡ edited_rows rows.now edits.now) }

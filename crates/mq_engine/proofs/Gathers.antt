@@ -117,18 +117,6 @@ apart-other (Fork outputs) h = refl
 apart-other Join h = refl
 apart-other (Trunk servers demand) h = absurd cc
 
-pub no-station : (kind : Kind) → ((outputs : ℕ) → kind ≡ Fork outputs → ⊥) → (kind ≡ Join → ⊥) → sends_once kind ≡ false → ⊥
-no-station Source f j h = absurd cc
-no-station (Server demand) f j h = absurd cc
-no-station (Delay demand) f j h = absurd cc
-no-station (Loss places demand) f j h = absurd cc
-no-station (Tandem stages) f j h = absurd cc
-no-station (ForkJoin branches) f j h = absurd cc
-no-station (Split route) f j h = absurd cc
-no-station (Fork outputs) f j h = f outputs refl
-no-station Join f j h = j refl
-no-station (Trunk servers demand) f j h = absurd cc
-
 -- what they let out is early where the arrivals are
 wholes-early : (position : ℕ) (matches : List (Option ℕ)) (times : List ℕ) → EarlyTimes times → EarlyTimes (wholes_from position matches times)
 wholes-early position [] times h = tt

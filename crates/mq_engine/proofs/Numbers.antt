@@ -34,7 +34,7 @@ use Rattle.mq_stats.specs.Numbers.{AreLeaving, AreVisits}
 use Rattle.mq_stats.specs.RunNumbers.{RunsGiveStreams, RunsGiveVisits}
 use Rattle.mq_crew.specs.Crew.{AreAll}
 use Rattle.mq_crew.proofs.lemmas.Groups.{all-last, append-at, append-before}
-use Rattle.mq_engine.specs.Counting.{AreResultSequences, AreSequencesAt, AreTold, AreWaveSequences, IsCounting, IsNobody, IsReadBy, IsToldAt, IsToldIn, IsToldOf, handed_on, reads_some}
+use Rattle.mq_engine.specs.Counting.{AreResultSequences, AreSequencesAt, AreTold, AreWaveSequences, IsCounting, IsReadBy, IsToldAt, IsToldIn, IsToldOf, handed_on, reads_some}
 use Rattle.mq_engine.specs.Progress.{AreWorkedOut, is_waiting}
 use Rattle.mq_engine.specs.declared.progress.Stand.{Stand}
 use Rattle.mq_engine.specs.declared.progress.Stand.TheVariants.{Waiting, Done}
@@ -54,22 +54,6 @@ module _ (gives : RunsGiveVisits) (leaves : RunsGiveStreams) (plan : Plan) (rows
 
   pub known-streams : Each (AreLeaving rows) left
   known-streams = subst (Each (AreLeaving rows)) (sym k.1) (streams-leave plan rows v (outputs_in node.kind) (leaves plan rows read v node there few))
-
--- nobody's visits
-pub nobody-visits : (rows : Rows) (kind : Kind) (visits : Visits) → IsNobody visits → AreVisits rows kind visits
-nobody-visits rows kind visits none =
-    let jobs = ap length none.jobs in
-    let arrives = ap length none.arrives in
-    let founds = ap length none.founds in
-    let fates = ap length none.fates in
-    record {
-      few = omega arith;
-      arrives = arrives ∙ sym jobs;
-      founds = founds ∙ sym jobs;
-      fates = fates ∙ sym jobs;
-      told = λ d i l. absurd (omega arith);
-      small = λ d i l. absurd (omega arith);
-    }
 
 -- Those of none, and of one more.
 pub sequences-none : (plan : Plan) (rows : Rows) (results : List NodeResult) (all : List NodeSequences) → all ≡ [] → AreWaveSequences plan rows results 0 all
@@ -152,12 +136,7 @@ pub unread-next : (nodes : List Node) (stands : List Stand) (u v : ℕ) (node : 
 unread-next nodes stands u v node d inputs answer there l same is fails before =
     unread-more nodes stands u v node (get_or stands v d) there (slice_get-get_or stands v d l) (ap (λ (l : List Input). is_waiting (get_or stands v d) && list_any (λ (i : Input). i.node == u) l) (sym same) ∙ (sym is ∙ fails)) before
 
--- A node that ended of which this is told.
-pub told-on-time : (plan : Plan) (rows : Rows) (form v : ℕ) (node : Node) (came : Visits) (left : List Stream) (count : NodeCount) → slice_get plan.net.nodes v ≡ Some node → IsKnown plan rows v node (OnTime came left) → IsToldOf plan rows form v (OnTime came left) count →
-    IsToldAt plan rows form v node (Told left count)
-told-on-time plan rows form v node came left count there k is = (λ read. k.1, k.2, k.3, is node there)
-
--- the same where what left it is handed on only where an input reads it
+-- A node that ended of which this is told: what left it is handed on only where an input reads it.
 unread : (plan : Plan) (v : ℕ) → reads_some plan.net.nodes v ≡ false → IsReadBy plan v → ⊥
 unread plan v fails h =
     let any = any-at (λ (i : Input). i.node == v) h.node.inputs h.port h.input h.reads (same-node h.input.node v h.same) in

@@ -31,7 +31,8 @@ use std::thread::Threads;
 /// Sources come first: what came to one is what leaves it, and is handed on whole. The other nodes are worked out as `run` does
 /// it, but of a station whose jobs leave in their order no visits are made: what came and when each departs tell its numbers. Behind each
 /// wave the numbers of its nodes are told, and their visits are let go; what leaves a node is let go when all nodes
-/// that read some of it are worked out. It refuses as `run` does.
+/// that read some of it are worked out. There are 1 to 64 workers, and the least block, `block`, is one job or more, as for
+/// `run`. It refuses as `run` does.
 pub fn run_counted<R: Threads + Sync, G: Gate>(
     rt: &R,
     alloc: Global,

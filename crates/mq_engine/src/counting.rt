@@ -47,6 +47,7 @@ pub fn beginning_counts(alloc: Global, nodes: usize) -> Result<Counting, OutOfMe
     })
 }
 
+// The count of a node of which nothing is told yet.
 fn untold(alloc: Global) -> NodeCount {
     NodeCount {
         totals: NodeTotals {
@@ -110,6 +111,7 @@ pub fn reads(inputs: &[Input], node: u32) -> bool
     inputs.iter().any(|input| input.node == node)
 }
 
+// Whether a node waits to be worked out.
 fn still_waits(stand: Stand) -> bool
     ensures { result ≡ is_waiting stand }
 {

@@ -49,9 +49,9 @@ pub use wave::{Way, wave_of, way_of};
 /// Each node is worked out alone, behind all that it reads: its arrivals are the rows of a source by
 /// time, or the streams that its ports read, merged by time and then port; the recurrence of its
 /// kind gives the departures. All nodes whose inputs are done are worked out in one wave, by 1 to 64
-/// workers that draw pieces. For several workers a server, a fork-join or a tandem with more jobs than a
-/// block is cut into blocks of at least that many jobs, at most 16,384 and for a tandem 1,024 of them, and
-/// scanned (Greenberg, Lubachevsky and Mitrani 1991): a server in a single pass (`chain_departures`), a fork-join
+/// workers that draw pieces. The least block, `block`, is one job or more. For several workers a server, a fork-join or a
+/// tandem with more jobs than a block is cut into blocks of at least that many jobs, at most 16,384 and for a tandem 1,024
+/// of them, and scanned (Greenberg, Lubachevsky and Mitrani 1991): a server in a single pass (`chain_departures`), a fork-join
 /// server after server of its branches. A split is cut likewise, and what leaves its blocks put one behind the
 /// other. A block is also the first window of a loss station and of a trunk group; one to which more than a worker's
 /// share of the jobs comes has a worker of its own, beside the lists of all others. The gate is entered with each

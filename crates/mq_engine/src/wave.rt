@@ -81,7 +81,8 @@ fn lets_out_once(kind: &Kind) -> bool
     }
 }
 
-// How a node is worked out to which all has come. A source has no more visits than a trace may have rows.
+/// How a node is worked out to which all has come. A source has no more visits than a trace may have rows. It takes no
+/// memory.
 pub fn way_of(arriving: &Arriving, number: u32) -> Way
     requires wave { IsWave arriving.now }
     requires ready { Contains arriving.now.ready.now number }
@@ -186,7 +187,8 @@ pub fn side_of<'a, R: Threads + Sync, G: Gate>(
     all_given(wave, gathered, served)
 }
 
-/// What the nodes that are ready give: stations of one long piece beside all others, where there are both.
+/// What the nodes that are ready give: stations of one long piece beside all others, where there are both. It refuses for
+/// want of memory alone.
 pub fn wave_of<'a, R: Threads + Sync, G: Gate>(
     rt: &R,
     alloc: Global,

@@ -1,6 +1,6 @@
 -- Items that are told apart one after another, from the back: what is made of some, and what of the others. Of all of them more may be known, by a
 -- name, and of what is made of them by the same.
-use Rattle.std.proofs.Common.{◌≡◌, ℕ, ◌+◌, ◌<◌, List, [], ◌∷◌, ◌++◌, length, sym, ap, subst, arith, length-append}
+use Rattle.std.proofs.Common.{◌≡◌, ℕ, ◌+◌, List, [], ◌∷◌, ◌++◌, length, sym, ap, subst, arith, length-append}
 use Rattle.std.specs.List.{AllByRecursion}
 use Rattle.mq_base.proofs.lemmas.Each.{Each-append, Each-back, Each-front}
 
@@ -14,14 +14,6 @@ module _ {P A B K : Type 0} (Fit : P → Type 0) (FitB : B → Type 0) (Of : K �
 
   pub apart-last : (count : ℕ) (Whole : K → Type 0) (left rest : List P) (p : P) (first : List A) (second : List B) → AreApart count Whole left first second → left ≡ rest ++ p ∷ [] → Fit p
   apart-last count Whole left rest p first second was e = (Each-back Fit rest (p ∷ []) (subst (AllByRecursion Fit) e was.fits)).0
-
-  -- one more of those there may be
-  pub apart-room : (count : ℕ) (Whole : K → Type 0) (left rest : List P) (p : P) (first : List A) (second : List B) → AreApart count Whole left first second → left ≡ rest ++ p ∷ [] → (length first < count) × (length second < count)
-  apart-room count Whole left rest p first second was e =
-      let len = was.len in
-      let less = ap length e in
-      let gone = length-append rest (p ∷ []) in
-      (omega arith, omega arith)
 
   -- one goes to the first
   pub apart-first : (count : ℕ) (Whole : K → Type 0) (left rest : List P) (p : P) (first first' : List A) (a : A) (second second' : List B) → AreApart count Whole left first second → left ≡ rest ++ p ∷ [] → ((k : K) → Of k p → OfA k a) → first' ≡ first ++ a ∷ [] → second' ≡ second → AreApart count Whole rest first' second'

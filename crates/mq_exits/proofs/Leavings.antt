@@ -2,6 +2,7 @@
 use Rattle.std.proofs.Common.{◌≡◌, ℕ, zero, suc, ◌<◌, true, false, List, [], ◌∷◌, length, map, Option, Some, sym, refl, ap, ◌∙◌, subst, arith}
 use Rattle.std.specs.Prelude.{slice_get}
 use Rattle.std.specs.List.{zip}
+use Rattle.mq_core.specs.Fates.{departure_times}
 use Rattle.mq_core.specs.Came.{came_in}
 use Rattle.mq_core.specs.EmissionOrder.{EmissionOrder}
 use Rattle.mq_core.specs.EmissionOrder.EmissionOrder.{ByPosition, Mixed, Overtaking}
@@ -19,7 +20,7 @@ use Rattle.mq_core.specs.declared.model.Rows.{Rows}
 use Rattle.mq_core.specs.declared.model.Stream.{Stream}
 use Rattle.mq_core.proofs.lemmas.Orders.{is-sorted}
 use Rattle.mq_stats.proofs.AllDepart.{departures-of}
-use Rattle.mq_stats.specs.Ahead.{departure_order, departure_times}
+use Rattle.mq_stats.specs.Ahead.{departure_order}
 use Rattle.mq_stations.specs.Leaving.{AreDepartures, AreLeft, AreStreams, KeepsOrder, left_by}
 use Rattle.mq_stations.proofs.lemmas.Leaves.{departs-one}
 use Rattle.mq_exits.specs.Afters.{AreOnTime}

@@ -28,7 +28,7 @@ use Rattle.mq_exits.specs.Afters.{AreOnTime, AreSettledAt, IsAfterAt, IsFaring, 
 use Rattle.mq_exits.specs.Loads.{IsReadyLoad}
 use Rattle.mq_exits.specs.Splits.{AreSplitStreams}
 use Rattle.mq_exits.specs.declared.exits.Closed.{Closed}
-use Rattle.mq_exits.specs.declared.exits.Closed.TheVariants.{Came, Departures, Fared, Found, Jobs, Over, Streams, Times}
+use Rattle.mq_exits.specs.declared.exits.Closed.TheVariants.{Came, Departures, Fared, Found, Jobs, Late, Streams, Times}
 use Rattle.mq_exits.specs.declared.exits.Emptied.{Emptied}
 use Rattle.mq_exits.specs.declared.exits.Completion.{Completion}
 use Rattle.mq_exits.specs.declared.exits.Completion.TheVariants.{Known, Passed, Sent, Served, Settled, Sorted}
@@ -81,7 +81,7 @@ abbrev pub IsShut : Plan → Rows → ℕ → Stream → List ℕ → ℕ → Cl
 IsShut plan rows v arrivals departs b (Times times) =
     (b ≡ 0) × (times ≡ departs)
     × ((node : Node) → slice_get plan.net.nodes v ≡ Some node → first_of (sequence_late_from plan.net.bound v 0 (sequence_fates rows node.kind (came_in arrivals))) ≡ None)
-IsShut plan rows v arrivals departs b (Over fault) =
+IsShut plan rows v arrivals departs b (Late fault) =
     (b ≡ 0)
     × ((node : Node) → slice_get plan.net.nodes v ≡ Some node → first_of (sequence_late_from plan.net.bound v 0 (sequence_fates rows node.kind (came_in arrivals))) ≡ Some (late_told fault))
 IsShut plan rows v arrivals departs b (Found found) = (b ≡ 1) × (found ≡ founds_of arrivals.time (map (λ time. Departs time) departs))

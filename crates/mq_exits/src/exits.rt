@@ -56,7 +56,7 @@ pub enum Closed {
     /// When the jobs leave, in their order: none departs after the bound.
     Times(List<u64>),
     /// The first that departs after the bound.
-    Over(PastFault),
+    Late(PastFault),
     /// How many each found, or each of a block.
     Found(List<u32>),
     /// The jobs, as they leave, or by position, as the visits keep them.
@@ -183,7 +183,7 @@ pub fn times_in_bound(
     ensures { IfOk result (λ closed. IsShut load.now.plan.now load.now.rows.now load.now.number load.now.arrivals.now departs.now 0 closed) }
 {
     if let Some(past) = first_late_in_turn(load.plan.net.bound, load.number, departs) {
-        return Ok(Closed::Over(past));
+        return Ok(Closed::Late(past));
     }
     let times = Vec::from_slice(alloc, departs.as_slice())?;
     Ok(Closed::Times(List::from_vec(times)))

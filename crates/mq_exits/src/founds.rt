@@ -86,14 +86,14 @@ fn founds_joined(
 {
     let mut found = Vec::with_capacity(alloc, arrivals.time.len())?;
     for k in 0..overtaken.blocks.blocks {
-        let block = found_in(group.get(k as usize));
+        let block = found_in_block(group.get(k as usize));
         found.extend_from_slice(block.as_slice())?;
     }
     Ok(List::from_vec(found))
 }
 
 // How many the visits of a block found, of the piece that tells it.
-fn found_in(closed: &Closed) -> &List<u32>
+fn found_in_block(closed: &Closed) -> &List<u32>
     requires { IsFound closed.now }
     ensures { closed.now ≡ Found result.now }
 {

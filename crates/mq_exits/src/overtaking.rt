@@ -37,7 +37,8 @@ pub struct Overtaken {
 }
 
 /// What is known of a station of which one piece told so much, when all its jobs have left. Those of a
-/// delay are put in the order in which they leave, here, where threads can be had.
+/// delay are put in the order in which they leave, here, where threads can be had. It refuses for want of
+/// memory alone.
 pub fn left_by<R: Threads + Sync>(
     rt: &R,
     alloc: Global,

@@ -29,7 +29,7 @@ fn route_at<'a>(load: &'a Load) -> &'a Route
     }
 }
 
-/// What leaves a block of a split by each output.
+/// What leaves a block of a split by each output. It refuses for want of memory alone.
 pub fn routed(
     alloc: Global,
     load: &Load,
@@ -46,7 +46,7 @@ pub fn routed(
     split_part(alloc, load.rows, route, load.arrivals, blocks, b)
 }
 
-/// What leaves a split by each output, of what leaves its blocks.
+/// What leaves a split by each output, of what leaves its blocks. It refuses for want of memory alone.
 pub fn parted(
     alloc: Global,
     load: &Load,

@@ -1,6 +1,6 @@
 // Last pieces, taken off the back of those of a station, and what they tell.
 ghost use Rattle.std.specs.Prelude.{◌≡◌, ◌≤◌, ◌⊎◌, ℕ, List as Items, [], ◌∷◌, ◌++◌, length, MatchResult};
-ghost use Rattle.mq_exits.specs.declared.exits.Closed.TheVariants.{Came, Departures, Fared, Found, Jobs, Over, Streams, Times};
+ghost use Rattle.mq_exits.specs.declared.exits.Closed.TheVariants.{Came, Departures, Fared, Found, Jobs, Late, Streams, Times};
 ghost use Rattle.mq_exits.specs.declared.settling.Faring.{Faring as TheFaring};
 ghost use Rattle.mq_core.specs.declared.model.Stream.{Stream as TheStream};
 ghost use Rattle.mq_core.specs.declared.refusals.PastFault.{PastFault as ThePast};
@@ -23,12 +23,12 @@ pub fn last_of(group: &mut Vec<Closed>) -> Closed
 
 // When the jobs leave, or the first that departs after the bound, of the piece that tells it.
 pub fn left_in(closed: Closed) -> Result<List<u64>, PastFault>
-    requires { ((times : Items ℕ) × (closed ≡ Times times)) ⊎ ((past : ThePast) × (closed ≡ Over past)) }
-    ensures { MatchResult result (λ times. closed ≡ Times times) (λ past. closed ≡ Over past) }
+    requires { ((times : Items ℕ) × (closed ≡ Times times)) ⊎ ((past : ThePast) × (closed ≡ Late past)) }
+    ensures { MatchResult result (λ times. closed ≡ Times times) (λ past. closed ≡ Late past) }
 {
     match closed {
         Closed::Times(times) => Ok(times),
-        Closed::Over(past) => Err(past),
+        Closed::Late(past) => Err(past),
         _ => unreachable!(),
     }
 }

@@ -69,7 +69,8 @@ pub enum Worked {
     Sent,
 }
 
-/// What one piece tells of a whole station: of a source, that its jobs depart as they come.
+/// What one piece tells of a whole station: of a source, that its jobs depart as they come. It refuses for
+/// want of memory alone.
 pub fn station_whole(alloc: Global, load: &Load) -> Result<Worked, OutOfMemory>
     requires loaded { IsLoaded load.now.plan.now load.now.rows.now load.now.number load.now.arrivals.now }
     requires some { 1 ≤ load.now.block }

@@ -85,7 +85,8 @@ pub fn later_times(
     Ok(List::from_vec(later))
 }
 
-fn copy_of(alloc: Global, times: &List<u64>) -> Result<List<u64>, OutOfMemory>
+/// The same times once more, in ticks. It refuses for want of memory alone.
+pub fn copy_of(alloc: Global, times: &List<u64>) -> Result<List<u64>, OutOfMemory>
     ensures { IfOk result (λ copy. copy ≡ times.now) }
 {
     Ok(List::from_vec(Vec::from_slice(alloc, times.as_slice())?))

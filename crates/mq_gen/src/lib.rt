@@ -30,7 +30,7 @@ pub struct MadeInput {
     pub trace: List<u8>,
 }
 
-/// The text of the model that a generator draws, which is left after its last draw.
+// The text of the model that a generator draws, which is left after its last draw.
 fn made_text(alloc: Global, generator: &mut Lcg64Xsh32) -> Result<List<u8>, OutOfMemory>
     ensures text { IfOk result (λ text. text ≡ printed (network_from (sections_from generator.old))) }
     ensures moved { OnOk result (generator.new ≡ (sections_from generator.old).generator) }

@@ -16,7 +16,7 @@ use rand_pcg::Lcg64Xsh32;
 use std::alloc::Global;
 use std::mem;
 
-/// The nodes so far, the columns that they mention, and the outputs that the next section reads.
+// The nodes so far, the columns that they mention, and the outputs that the next section reads.
 #[derive(Drop)]
 struct Sections {
     nodes: List<Node>,
@@ -24,7 +24,7 @@ struct Sections {
     ends: List<Input>,
 }
 
-/// A letter and a number.
+// A letter and a number.
 fn numbered(alloc: Global, letter: u8, number: usize) -> Result<List<u8>, OutOfMemory>
     ensures { IfOk result (λ name. name ≡ letter ∷ decimal number) }
 {
@@ -34,7 +34,7 @@ fn numbered(alloc: Global, letter: u8, number: usize) -> Result<List<u8>, OutOfM
     Ok(List::from_vec(name))
 }
 
-/// Adds a source, and its output, which the first section reads.
+// Adds a source, and its output, which the first section reads.
 fn add_source(alloc: Global, sections: &mut Sections, node: u32) -> Result<(), OutOfMemory>
     ensures nodes { OnOk result (sections.new.nodes ≡ sections.old.nodes ++ source_node node ∷ []) }
     ensures columns { OnOk result (sections.new.columns ≡ sections.old.columns) }
@@ -49,7 +49,7 @@ fn add_source(alloc: Global, sections: &mut Sections, node: u32) -> Result<(), O
     sections.ends.push(Input { node, out: 0 })
 }
 
-/// Adds two sources to no sections, and their outputs, which the first section reads.
+// Adds two sources to no sections, and their outputs, which the first section reads.
 fn add_sources(alloc: Global, sections: &mut Sections) -> Result<(), OutOfMemory>
     requires nodes { sections.old.nodes ≡ [] }
     requires columns { sections.old.columns ≡ [] }
@@ -60,7 +60,7 @@ fn add_sources(alloc: Global, sections: &mut Sections) -> Result<(), OutOfMemory
     add_source(alloc, sections, 1)
 }
 
-/// The index of a column, or the number of columns.
+// The index of a column, or the number of columns.
 fn column_of(columns: &[List<u8>], name: &[u8]) -> usize
     ensures at { result ≡ number_in columns.now name.now }
     ensures within { result ≤ length columns.now }
@@ -77,7 +77,7 @@ fn column_of(columns: &[List<u8>], name: &[u8]) -> usize
     index
 }
 
-/// Adds a column where it isn't there.
+// Adds a column where it isn't there.
 #[tactic(auto, using(crate::proofs::Columns::added_behind, crate::proofs::Columns::added_among))]
 fn mention(alloc: Global, columns: &mut List<List<u8>>, name: &[u8]) -> Result<(), OutOfMemory>
     ensures ok { OnOk result (columns.new ≡ added columns.old name.now) }
@@ -89,7 +89,7 @@ fn mention(alloc: Global, columns: &mut List<List<u8>>, name: &[u8]) -> Result<(
     Ok(())
 }
 
-/// Adds the columns that a section of this draw mentions.
+// Adds the columns that a section of this draw mentions.
 fn mention_all(alloc: Global, columns: &mut List<List<u8>>, drawn: u32) -> Result<(), OutOfMemory>
     ensures ok { OnOk result (columns.new ≡ columns_after columns.old (mentions_of drawn)) }
     ensures few { OnOk result (length columns.new ≤ length columns.old + 2) }
@@ -105,7 +105,7 @@ fn mention_all(alloc: Global, columns: &mut List<List<u8>>, drawn: u32) -> Resul
     }
 }
 
-/// A job's value in the column of this name.
+// A job's value in the column of this name.
 fn demand_in(columns: &[List<u8>], name: &[u8]) -> Demand
     requires { length columns.now ≤ 16 }
     ensures { result ≡ Demand.Column (number_in columns.now name.now) }
@@ -113,7 +113,7 @@ fn demand_in(columns: &[List<u8>], name: &[u8]) -> Demand
     Demand::Column(column_of(columns, name) as u8)
 }
 
-/// Two stages, of which the second has these places.
+// Two stages, of which the second has these places.
 fn stages(
     alloc: Global,
     first: Demand,
@@ -135,7 +135,7 @@ fn stages(
     Ok(List::from_vec(Vec::from_slice(alloc, &all)?))
 }
 
-/// A branch of one server, and one of two.
+// A branch of one server, and one of two.
 fn branches(
     alloc: Global,
     single: Demand,
@@ -149,7 +149,7 @@ fn branches(
     Ok(List::from_vec(all))
 }
 
-/// The kind of a section by its draw, over these columns, with these places where it has any.
+// The kind of a section by its draw, over these columns, with these places where it has any.
 fn kind_by(
     alloc: Global,
     columns: &[List<u8>],
@@ -172,7 +172,7 @@ fn kind_by(
     }
 }
 
-/// The places of a section: a loss station and a tandem draw 1 to 4, and the others draw nothing.
+// The places of a section: a loss station and a tandem draw 1 to 4, and the others draw nothing.
 fn places_by(drawn: u32, generator: &mut Lcg64Xsh32) -> u32
     ensures drawn { result ≡ (places_by drawn generator.old).0 }
     ensures moved { generator.new ≡ (places_by drawn generator.old).1 }
@@ -184,7 +184,7 @@ fn places_by(drawn: u32, generator: &mut Lcg64Xsh32) -> u32
     }
 }
 
-/// The outputs of a node, one or two.
+// The outputs of a node, one or two.
 fn outputs_from(alloc: Global, node: u32, kind: &Kind) -> Result<List<Input>, OutOfMemory>
     requires { outputs_in kind.now ≤ 8 }
     ensures { IfOk result (λ ends. ends ≡ outputs_from node kind.now) }
@@ -194,7 +194,7 @@ fn outputs_from(alloc: Global, node: u32, kind: &Kind) -> Result<List<Input>, Ou
     Ok(List::from_vec(Vec::from_slice(alloc, &both[..count])?))
 }
 
-/// Adds a section, which reads each output of the section before it.
+// Adds a section, which reads each output of the section before it.
 fn add_section(
     alloc: Global,
     sections: &mut Sections,
@@ -222,7 +222,7 @@ fn add_section(
     sections.nodes.push(Node { name, kind, inputs })
 }
 
-/// Adds all sections that a generator draws, 1 to 12, to none.
+// Adds all sections that a generator draws, 1 to 12, to none.
 fn add_sections(
     alloc: Global,
     sections: &mut Sections,

@@ -8,7 +8,7 @@ use mq_base::{List, OutOfMemory};
 use rand_pcg::Lcg64Xsh32;
 use std::alloc::Global;
 
-/// Adds a number and what ends its field.
+// Adds a number and what ends its field.
 fn push_field(text: &mut Vec<u8>, number: u32, end: u8) -> Result<(), OutOfMemory>
     ensures { OnOk result (text.new.items ≡ text.old.items ++ decimal number ++ end ∷ []) }
 {
@@ -17,7 +17,7 @@ fn push_field(text: &mut Vec<u8>, number: u32, end: u8) -> Result<(), OutOfMemor
     Ok(())
 }
 
-/// Draws the next record after a time and adds it. The answer is its time.
+// Draws the next record after a time and adds it. The answer is its time.
 fn push_record(
     text: &mut Vec<u8>,
     generator: &mut Lcg64Xsh32,

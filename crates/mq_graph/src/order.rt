@@ -29,12 +29,14 @@ impl From<OutOfMemory> for RankFault {
     }
 }
 
+// Whether a node has its rank.
 fn is_ranked(order: &[u32], node: u32) -> bool
     ensures { result ≡ has order.now node }
 {
     order.iter().any(|ranked| *ranked == node)
 }
 
+// Whether all inputs of a node are ranked.
 fn is_ready(node: &Node, order: &[u32]) -> bool
     ensures { result ≡ list_all (λ (i : Input). has order.now i.node) node.now.inputs }
 {

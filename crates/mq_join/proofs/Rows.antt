@@ -5,7 +5,6 @@ use Rattle.std.proofs.lemmas.List.Sums.{count_by-le-length}
 use Rattle.std.specs.Prelude.{count_by, slice_get, slice_index}
 use Rattle.mq_base.proofs.lemmas.Lists.{get-set_other, get-set_same, some_inj}
 use Rattle.mq_core.specs.Kinds.Join.{is_item, match_of}
-use Rattle.mq_core.proofs.lemmas.Matches.{match-none}
 use Rattle.mq_join.specs.Items.{AreCounted, AreFresh, IsCounted, indices_from}
 use Rattle.mq_join.specs.declared.matches.Row.{Row}
 use Rattle.mq_join.proofs.Counting.{row-other}
@@ -40,15 +39,6 @@ pub none-counted : (n i : ℕ) → ◌≡◌ {A = ℕ} (slice_index (replicate n
 none-counted zero i = refl
 none-counted (suc n) zero = refl
 none-counted (suc n) (suc i) = none-counted n i
-
--- of no job anything came
-pub rows-fresh : (ports : ℕ) (rows : List Row) → AreFresh rows → AreCounted ports [] rows
-rows-fresh ports rows h job row at =
-    let fresh = h job row at in
-    record {
-      each = λ port l. ap (λ counts. slice_index counts port) fresh.0 ∙ none-counted 8 port;
-      in_turn = λ some i. ap (λ places. slice_get places i) fresh.1 ∙ sym (match-none ports job i [] 0 some (omega arith));
-    }
 
 -- a match is whole where its row says so
 pub place-at : (ports at : ℕ) (items : List (ℕ × ℕ)) (rows : List Row) (port job index : ℕ) (row : Row) (indices : List ℕ) → AreCounted ports items rows → slice_get items at ≡ Some (port, job) → slice_get rows job ≡ Some row → 1 ≤ ports →

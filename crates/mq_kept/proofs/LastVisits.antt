@@ -14,11 +14,7 @@ use Rattle.mq_kept.specs.Tails.{IsTailOf, departures_in, stream_before, tail_bef
 use Rattle.mq_kept.specs.declared.former.NodeLists.{NodeLists}
 use Rattle.mq_kept.specs.declared.tails.FormerTail.{FormerTail}
 
--- The lists. One that is as it was keeps its first items.
-pub keeps-same : {X : Type 0} (from : ℕ) (items : List X) → KeepsFirst from items items
-keeps-same from items = record { first = refl; longer = omega arith }
-
--- and so does one whose last items are others, no fewer
+-- The lists. One whose last items are others, no fewer, keeps its first items.
 pub keeps-put : {X : Type 0} (from : ℕ) (old more new : List X) → from ≤ length old → length old ≤ from + length more → new ≡ take from old ++ more → KeepsFirst from old new
 keeps-put from old more new l k e =
     let front = length-take-le from old l in

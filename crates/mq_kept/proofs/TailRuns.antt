@@ -21,7 +21,7 @@ use Rattle.mq_exits.specs.declared.load.Load.{Load}
 use Rattle.mq_exits.specs.declared.working.Ending.TheVariants.{OnTime}
 use Rattle.mq_redo.specs.Kept.{IsStaying, coming_as}
 use Rattle.mq_stations.proofs.lemmas.Leaves.{served-even}
-use Rattle.mq_stations.specs.Leaving.{AreServed, IsLoad}
+use Rattle.mq_stations.specs.Leaving.{AreServed}
 use Rattle.mq_kept.proofs.InTurn.{kept-turn}
 use Rattle.mq_kept.specs.InTurn.{HasTail}
 use Rattle.mq_kept.specs.Formers.{with_checkpoints}
@@ -78,9 +78,6 @@ module _ (law : AlikeIsFirst) (load : Load) (kind : Kind) (first : ℕ) (lists :
   -- the node is of this kind
   kind-is : stays.loaded.node.kind ≡ kind
   kind-is = (λ k. (some_inj _ _ (sym stays.loaded.there ∙ stays.there) k).kind) ∙ stays.is
-
-  pub load-of : IsLoad load.rows.now kind load.arrivals.now
-  load-of = subst (λ (k : Kind). IsLoad load.rows.now k load.arrivals.now) kind-is stays.loaded.load
 
   -- what is kept of it
   pub kept-of : IsKeptNode kind (coming_of stays.earlier lists.visits) load.block lists.visits.fate lists.checkpoints

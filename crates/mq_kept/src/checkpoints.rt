@@ -24,7 +24,7 @@ pub enum Checkpoints {
 }
 
 impl Checkpoints {
-    /// The carries of a server: none where nothing is kept. The same of the others.
+    /// Of a server the last departure behind each block, in ticks: none for another kind, and where nothing is kept.
     pub fn server(&self) -> &[Mp]
         ensures { result.now ≡ server_carries self.now }
     {
@@ -35,6 +35,7 @@ impl Checkpoints {
         }
     }
 
+    /// Of a delay the departure of the last job of each block, in ticks: none for another kind, and where nothing is kept.
     pub fn delay(&self) -> &[u64]
         ensures { result.now ≡ delay_carries self.now }
     {
@@ -45,6 +46,7 @@ impl Checkpoints {
         }
     }
 
+    /// Of a tandem the latest departures from its stages behind each block: none for another kind, and where nothing is kept.
     pub fn tandem(&self) -> &[Latest]
         ensures { result.now ≡ tandem_carries self.now }
     {
@@ -55,6 +57,8 @@ impl Checkpoints {
         }
     }
 
+    /// Of a fork-join the latest departure from each of its servers behind each block, in ticks, in eight places: none for
+    /// another kind, and where nothing is kept.
     pub fn forkjoin(&self) -> &[[u64; 8]]
         ensures { result.now ≡ forkjoin_carries self.now }
     {
@@ -65,6 +69,7 @@ impl Checkpoints {
         }
     }
 
+    /// Of a split the output of the last job of each block: none for another kind, and where nothing is kept.
     pub fn split(&self) -> &[u8]
         ensures { result.now ≡ split_carries self.now }
     {
@@ -75,7 +80,7 @@ impl Checkpoints {
         }
     }
 
-    /// The output of each job of a split.
+    /// Of a split the output of each job, by position: none for another kind, and where nothing is kept.
     pub fn outs(&self) -> &[u8]
         ensures { result.now ≡ split_outs self.now }
     {

@@ -242,6 +242,8 @@ fn put_stream(
     done
 }
 
+// Puts these jobs and times in the place of those of a stream from one on. Where memory runs out, those before that one are as
+// they were.
 fn put_items(
     stream: &mut Stream,
     from: usize,

@@ -1,11 +1,12 @@
 -- The fates of a loss station are those of its rule.
 use Rattle.std.proofs.Common.{◌≡◌, ℕ, List, [], ◌∷◌, length, map, refl, sym, ap, ◌∙◌}
 use Rattle.std.specs.Prelude.{if◌then◌else◌}
+use Rattle.mq_core.specs.Fates.{departure_times}
 use Rattle.mq_core.specs.Recurrences.{is_admitted, loss_fates}
 use Rattle.mq_core.specs.declared.model.Fate.{Fate}
 use Rattle.mq_core.specs.declared.model.Fate.TheVariants.{Departs, Lost}
 use Rattle.mq_loss.specs.Rounds.{IsSettled, admission, departure_behind, loss_rule}
-use Rattle.mq_rounds.specs.Rounds.{admission_of, admits, departures_in, departures_of, fates_from}
+use Rattle.mq_rounds.specs.Rounds.{admission_of, admits, departures_of, fates_from}
 use Rattle.mq_rounds.specs.declared.settled.Settled.{Settled}
 use Rattle.mq_rounds.proofs.lemmas.Guesses.{admission-departs}
 
@@ -29,5 +30,5 @@ settled-is places times demands settled d h e =
       departs =
           e
           ∙ (ap (departures_of departure_behind times demands) h
-          ∙ (sym (admission-departs (loss_rule places) [] times demands d) ∙ ap departures_in (loss-fates places [] times demands)));
+          ∙ (sym (admission-departs (loss_rule places) [] times demands d) ∙ ap departure_times (loss-fates places [] times demands)));
     }

@@ -1,7 +1,8 @@
 -- The rule of a loss station, and what rounds of guesses at it come to.
 use Rattle.std.specs.Prelude.{◌≡◌, ℕ, zero, suc, ◌+◌, ◌*◌, ◌≤◌, ◌<◌, ◌≢◌, max, Bool, List, [], length, map, slice_get}
+use Rattle.mq_core.specs.Fates.{departure_times}
 use Rattle.mq_core.specs.Recurrences.{is_admitted, loss_fates, time_or_none}
-use Rattle.mq_rounds.specs.Rounds.{Rule, admits, all_admitted, departures_in, round_of}
+use Rattle.mq_rounds.specs.Rounds.{Rule, admits, all_admitted, round_of}
 use Rattle.mq_rounds.specs.declared.settled.Settled.{Settled}
 
 -- which arrivals a station with this many places admits
@@ -24,7 +25,7 @@ guess_after places times demands (suc rounds) = round_of (loss_rule places) time
 -- the answer has the admission of the station, and the departures of those admitted
 pub record IsSettled (places : ℕ) (times demands : List ℕ) (settled : Settled) : Type 0 where
   pub admitted : settled.admitted ≡ admission places times demands
-  pub departs : settled.departs ≡ departures_in (loss_fates places [] times demands)
+  pub departs : settled.departs ≡ departure_times (loss_fates places [] times demands)
 
 -- rounds over all arrivals, up to and with the first that changes nothing; each makes one judgement an arrival
 pub record IsWholeRun (places : ℕ) (times demands : List ℕ) (rounds judgements : ℕ) : Type 0 where

@@ -1,9 +1,9 @@
 -- One line more.
 use Rattle.std.proofs.Common.{◌≡◌, ◌∙◌, sym, ap, refl, ℕ, suc, ◌+◌, ◌-◌, ◌≤◌, List, [], ◌∷◌, ◌++◌, length, Bool, true, false, cond, Option, Some, None, Result, Ok, Err, arith, inl, inr, append_assoc, append-nil, length-append}
-use Rattle.std.specs.Prelude.{◌&&◌, ◌||◌, ◌==◌, not, nat_le, nat_lt, codes, IfOk, IfErr}
+use Rattle.std.specs.Prelude.{◌&&◌, ◌||◌, ◌==◌, not, nat_le, nat_lt, IfOk, IfErr}
 use Rattle.std.specs.List.{list_all, list_any, flat_map}
 use Rattle.std.specs.Option.{option_or}
-use Rattle.std.proofs.lemmas.Bool.{cases_Bool, and_parts, eqb-true, leb-false, ltb-false}
+use Rattle.std.proofs.lemmas.Bool.{cases_Bool, eqb-true, leb-false, ltb-false}
 use Rattle.std.proofs.lemmas.Grind.{common_steps, flat_map-append}
 use Rattle.std.proofs.lemmas.List.Folds.{list_all-append, list_any-append}
 use Rattle.mq_base.specs.Text.{words_of}
@@ -22,8 +22,7 @@ use Rattle.mq_model.specs.declared.said.Said.TheVariants.{Bound, Node}
 use Rattle.mq_model.proofs.FormFacts.{first_fault}
 use Rattle.mq_model.proofs.HeadFacts.{version_first, version_kept, version_skipped}
 use Rattle.mq_model.proofs.LineFacts.{live_line}
-use Rattle.mq_model.proofs.SoundColumns.{name_is}
-use Rattle.mq_model.proofs.SoundText.{cond_none, head_says_nothing, or_none, saids_more, skipped_says_nothing}
+use Rattle.mq_model.proofs.SoundText.{cond_none, head_no_bound, head_not_skipped, head_says_nothing, or_none, saids_more, skipped_says_nothing}
 
 -- The words that are left are no more than those of the line.
 pub left_short : (ws left : List Word) → whole (read line ws) ≡ Err left → length left ≤ length ws
@@ -74,18 +73,6 @@ pub skipped_no_bound : (ws : List Word) → begins_comment ws ≡ true → begin
 skipped_no_bound [] h = refl
 skipped_no_bound ([] ∷ ws) h = absurd (cc)
 skipped_no_bound ((b ∷ more) ∷ ws) h = rw (eqb-true b 35 h) refl
-
-pub head_no_bound : (ws : List Word) → is_head ws ≡ true → begins_bound ws ≡ false
-head_no_bound [] h = absurd (cc)
-head_no_bound (w ∷ []) h = absurd (cc)
-head_no_bound (w ∷ v ∷ []) h = rw (name_is w (codes "model") (and_parts _ _ h).0) refl
-head_no_bound (w ∷ v ∷ u ∷ ws) h = absurd (cc)
-
-pub head_not_skipped : (ws : List Word) → is_head ws ≡ true → begins_comment ws ≡ false
-head_not_skipped [] h = absurd (cc)
-head_not_skipped (w ∷ []) h = absurd (cc)
-head_not_skipped (w ∷ v ∷ []) h = rw (name_is w (codes "model") (and_parts _ _ h).0) refl
-head_not_skipped (w ∷ v ∷ u ∷ ws) h = absurd (cc)
 
 -- the numbers of the lines, with one line more
 pub numbers_append : (n : ℕ) (before : List (List ℕ)) (l : List ℕ) → numbers_from n (before ++ l ∷ []) ≡ numbers_from n before ++ numbers_from (n + length before) (l ∷ [])

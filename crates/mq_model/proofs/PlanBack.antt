@@ -1,6 +1,6 @@
 -- Lines that say what a sound network says, behind a head, have no fault and declare this network.
 use Rattle.std.proofs.Common.{◌≡◌, ◌∙◌, sym, ap, refl, subst, ℕ, ◌≤◌, List, [], ◌∷◌, ◌++◌, length, true, false, Option, Some, None, Result, Ok, Err, arith}
-use Rattle.std.specs.Prelude.{map, ◌&&◌, nat_lt, codes, option_map}
+use Rattle.std.specs.Prelude.{map, ◌&&◌, nat_lt, option_map}
 use Rattle.std.specs.List.{list_all, list_any, flat_map}
 use Rattle.std.proofs.lemmas.Bool.{and_parts, and_left, leb-true, le-ltb}
 use Rattle.std.proofs.lemmas.List.{length-map}
@@ -9,7 +9,7 @@ use Rattle.mq_core.specs.Sound.{are_distinct, is_sound}
 use Rattle.mq_core.specs.declared.model.Network.{Network}
 use Rattle.mq_core.specs.declared.model.Node.{Node}
 use Rattle.mq_model.specs.Form.{Word, read, whole}
-use Rattle.mq_model.specs.Head.{begins_comment, is_head, is_skipped, version_in, version_said}
+use Rattle.mq_model.specs.Head.{is_head, is_skipped, version_in, version_said}
 use Rattle.mq_graph.specs.Rank.{left_node}
 use Rattle.mq_model.specs.Lines.{line}
 use Rattle.mq_model.specs.Model.{begins_bound, cycle_fault, inputs_fault, is_allowed, lines_fault, model_fault, reads_of_text, source_fault, text_fault}
@@ -21,25 +21,12 @@ use Rattle.mq_model.specs.declared.said.Said.{Said}
 use Rattle.mq_model.specs.declared.said.Said.TheVariants.{Bound}
 use Rattle.mq_model.proofs.InputsBack.{all_given_back, all_outputs_in, distinct_back, no_inputs_fault, reads_said, source_back}
 use Rattle.mq_model.proofs.NetworkBack.{has_parts, names_said, network_again}
-use Rattle.mq_model.proofs.SoundColumns.{name_is}
-use Rattle.mq_model.proofs.SoundText.{AreFew, head_says_nothing, saids_more}
+use Rattle.mq_model.proofs.SoundText.{AreFew, head_no_bound, head_not_skipped, head_says_nothing, saids_more}
 use Rattle.mq_model.proofs.TextBack.{AreNodes, AreSaid, head_first, headed_more, is_new, no_line_fault, no_lines_fault, saids_said, says_so}
 use Rattle.mq_model.proofs.HeadFacts.{version_kept}
 use Rattle.mq_model.proofs.Versions.{saids_of_version}
 
--- The head is no empty line, no comment and no bound, and says nothing.
-head_kept : (ws : List Word) → is_head ws ≡ true → begins_comment ws ≡ false
-head_kept [] h = absurd (cc)
-head_kept (w ∷ []) h = absurd (cc)
-head_kept (w ∷ v ∷ []) h = let head = and_parts _ _ h in rw (name_is w (codes "model") head.0) refl
-head_kept (w ∷ v ∷ u ∷ ws) h = absurd (cc)
-
-head_no_bound : (ws : List Word) → is_head ws ≡ true → begins_bound ws ≡ false
-head_no_bound [] h = absurd (cc)
-head_no_bound (w ∷ []) h = absurd (cc)
-head_no_bound (w ∷ v ∷ []) h = let head = and_parts _ _ h in rw (name_is w (codes "model") head.0) refl
-head_no_bound (w ∷ v ∷ u ∷ ws) h = absurd (cc)
-
+-- The head says nothing.
 abbrev said_if : Result Said (List Word) → Option Said
 said_if (Ok said) = Some said
 said_if (Err left) = None
@@ -68,7 +55,7 @@ nodes_said names columns (node ∷ nodes) = nodes_said names columns nodes
 
 -- a text that begins with a head is of the version that it says
 version_of_head : (version : ℕ) (head : List ℕ) (ls : List (List ℕ)) → is_head (words_of head) ≡ true → version_said (words_of head) ≡ version → version_in (head ∷ ls) ≡ version
-version_of_head version head ls is says = rw (head_kept (words_of head) is) says
+version_of_head version head ls is says = rw (head_not_skipped (words_of head) is) says
 
 -- the lines have no fault
 lines_back : (net : Network) (head : List ℕ) (ls : List (List ℕ)) → is_sound net ≡ true → list_all is_allowed head ≡ true → is_head (words_of head) ≡ true → version_said (words_of head) ≡ net.version
@@ -77,7 +64,7 @@ unfolding lines_fault
 lines_back net head [] sound allowed is says said = absurd said
 lines_back net head (l ∷ ls) sound allowed is says said =
     let few = few_said net sound in
-    let headed : list_all is_skipped (head ∷ []) ≡ false = and_left _ _ (head_kept (words_of head) is) in
+    let headed : list_all is_skipped (head ∷ []) ≡ false = and_left _ _ (head_not_skipped (words_of head) is) in
     let nothing : saids_of (head ∷ []) ≡ [] = rw (head_said head is) refl in
     let version : version_in (head ∷ []) ≡ net.version = version_of_head net.version head [] is says in
     let once : (list_any (λ k. begins_bound (words_of k)) (head ∷ []) && begins_bound (words_of l)) ≡ false = rw (head_no_bound (words_of head) is) refl in

@@ -57,6 +57,19 @@ head_says_nothing (w ∷ []) said h e = cc
 head_says_nothing (w ∷ v ∷ []) said h e = let head = and_parts _ _ h in let k = rw (name_is w (codes "model") head.0) at e in cc
 head_says_nothing (w ∷ v ∷ u ∷ ws) said h e = cc
 
+-- a head is no comment and no bound
+pub head_not_skipped : (ws : List Word) → is_head ws ≡ true → begins_comment ws ≡ false
+head_not_skipped [] h = absurd (cc)
+head_not_skipped (w ∷ []) h = absurd (cc)
+head_not_skipped (w ∷ v ∷ []) h = rw (name_is w (codes "model") (and_parts _ _ h).0) refl
+head_not_skipped (w ∷ v ∷ u ∷ ws) h = absurd (cc)
+
+pub head_no_bound : (ws : List Word) → is_head ws ≡ true → begins_bound ws ≡ false
+head_no_bound [] h = absurd (cc)
+head_no_bound (w ∷ []) h = absurd (cc)
+head_no_bound (w ∷ v ∷ []) h = rw (name_is w (codes "model") (and_parts _ _ h).0) refl
+head_no_bound (w ∷ v ∷ u ∷ ws) h = absurd (cc)
+
 said_is : (r : Result Said (List Word)) (said : Said) → elim r [ Ok said ↦ Some said | Err left ↦ None ] ≡ Some said → r ≡ Ok said
 said_is (Ok other) said h = cc
 said_is (Err left) said h = absurd (cc)

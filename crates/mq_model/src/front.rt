@@ -44,14 +44,14 @@ pub fn split_words<'a>(alloc: Global, line: &'a [u8]) -> Result<Vec<&'a [u8]>, O
     Ok(words)
 }
 
-/// Whether a line may hold these bytes.
+// Whether a line may hold these bytes.
 fn all_allowed(line: &[u8]) -> bool
     ensures { result ≡ list_all is_allowed line.now }
 {
     line.iter().all(|b| *b == b'\t' || (*b >= 32 && *b <= 126))
 }
 
-/// Whether the words of a line are none, or those of a comment.
+// Whether the words of a line are none, or those of a comment.
 fn begins_comment(words: &[&[u8]]) -> bool
     ensures { result ≡ begins_comment (texts words.now) }
 {
@@ -64,7 +64,7 @@ fn begins_comment(words: &[&[u8]]) -> bool
     *first == b'#'
 }
 
-/// Whether a word is the number of a version.
+// Whether a word is the number of a version.
 fn is_version(word: &[u8]) -> bool
     ensures { result ≡ is_version word.now }
 {
@@ -74,7 +74,7 @@ fn is_version(word: &[u8]) -> bool
     is_key(b"2", word)
 }
 
-/// Whether these are the words of a head.
+// Whether these are the words of a head.
 fn is_head(words: &[&[u8]]) -> bool
     ensures { result ≡ is_head (texts words.now) }
 {
@@ -87,7 +87,7 @@ fn is_head(words: &[&[u8]]) -> bool
     is_version(words[1])
 }
 
-/// The version that the words of a head say.
+// The version that the words of a head say.
 fn version_said(words: &[&[u8]]) -> u8
     ensures { result ≡ version_said (texts words.now) }
 {
@@ -97,7 +97,7 @@ fn version_said(words: &[&[u8]]) -> u8
     if is_key(b"2", words[1]) { 2 } else { 1 }
 }
 
-/// Whether a line begins as a bound does.
+// Whether a line begins as a bound does.
 fn begins_bound(words: &[&[u8]]) -> bool
     ensures { result ≡ begins_bound (texts words.now) }
 {
@@ -107,7 +107,7 @@ fn begins_bound(words: &[&[u8]]) -> bool
     is_key(b"bound", word)
 }
 
-/// Whether a line begins as one that version 1 doesn't have.
+// Whether a line begins as one that version 1 doesn't have.
 fn begins_later(words: &[&[u8]]) -> bool
     ensures { result ≡ begins_later (texts words.now) }
 {
@@ -123,8 +123,8 @@ fn begins_later(words: &[&[u8]]) -> bool
     is_key(b"trunk", word)
 }
 
-/// Whether a line begins as none may: as a bound behind an earlier one, or as a line of version 2
-/// in a model of version 1.
+// Whether a line begins as none may: as a bound behind an earlier one, or as a line of version 2
+// in a model of version 1.
 fn is_barred(words: &[&[u8]], has_bound: bool, version: u8) -> bool
     ensures { result ≡ is_barred has_bound version (texts words.now) }
 {
@@ -134,14 +134,14 @@ fn is_barred(words: &[&[u8]], has_bound: bool, version: u8) -> bool
     version < 2 && begins_later(words)
 }
 
-/// Whether a name is among these.
+// Whether a name is among these.
 fn is_among(names: &[List<u8>], name: &[u8]) -> bool
     ensures { result ≡ is_among names.now name.now }
 {
     names.iter().any(|other| other.as_slice() == name)
 }
 
-/// Adds the name of the node that a line declares.
+// Adds the name of the node that a line declares.
 fn add_name(
     alloc: Global,
     said: &Said,
@@ -164,7 +164,7 @@ fn add_name(
     Ok(())
 }
 
-/// Adds a column, where it isn't among these.
+// Adds a column, where it isn't among these.
 fn add_column(
     alloc: Global,
     name: &List<u8>,
@@ -178,6 +178,7 @@ fn add_column(
     Ok(())
 }
 
+// Adds the column of a demand, where it has one.
 fn add_of_demand(
     alloc: Global,
     demand: &SaidDemand,
@@ -191,6 +192,7 @@ fn add_of_demand(
     }
 }
 
+// Adds the columns of the demands of these stages.
 fn add_of_stages(
     alloc: Global,
     stages: &[SaidStage],
@@ -204,6 +206,7 @@ fn add_of_stages(
     Ok(())
 }
 
+// Adds the columns of these demands.
 fn add_of_demands(
     alloc: Global,
     demands: &[SaidDemand],
@@ -217,6 +220,7 @@ fn add_of_demands(
     Ok(())
 }
 
+// Adds the columns of the demands of these branches.
 #[tactic(auto, using(crate::proofs::FrontFacts::columns))]
 fn add_of_branches(
     alloc: Global,
@@ -231,7 +235,7 @@ fn add_of_branches(
     Ok(())
 }
 
-/// Adds the columns that a line mentions.
+// Adds the columns that a line mentions.
 fn add_columns(alloc: Global, said: &Said, columns: &mut List<List<u8>>) -> Result<(), OutOfMemory>
     ensures { IfOk result (λ _. columns.new ≡ columns_after columns.old (mentioned said.now)) }
 {
@@ -252,7 +256,7 @@ fn add_columns(alloc: Global, said: &Said, columns: &mut List<List<u8>>) -> Resu
     }
 }
 
-/// What the words of a line say.
+// What the words of a line say.
 fn read_words(
     alloc: Global,
     words: &[&[u8]],
@@ -280,7 +284,7 @@ fn read_words(
     }
 }
 
-/// Adds the name of the node that a line declares, and the columns that it mentions.
+// Adds the name of the node that a line declares, and the columns that it mentions.
 fn add_names(alloc: Global, said: &Said, number: u32, front: &mut Front) -> Result<(), ModelFault>
     ensures ok { IfOk result (λ _. (added_fault front.old number said.now ≡ None) × (front.new ≡ with_names front.old said.now)) }
     ensures err { IfErr result (λ e. Tells e (added_fault front.old number said.now)) }
@@ -293,7 +297,7 @@ fn add_names(alloc: Global, said: &Said, number: u32, front: &mut Front) -> Resu
     Ok(())
 }
 
-/// Adds what a line says.
+// Adds what a line says.
 fn add_said(alloc: Global, said: Said, number: u32, front: &mut Front) -> Result<(), ModelFault>
     ensures ok { IfOk result (λ _. (added_fault front.old number said ≡ None) × (front.new ≡ with_said front.old number said)) }
     ensures err { IfErr result (λ e. Tells e (added_fault front.old number said)) }
@@ -307,7 +311,7 @@ fn add_said(alloc: Global, said: Said, number: u32, front: &mut Front) -> Result
     Ok(())
 }
 
-/// Adds one line more, whose words these are.
+// Adds one line more, whose words these are.
 fn add_line(
     alloc: Global,
     line: &[u8],

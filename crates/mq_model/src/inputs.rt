@@ -8,6 +8,7 @@ ghost use Rattle.mq_model.specs.Said.{gives, is_same_input, is_source, outputs_o
 use crate::fault::ModelFault;
 use crate::said::{Said, SaidInput, SaidKind, SaidRoute};
 
+// Whether a node of this kind has an output of this number.
 fn has_output(kind: &SaidKind, out: u8) -> bool
     ensures { result ≡ nat_lt out (outputs_of kind.now) }
 {
@@ -26,7 +27,7 @@ fn has_output(kind: &SaidKind, out: u8) -> bool
     }
 }
 
-/// Whether a line declares the node of an input, and the node has the output.
+// Whether a line declares the node of an input, and the node has the output.
 fn gives(input: &SaidInput, said: &Said) -> bool
     ensures { result ≡ gives input.now said.now }
 {
@@ -39,12 +40,14 @@ fn gives(input: &SaidInput, said: &Said) -> bool
     has_output(kind, input.out)
 }
 
+// Whether one of these lines declares the node of an input, and the node has the output.
 fn is_given(saids: &[Said], input: &SaidInput) -> bool
     ensures { result ≡ list_any (gives input.now) saids.now }
 {
     saids.iter().any(|said| gives(input, said))
 }
 
+// Whether two inputs name the same output.
 fn is_same_input(a: &SaidInput, b: &SaidInput) -> bool
     ensures { result ≡ is_same_input a.now b.now }
 {
@@ -54,14 +57,14 @@ fn is_same_input(a: &SaidInput, b: &SaidInput) -> bool
     a.out == b.out
 }
 
-/// Whether one of these inputs names the same output.
+// Whether one of these inputs names the same output.
 fn is_read(reads: &[SaidInput], input: &SaidInput) -> bool
     ensures { result ≡ list_any (is_same_input input.now) reads.now }
 {
     reads.iter().any(|other| is_same_input(input, other))
 }
 
-/// The inputs of a line.
+// The inputs of a line.
 fn reads_of(said: &Said) -> &[SaidInput]
     ensures { result.now ≡ reads_of said.now }
 {
@@ -71,14 +74,14 @@ fn reads_of(said: &Said) -> &[SaidInput]
     }
 }
 
-/// Whether an input of one of these lines names the same output.
+// Whether an input of one of these lines names the same output.
 fn is_read_before(saids: &[Said], input: &SaidInput) -> bool
     ensures { result ≡ list_any (λ said. list_any (is_same_input input.now) (reads_of said)) saids.now }
 {
     saids.iter().any(|said| is_read(reads_of(said), input))
 }
 
-/// Whether an input of one of these lines, or one of these inputs, names the same output.
+// Whether an input of one of these lines, or one of these inputs, names the same output.
 fn is_taken(saids: &[Said], reads: &[SaidInput], input: &SaidInput) -> bool
     ensures { result ≡ (list_any (λ said. list_any (is_same_input input.now) (reads_of said)) saids.now || list_any (is_same_input input.now) reads.now) }
 {
@@ -88,7 +91,7 @@ fn is_taken(saids: &[Said], reads: &[SaidInput], input: &SaidInput) -> bool
     is_read(reads, input)
 }
 
-/// The first fault of the inputs of a line, which stands behind these lines.
+// The first fault of the inputs of a line, which stands behind these lines.
 fn reads_fault(
     saids: &[Said],
     before: &[Said],
@@ -129,6 +132,7 @@ pub fn inputs_fault(saids: &[Said], lines: &[u32]) -> Option<ModelFault>
     None
 }
 
+// Whether a line declares a source.
 fn is_source(said: &Said) -> bool
     ensures { result ≡ is_source said.now }
 {

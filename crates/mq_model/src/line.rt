@@ -26,7 +26,7 @@ pub enum KindWord {
     Trunk,
 }
 
-/// The kind that the first word of a line of version 1 names, if the node reads inputs.
+// The kind that the first word of a line of version 1 names, if the node reads inputs.
 fn kind_word(word: &[u8]) -> Option<KindWord>
     ensures { (all more : List Word) → all ≡ word.now ∷ more → MatchOption result (read kind_line all ≡ Err all) (λ first. read kind_line all ≡ read (node_line (form_of first)) more) }
 {
@@ -51,7 +51,7 @@ fn kind_word(word: &[u8]) -> Option<KindWord>
     None
 }
 
-/// Reads how many outputs a fork has.
+// Reads how many outputs a fork has.
 fn read_fork(words: &mut &[&[u8]]) -> Result<SaidKind, Stop>
     ensures { Reads result (texts words.new.now) (read fork_kind (texts words.old.now)) }
 {
@@ -61,7 +61,7 @@ fn read_fork(words: &mut &[&[u8]]) -> Result<SaidKind, Stop>
     })
 }
 
-/// Reads what stands between the name and the inputs.
+// Reads what stands between the name and the inputs.
 fn read_kind(alloc: Global, words: &mut &[&[u8]], first: KindWord) -> Result<SaidKind, Stop>
     ensures { Reads result (texts words.new.now) (read (form_of first) (texts words.old.now)) }
 {
@@ -77,7 +77,7 @@ fn read_kind(alloc: Global, words: &mut &[&[u8]], first: KindWord) -> Result<Sai
     }
 }
 
-/// Reads what stands behind the first word, where the node reads inputs.
+// Reads what stands behind the first word, where the node reads inputs.
 fn read_node(alloc: Global, words: &mut &[&[u8]], first: KindWord) -> Result<Said, Stop>
     ensures { Reads result (texts words.new.now) (read (node_line (form_of first)) (texts words.old.now)) }
 {
@@ -92,7 +92,7 @@ fn read_node(alloc: Global, words: &mut &[&[u8]], first: KindWord) -> Result<Sai
     }
 }
 
-/// Reads what stands behind `source`.
+// Reads what stands behind `source`.
 fn read_source(alloc: Global, words: &mut &[&[u8]]) -> Result<Said, Stop>
     ensures { Reads result (texts words.new.now) (read source_line (texts words.old.now)) }
 {
@@ -104,7 +104,7 @@ fn read_source(alloc: Global, words: &mut &[&[u8]]) -> Result<Said, Stop>
     })
 }
 
-/// Reads what stands behind `join`.
+// Reads what stands behind `join`.
 fn read_join(alloc: Global, words: &mut &[&[u8]]) -> Result<Said, Stop>
     ensures { Reads result (texts words.new.now) (read join_line (texts words.old.now)) }
 {
@@ -117,7 +117,7 @@ fn read_join(alloc: Global, words: &mut &[&[u8]]) -> Result<Said, Stop>
     })
 }
 
-/// Reads a line of version 1 by its first word.
+// Reads a line of version 1 by its first word.
 #[tactic(auto, using(crate::proofs::ReadFacts::choices), unfolding(crate::specs::Lines::first_line))]
 fn read_first(alloc: Global, words: &mut &[&[u8]]) -> Result<Said, Stop>
     ensures { Reads result (texts words.new.now) (read first_line (texts words.old.now)) }
@@ -140,7 +140,7 @@ fn read_first(alloc: Global, words: &mut &[&[u8]]) -> Result<Said, Stop>
     read_node(alloc, words, first)
 }
 
-/// Reads a line by its first word.
+// Reads a line by its first word.
 #[tactic(auto, using(crate::proofs::ReadFacts::choices), unfolding(crate::specs::Lines::line))]
 fn read_any(alloc: Global, words: &mut &[&[u8]]) -> Result<Said, Stop>
     ensures { Reads result (texts words.new.now) (read line (texts words.old.now)) }

@@ -10,7 +10,7 @@ use mq_base::{List, OutOfMemory};
 use mq_core::{Demand, Input, Kind, Network, Node, Route, Stage};
 use std::alloc::Global;
 
-/// The index of a name among these, or their number.
+// The index of a name among these, or their number.
 fn number_in(names: &[List<u8>], name: &[u8]) -> usize
     ensures at { result ≡ number_in names.now name.now }
     ensures within { result ≤ length names.now }
@@ -21,6 +21,7 @@ fn number_in(names: &[List<u8>], name: &[u8]) -> usize
         .count()
 }
 
+// The index of a column among these, or their number.
 fn column_in(columns: &[List<u8>], name: &List<u8>) -> u8
     requires { length columns.now ≤ 16 }
     ensures { result ≡ number_in columns.now name.now }
@@ -28,6 +29,7 @@ fn column_in(columns: &[List<u8>], name: &List<u8>) -> u8
     number_in(columns, name.as_slice()) as u8
 }
 
+// A demand, its column by number.
 fn demand_in(columns: &[List<u8>], demand: &SaidDemand) -> Demand
     requires { length columns.now ≤ 16 }
     ensures { result ≡ demand_in columns.now demand.now }
@@ -38,6 +40,7 @@ fn demand_in(columns: &[List<u8>], demand: &SaidDemand) -> Demand
     }
 }
 
+// What a split goes by, its column by number.
 fn route_in(alloc: Global, columns: &[List<u8>], route: &SaidRoute) -> Result<Route, OutOfMemory>
     requires { length columns.now ≤ 16 }
     ensures { IfOk result (λ r. r ≡ route_in columns.now route.now) }
@@ -55,6 +58,7 @@ fn route_in(alloc: Global, columns: &[List<u8>], route: &SaidRoute) -> Result<Ro
     }
 }
 
+// The stages of a tandem, their columns by number.
 fn stages_in(
     alloc: Global,
     columns: &[List<u8>],
@@ -73,6 +77,7 @@ fn stages_in(
     Ok(all)
 }
 
+// The demands of a branch, their columns by number.
 fn demands_in(
     alloc: Global,
     columns: &[List<u8>],
@@ -88,6 +93,7 @@ fn demands_in(
     Ok(all)
 }
 
+// The branches of a fork-join, their columns by number.
 fn branches_in(
     alloc: Global,
     columns: &[List<u8>],
@@ -103,6 +109,7 @@ fn branches_in(
     Ok(all)
 }
 
+// The kind of a node, its columns by number.
 fn kind_in(alloc: Global, columns: &[List<u8>], kind: &SaidKind) -> Result<Kind, OutOfMemory>
     requires { length columns.now ≤ 16 }
     ensures { IfOk result (λ k. k ≡ kind_in columns.now kind.now) }
@@ -131,7 +138,7 @@ fn kind_in(alloc: Global, columns: &[List<u8>], kind: &SaidKind) -> Result<Kind,
     }
 }
 
-/// The inputs of a node, by port.
+// The inputs of a node, by port.
 fn inputs_in(
     alloc: Global,
     names: &[List<u8>],
@@ -150,7 +157,7 @@ fn inputs_in(
     Ok(inputs)
 }
 
-/// The node that a line declares by this name, by the names of the nodes and of the columns.
+// The node that a line declares by this name, by the names of the nodes and of the columns.
 fn node_in(
     alloc: Global,
     names: &[List<u8>],
@@ -169,7 +176,7 @@ fn node_in(
     Ok(Node { name, kind, inputs })
 }
 
-/// Adds the node that a line declares, where it declares one.
+// Adds the node that a line declares, where it declares one.
 fn add_node(
     alloc: Global,
     names: &[List<u8>],
@@ -188,7 +195,7 @@ fn add_node(
     Ok(())
 }
 
-/// The nodes that lines declare, by the names of the nodes and of the columns.
+// The nodes that lines declare, by the names of the nodes and of the columns.
 fn nodes_in(
     alloc: Global,
     names: &[List<u8>],
@@ -206,7 +213,7 @@ fn nodes_in(
     Ok(nodes)
 }
 
-/// The bound that the first line of this kind says, or 2^60.
+// The bound that the first line of this kind says, or 2^60.
 fn bound_of(saids: &[Said]) -> u64
     ensures { result ≡ bound_of saids.now }
 {

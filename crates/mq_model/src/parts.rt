@@ -106,7 +106,7 @@ pub fn read_within(words: &mut &[&[u8]], least: u64, most: u64) -> Result<u64, S
     Ok(number)
 }
 
-/// Adds the inputs at hand, at most 8; there may be none.
+// Adds the inputs at hand, at most 8; there may be none.
 fn add_inputs(alloc: Global, words: &mut &[&[u8]], reads: &mut List<SaidInput>) -> Result<(), Stop>
     ensures { ReadsMore result reads.old reads.new (texts words.new.now) (read (up_to 8 is_input input_of) (texts words.old.now)) }
 {

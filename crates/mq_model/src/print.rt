@@ -10,7 +10,7 @@ use mq_base::{List, OutOfMemory};
 use mq_core::{Demand, Input, Kind, Network, Node, Plan, Route, Stage};
 use std::alloc::Global;
 
-/// The name of a node, by its number; where there is no such node, it is empty.
+// The name of a node, by its number; where there is no such node, it is empty.
 fn node_name(net: &Network, node: u32) -> &[u8]
     ensures { result.now ≡ name_at (names_in net.now) node }
 {
@@ -20,7 +20,7 @@ fn node_name(net: &Network, node: u32) -> &[u8]
     }
 }
 
-/// The name of a column, by its number; where there is no such column, it is empty.
+// The name of a column, by its number; where there is no such column, it is empty.
 fn column_name(net: &Network, column: u8) -> &[u8]
     ensures { result.now ≡ name_at net.now.columns column }
 {
@@ -30,6 +30,7 @@ fn column_name(net: &Network, column: u8) -> &[u8]
     }
 }
 
+// Adds the decimal digits of a number.
 fn push_digits(text: &mut Vec<u8>, number: u64) -> Result<(), OutOfMemory>
     ensures { OnOk result (text.new.items ≡ text.old.items ++ decimal number) }
 {
@@ -37,7 +38,7 @@ fn push_digits(text: &mut Vec<u8>, number: u64) -> Result<(), OutOfMemory>
     Ok(())
 }
 
-/// Adds a word behind a space.
+// Adds a word behind a space.
 fn push_word(text: &mut Vec<u8>, word: &[u8]) -> Result<(), OutOfMemory>
     ensures { OnOk result (text.new.items ≡ text.old.items ++ 32 ∷ word.now) }
 {
@@ -46,7 +47,7 @@ fn push_word(text: &mut Vec<u8>, word: &[u8]) -> Result<(), OutOfMemory>
     Ok(())
 }
 
-/// Adds a number behind a space.
+// Adds a number behind a space.
 fn push_number(text: &mut Vec<u8>, number: u64) -> Result<(), OutOfMemory>
     ensures { OnOk result (text.new.items ≡ text.old.items ++ 32 ∷ decimal number) }
 {
@@ -54,6 +55,7 @@ fn push_number(text: &mut Vec<u8>, number: u64) -> Result<(), OutOfMemory>
     push_digits(text, number)
 }
 
+// Adds a demand behind a space: the name of its column, or `=` and its ticks.
 fn push_demand(text: &mut Vec<u8>, net: &Network, demand: &Demand) -> Result<(), OutOfMemory>
     ensures { OnOk result (text.new.items ≡ text.old.items ++ 32 ∷ demand_word (demand_by net.now.columns demand.now)) }
 {
@@ -66,6 +68,7 @@ fn push_demand(text: &mut Vec<u8>, net: &Network, demand: &Demand) -> Result<(),
     }
 }
 
+// Adds an input behind a space: the name of its node, and a dot and its output where that isn't 0.
 fn push_input(text: &mut Vec<u8>, net: &Network, input: &Input) -> Result<(), OutOfMemory>
     ensures { OnOk result (text.new.items ≡ text.old.items ++ 32 ∷ input_word (input_by (names_in net.now) input.now)) }
 {
@@ -77,7 +80,7 @@ fn push_input(text: &mut Vec<u8>, net: &Network, input: &Input) -> Result<(), Ou
     push_digits(text, input.out as u64)
 }
 
-/// Adds `from` and the inputs, each behind a space.
+// Adds `from` and the inputs, each behind a space.
 fn push_inputs(text: &mut Vec<u8>, net: &Network, inputs: &[Input]) -> Result<(), OutOfMemory>
     ensures { OnOk result (text.new.items ≡ text.old.items ++ spaced (inputs_words (map (input_by (names_in net.now)) inputs.now))) }
 {
@@ -88,6 +91,7 @@ fn push_inputs(text: &mut Vec<u8>, net: &Network, inputs: &[Input]) -> Result<()
     Ok(())
 }
 
+// Adds numbers, each behind a space.
 fn push_numbers(text: &mut Vec<u8>, numbers: &[u64]) -> Result<(), OutOfMemory>
     ensures { OnOk result (text.new.items ≡ text.old.items ++ spaced (map decimal numbers.now)) }
 {
@@ -97,6 +101,7 @@ fn push_numbers(text: &mut Vec<u8>, numbers: &[u64]) -> Result<(), OutOfMemory>
     Ok(())
 }
 
+// Adds what a split goes by.
 fn push_route(text: &mut Vec<u8>, net: &Network, route: &Route) -> Result<(), OutOfMemory>
     ensures { OnOk result (text.new.items ≡ text.old.items ++ spaced (route_words (route_by net.now.columns route.now))) }
 {
@@ -118,7 +123,7 @@ fn push_route(text: &mut Vec<u8>, net: &Network, route: &Route) -> Result<(), Ou
     }
 }
 
-/// Adds a slash, and the places and the demand of a stage.
+// Adds a slash, and the places and the demand of a stage.
 fn push_stage(text: &mut Vec<u8>, net: &Network, stage: &Stage) -> Result<(), OutOfMemory>
     ensures { OnOk result (text.new.items ≡ text.old.items ++ spaced (stage_words (stage_by net.now.columns stage.now))) }
 {
@@ -127,6 +132,7 @@ fn push_stage(text: &mut Vec<u8>, net: &Network, stage: &Stage) -> Result<(), Ou
     push_demand(text, net, &stage.demand)
 }
 
+// Adds the stages behind the first.
 fn push_further(text: &mut Vec<u8>, net: &Network, stages: &[Stage]) -> Result<(), OutOfMemory>
     ensures { OnOk result (text.new.items ≡ text.old.items ++ spaced (flat_map stage_words (map (stage_by net.now.columns) stages.now))) }
 {
@@ -136,7 +142,7 @@ fn push_further(text: &mut Vec<u8>, net: &Network, stages: &[Stage]) -> Result<(
     Ok(())
 }
 
-/// Adds the stages of a tandem, the first without its places.
+// Adds the stages of a tandem, the first without its places.
 fn push_stages(text: &mut Vec<u8>, net: &Network, stages: &[Stage]) -> Result<(), OutOfMemory>
     ensures { OnOk result (text.new.items ≡ text.old.items ++ spaced (stages_words (map (stage_by net.now.columns) stages.now))) }
 {
@@ -147,6 +153,7 @@ fn push_stages(text: &mut Vec<u8>, net: &Network, stages: &[Stage]) -> Result<()
     push_further(text, net, further)
 }
 
+// Adds demands, each behind a space.
 fn push_demands(text: &mut Vec<u8>, net: &Network, demands: &[Demand]) -> Result<(), OutOfMemory>
     ensures { OnOk result (text.new.items ≡ text.old.items ++ spaced (map demand_word (map (demand_by net.now.columns) demands.now))) }
 {
@@ -156,7 +163,7 @@ fn push_demands(text: &mut Vec<u8>, net: &Network, demands: &[Demand]) -> Result
     Ok(())
 }
 
-/// Adds a bar and the demands of a branch.
+// Adds a bar and the demands of a branch.
 fn push_barred(text: &mut Vec<u8>, net: &Network, demands: &[Demand]) -> Result<(), OutOfMemory>
     ensures { OnOk result (text.new.items ≡ text.old.items ++ spaced (barred_words (map (demand_by net.now.columns) demands.now))) }
 {
@@ -164,6 +171,7 @@ fn push_barred(text: &mut Vec<u8>, net: &Network, demands: &[Demand]) -> Result<
     push_demands(text, net, demands)
 }
 
+// Adds the branches behind the first.
 fn push_further_branches(
     text: &mut Vec<u8>,
     net: &Network,
@@ -177,7 +185,7 @@ fn push_further_branches(
     Ok(())
 }
 
-/// Adds the branches of a fork-join, the first without a bar.
+// Adds the branches of a fork-join, the first without a bar.
 fn push_branches(
     text: &mut Vec<u8>,
     net: &Network,
@@ -192,7 +200,7 @@ fn push_branches(
     push_further_branches(text, net, further)
 }
 
-/// The first word of a node's line.
+// The first word of a node's line.
 fn first_word(kind: &Kind) -> &[u8]
     ensures { (columns : List Word) → result.now ≡ first_word (kind_by columns kind.now) }
 {
@@ -210,7 +218,7 @@ fn first_word(kind: &Kind) -> &[u8]
     }
 }
 
-/// Adds what stands between the name and the inputs.
+// Adds what stands between the name and the inputs.
 fn push_kind(text: &mut Vec<u8>, net: &Network, kind: &Kind) -> Result<(), OutOfMemory>
     ensures { OnOk result (text.new.items ≡ text.old.items ++ spaced (kind_words (kind_by net.now.columns kind.now))) }
 {
@@ -232,7 +240,7 @@ fn push_kind(text: &mut Vec<u8>, net: &Network, kind: &Kind) -> Result<(), OutOf
     }
 }
 
-/// Adds the inputs of a node, which a source has none of.
+// Adds the inputs of a node, which a source has none of.
 fn push_reads(text: &mut Vec<u8>, net: &Network, node: &Node) -> Result<(), OutOfMemory>
     ensures { OnOk result (text.new.items ≡ text.old.items ++ spaced (reads_words (kind_by net.now.columns node.now.kind) (map (input_by (names_in net.now)) node.now.inputs))) }
 {
@@ -242,7 +250,7 @@ fn push_reads(text: &mut Vec<u8>, net: &Network, node: &Node) -> Result<(), OutO
     }
 }
 
-/// Adds a node's line.
+// Adds a node's line.
 fn push_node(text: &mut Vec<u8>, net: &Network, node: &Node) -> Result<(), OutOfMemory>
     ensures { OnOk result (text.new.items ≡ text.old.items ++ line_text (said_words (node_by (names_in net.now) net.now.columns node.now))) }
 {
@@ -254,7 +262,7 @@ fn push_node(text: &mut Vec<u8>, net: &Network, node: &Node) -> Result<(), OutOf
     Ok(())
 }
 
-/// Adds the head and the bound.
+// Adds the head and the bound.
 fn push_head(text: &mut Vec<u8>, version: u8, bound: u64) -> Result<(), OutOfMemory>
     ensures { OnOk result (text.new.items ≡ text.old.items ++ codes "model " ++ decimal version ++ codes "\nbound " ++ decimal bound ++ 10 ∷ []) }
 {
@@ -269,7 +277,8 @@ fn push_head(text: &mut Vec<u8>, version: u8, bound: u64) -> Result<(), OutOfMem
 /// The canonical text of a plan, which `read_model` reads as the plan again.
 ///
 /// It has the head, the bound, and a line for each node in order of declaration. Each line's words
-/// have one space between each two, and numbers have no leading zeros.
+/// have one space between each two, and numbers have no leading zeros. It refuses for want of memory
+/// alone.
 pub fn print_model(alloc: Global, plan: &Plan) -> Result<List<u8>, OutOfMemory>
     ensures { IfOk result (λ text. text ≡ printed plan.now.net) }
 {

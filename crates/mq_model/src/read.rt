@@ -40,7 +40,7 @@ fn is_node(said: &Said) -> bool
     }
 }
 
-/// The number of the line that declares a node.
+// The number of the line that declares a node.
 fn line_of(saids: &[Said], lines: &[u32], node: u32) -> u32
     requires { length lines.now ≡ length saids.now }
     ensures { result ≡ get_or (declaring lines.now saids.now) node 0 }
@@ -58,7 +58,7 @@ fn line_of(saids: &[Said], lines: &[u32], node: u32) -> u32
     0
 }
 
-/// The nodes by rank, where no node is left.
+// The nodes by rank, where no node is left.
 fn order_of(
     alloc: Global,
     net: &Network,
@@ -81,7 +81,7 @@ fn order_of(
     }
 }
 
-/// The first fault of the inputs and the sources of the lines that are kept.
+// The first fault of the inputs and the sources of the lines that are kept.
 fn front_fault(front: &Front) -> Option<ModelFault>
     requires beside { length front.now.lines ≡ length front.now.saids }
     requires narrow { AreNarrow front.now.saids }
@@ -96,7 +96,7 @@ fn front_fault(front: &Front) -> Option<ModelFault>
     None
 }
 
-/// The plan of lines whose network is sound, where no node is left. The names of the columns go into it.
+// The plan of lines whose network is sound, where no node is left. The names of the columns go into it.
 fn plan_of(alloc: Global, front: &mut Front) -> Result<Plan, ModelFault>
     requires names { front.old.names ≡ names_of front.old.saids }
     requires columns { front.old.columns ≡ columns_of front.old.saids }

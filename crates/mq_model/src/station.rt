@@ -11,7 +11,7 @@ use crate::word::{demand_said, is_demand, is_key};
 use mq_base::List;
 use std::alloc::Global;
 
-/// The most places of a loss station.
+// The most places of a loss station.
 const MOST_PLACES: u64 = 1 << 20;
 
 /// Reads the places of a loss station and its demand.
@@ -38,7 +38,7 @@ pub fn read_trunk(alloc: Global, words: &mut &[&[u8]]) -> Result<SaidKind, Stop>
     })
 }
 
-/// Reads the places and the demand of a stage behind a slash.
+// Reads the places and the demand of a stage behind a slash.
 fn read_stage(alloc: Global, words: &mut &[&[u8]]) -> Result<SaidStage, Stop>
     ensures { Reads result (texts words.new.now) (read a_stage (texts words.old.now)) }
 {
@@ -50,7 +50,7 @@ fn read_stage(alloc: Global, words: &mut &[&[u8]]) -> Result<SaidStage, Stop>
     })
 }
 
-/// Adds the stages at hand, at most 3, each behind a slash; there may be none.
+// Adds the stages at hand, at most 3, each behind a slash; there may be none.
 fn add_stages(alloc: Global, words: &mut &[&[u8]], stages: &mut List<SaidStage>) -> Result<(), Stop>
     ensures { ReadsMore result stages.old stages.new (texts words.new.now) (read (further_stages 3) (texts words.old.now)) }
 {
@@ -85,7 +85,7 @@ pub fn read_tandem(alloc: Global, words: &mut &[&[u8]]) -> Result<SaidKind, Stop
     Ok(SaidKind::Tandem(stages))
 }
 
-/// Adds the demands at hand, at most so many; there may be none.
+// Adds the demands at hand, at most so many; there may be none.
 fn add_demands(
     alloc: Global,
     words: &mut &[&[u8]],
@@ -108,7 +108,7 @@ fn add_demands(
     Ok(())
 }
 
-/// Reads a branch of a fork-join, 1 to 4 demands, where so many are left of the line's 8.
+// Reads a branch of a fork-join, 1 to 4 demands, where so many are left of the line's 8.
 fn read_branch(alloc: Global, words: &mut &[&[u8]], left: u8) -> Result<List<SaidDemand>, Stop>
     requires { 1 ≤ left }
     ensures reads { Reads result (texts words.new.now) (read (a_branch left) (texts words.old.now)) }
@@ -123,8 +123,8 @@ fn read_branch(alloc: Global, words: &mut &[&[u8]], left: u8) -> Result<List<Sai
     Ok(demands)
 }
 
-/// Adds the branches at hand, at most 7, each behind a bar, where so many are left of the line's
-/// 8 demands; there may be none.
+// Adds the branches at hand, at most 7, each behind a bar, where so many are left of the line's
+// 8 demands; there may be none.
 fn add_branches(
     alloc: Global,
     words: &mut &[&[u8]],

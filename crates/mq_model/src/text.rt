@@ -23,7 +23,7 @@ fn no_lines(alloc: Global) -> Front
     }
 }
 
-/// Adds the lines of a text to none.
+// Adds the lines of a text to none.
 fn add_lines(alloc: Global, text: &[u8], front: &mut Front) -> Result<(), ModelFault>
     requires short { length text.now ≤ 65536 }
     requires none { IsFront [] front.old }

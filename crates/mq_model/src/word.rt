@@ -32,7 +32,7 @@ pub fn is_key(key: &[u8], word: &[u8]) -> bool
     word == key
 }
 
-/// Whether these bytes may stand in a name, behind its first.
+// Whether these bytes may stand in a name, behind its first.
 fn all_in_names(bytes: &[u8]) -> bool
     ensures { result ≡ list_all is_name_byte bytes.now }
 {

@@ -152,6 +152,7 @@ fn put_numbered_twice<'a, E: Sink>(
     );
 }
 
+// Puts the line of a fault of the command line.
 fn put_usage_line<E: Sink>(err: &mut E, fault: &UsageFault)
     ensures { PutsLine E.taken E.sure E.faults err.old err.new (usage_line fault.now) }
 {

@@ -24,7 +24,8 @@ pub fn put_all<O: Sink>(out: &mut O, bytes: &[u8]) -> Result<(), SinkFault>
     Ok(())
 }
 
-/// Puts the decimal digits of a number, with no leading zero, as `put_all` does.
+/// Puts the decimal digits of a number, with no leading zero, as `put_all` does: it takes no memory of its own, and is
+/// `Failed` exactly where one of the puts failed.
 pub fn put_number<O: Sink>(out: &mut O, value: u128) -> Result<(), SinkFault>
     ensures ok { OnOk result (TakesFirst (O.taken out.old) (O.taken out.new) (O.sure out.old) (O.sure out.new) (decimal value) (length (decimal value))) }
     ensures err { OnErr result (TakesPrefix (O.taken out.old) (O.taken out.new) (O.sure out.old) (O.sure out.new) (decimal value)) }

@@ -2,7 +2,7 @@
 use Rattle.std.proofs.Common.{◌≡◌, ℕ, zero, suc, ◌+◌, ◌*◌, ◌<◌, ◌≤◌, List, [], ◌∷◌, length, map, min, take, refl, sym, ap, ◌∙◌, subst, arith, Some, slice_get}
 use Rattle.mq_base.proofs.lemmas.Lists.{some_inj}
 use Rattle.mq_core.specs.declared.model.Fate.{Fate}
-use Rattle.mq_core.specs.declared.model.Fate.TheVariants.{Departs, Held, Lost}
+use Rattle.mq_core.specs.declared.model.Fate.TheVariants.{Departs}
 use Rattle.mq_scan.specs.Folds.{carries_after, fold_to}
 use Rattle.mq_scan.specs.declared.blocks.Blocks.{Blocks}
 use Rattle.mq_redo.specs.Doing.{AreBehind, AreStaying}
@@ -61,14 +61,6 @@ pub departs-at : (times : List ℕ) (k : ℕ) (fate : Fate) → slice_get (map (
 departs-at [] k fate e = absurd cc
 departs-at (t ∷ ts) zero fate e = (t, sym (some_inj (Departs t) fate e), refl)
 departs-at (t ∷ ts) (suc k) fate e = departs-at ts k fate e
-
-pub departs_inj : (a b : ℕ) → Departs a ≡ Departs b → a ≡ b
-departs_inj a b e = ap time_in e
-  where
-    time_in : Fate → ℕ
-    time_in (Departs time) = time
-    time_in Lost = 0
-    time_in Held = 0
 
 -- blocks that are done are kept
 module _ {S C : Type 0} (time : C → ℕ) (acted : S → C → C) (start : C) (part : ℕ → S) where

@@ -19,7 +19,8 @@ use std::alloc::Global;
 use std::sync::ledger::Ledger;
 
 /// When all jobs depart from a delay, in ticks, and the departure of the last job of each block, where so many first
-/// blocks of an earlier run stay, of which these are the fates and the last departures.
+/// blocks of an earlier run stay, of which these are the fates and the last departures. It refuses for want of
+/// memory alone.
 pub fn delayed_again<L: Ledger>(
     alloc: Global,
     rows: &Rows,

@@ -25,7 +25,7 @@ use std::sync::ledger::Ledger;
 
 /// When the jobs behind so many first blocks depart from a fork-join, in ticks, and the latest departure from each of its
 /// servers behind each of their blocks, where those first blocks of an earlier run stay, of which these are the latest
-/// departures. Of the other jobs it reads nothing.
+/// departures. Of the other jobs it reads nothing. It refuses for want of memory alone.
 pub fn branched_behind<L: Ledger>(
     alloc: Global,
     rows: &Rows,

@@ -20,7 +20,7 @@ use std::sync::ledger::Ledger;
 
 /// When the jobs behind so many first blocks depart from a server, in ticks, and the last departure behind each of their
 /// blocks, where those first blocks of an earlier run stay, of which these are the last departures. Of the other jobs it
-/// reads nothing.
+/// reads nothing. It refuses for want of memory alone.
 pub fn served_behind<L: Ledger>(
     alloc: Global,
     rows: &Rows,

@@ -29,7 +29,7 @@ pub struct Rerouted {
 }
 
 /// What leaves a split, where so many first blocks of an earlier run stay, of which these are the outputs of all jobs and
-/// of the last of each block.
+/// of the last of each block. It refuses for want of memory alone.
 pub fn routed_again<L: Ledger>(
     alloc: Global,
     rows: &Rows,

@@ -22,7 +22,7 @@ use std::sync::ledger::Ledger;
 
 /// When the jobs behind so many first blocks depart from a tandem, in ticks, and the latest departures from its stages behind
 /// each of their blocks, where those first blocks of an earlier run stay, of which these are the latest departures. Of the
-/// other jobs it reads nothing.
+/// other jobs it reads nothing. It refuses for want of memory alone.
 pub fn staged_behind<L: Ledger>(
     alloc: Global,
     rows: &Rows,

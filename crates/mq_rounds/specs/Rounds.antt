@@ -16,13 +16,6 @@ admits (Departs time) = true
 admits Lost = false
 admits Held = true
 
--- when those that are admitted depart, by position
-abbrev pub departures_in : List Fate → List ℕ
-departures_in [] = []
-departures_in (Departs time ∷ fates) = time ∷ departures_in fates
-departures_in (Lost ∷ fates) = departures_in fates
-departures_in (Held ∷ fates) = departures_in fates
-
 -- the fate of each arrival, by whether it is admitted and the departures of those that are, by position
 abbrev pub fates_by : List Bool → List ℕ → List Fate
 fates_by [] departs = []

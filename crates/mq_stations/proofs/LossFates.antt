@@ -6,6 +6,7 @@ use Rattle.std.proofs.lemmas.Bool.{and_parts}
 use Rattle.std.proofs.lemmas.Bool.Decides.{nat_tests}
 use Rattle.std.proofs.lemmas.List.{append-nil, drop_all, length-map}
 use Rattle.mq_base.proofs.lemmas.Lists.{drop_suc}
+use Rattle.mq_core.specs.Fates.{departure_times}
 use Rattle.mq_core.specs.Came.{came_in}
 use Rattle.mq_core.specs.SequenceLaws.{FatesAreInTime}
 use Rattle.mq_core.specs.Sequences.{sequence_fates}
@@ -23,7 +24,7 @@ use Rattle.mq_core.specs.declared.model.Rows.{Rows}
 use Rattle.mq_core.specs.declared.model.Stream.{Stream}
 use Rattle.mq_core.proofs.lemmas.Over.{IsOver, loss-over}
 use Rattle.mq_loss.specs.Rounds.{IsSettled}
-use Rattle.mq_rounds.specs.Rounds.{admits, departures_in, fates_by}
+use Rattle.mq_rounds.specs.Rounds.{admits, fates_by}
 use Rattle.mq_rounds.proofs.lemmas.Fates.{admitted-leave, fates-back, lost-leave}
 use Rattle.mq_rounds.specs.declared.settled.Settled.{Settled}
 use Rattle.mq_stations.specs.Losses.{AreAdmittedAndLost, out_of_admission}
@@ -131,7 +132,7 @@ outs-back (Lost ∷ fates) = ap (λ l. 1 ∷ l) (outs-back fates)
 outs-back (Held ∷ fates) = ap (λ l. 0 ∷ l) (outs-back fates)
 
 -- as many depart as leave by output 0
-admitted-many : (job : List ℕ) (fates : List Fate) → length fates ≡ length job → Each IsOver fates → length (departures_in fates) ≡ length (picked 0 (map out_of_admission (map admits fates)) job)
+admitted-many : (job : List ℕ) (fates : List Fate) → length fates ≡ length job → Each IsOver fates → length (departure_times fates) ≡ length (picked 0 (map out_of_admission (map admits fates)) job)
 admitted-many job [] e o = refl
 admitted-many [] (fate ∷ fates) e o = absurd (omega arith)
 admitted-many (one ∷ job) (Departs departs ∷ fates) e o = ap suc (admitted-many job fates (omega arith) o.1)
@@ -183,7 +184,7 @@ loses law rows places demand arrivals demands settled fates streams even m s f e
     outs = ap (map out_of_admission) s.admitted ∙ (outs-back (loss_fates places [] arrivals.time demands) ∙ ap (map out_of_fate) same)
 
     departs : settled.departs ≡ picked 0 (map out_of_fate those) (leaving_times arrivals.time those)
-    departs = s.departs ∙ (ap departures_in same ∙ sym (admitted-leave arrivals.time those many (loss-over places [] arrivals.time (map (demand_of_job rows demand) arrivals.job))))
+    departs = s.departs ∙ (ap departure_times same ∙ sym (admitted-leave arrivals.time those many (loss-over places [] arrivals.time (map (demand_of_job rows demand) arrivals.job))))
 
     first : ◌≡◌ {A = Stream} (record { job = picked 0 (map out_of_admission settled.admitted) arrivals.job; time = settled.departs }) (left_by rows (Loss places demand) arrivals 0)
     first = λ k. record { job = picked 0 (outs k) arrivals.job; time = departs k }

@@ -1,6 +1,7 @@
 -- What comes to a station and what leaves it, in sequences alone.
 use Rattle.std.specs.Prelude.{◌≡◌, ◌<◌, ◌≤◌, ◌^◌, ◌⊎◌, ℕ, IsTrue, List, length, map, Some, slice_get, true}
 use Rattle.std.specs.List.{AllByRecursion}
+use Rattle.mq_core.specs.Fates.{departure_times}
 use Rattle.mq_core.specs.Asked.{HasDemands}
 use Rattle.mq_core.specs.Came.{came_in}
 use Rattle.mq_core.specs.Kinds.Split.{HasRouteValue}
@@ -17,7 +18,7 @@ use Rattle.mq_core.specs.declared.model.Kind.TheVariants.{Loss, Trunk}
 use Rattle.mq_core.specs.declared.model.Route.{Route}
 use Rattle.mq_core.specs.declared.model.Rows.{Rows}
 use Rattle.mq_core.specs.declared.model.Stream.{Stream}
-use Rattle.mq_rounds.specs.Rounds.{admits, departures_in, fates_by}
+use Rattle.mq_rounds.specs.Rounds.{admits, fates_by}
 use Rattle.mq_rounds.specs.declared.settled.Settled.{Settled}
 use Rattle.mq_stations.specs.declared.outflow.Left.{Left}
 use Rattle.mq_stations.specs.declared.outflow.Left.TheVariants.{Departures, Settled as TheSettled, Streams}
@@ -92,7 +93,7 @@ MayLose kind = ((places : ℕ) × (demand : Demand) × (kind ≡ Loss places dem
 pub record AreSettled (rows : Rows) (kind : Kind) (arrivals : Stream) (settled : Settled) : Type 0 where
   pub loses : MayLose kind
   pub admitted : settled.admitted ≡ map admits (sequence_fates rows kind (came_in arrivals))
-  pub departs : settled.departs ≡ departures_in (sequence_fates rows kind (came_in arrivals))
+  pub departs : settled.departs ≡ departure_times (sequence_fates rows kind (came_in arrivals))
   pub fates : fates_by settled.admitted settled.departs ≡ sequence_fates rows kind (came_in arrivals)
 
 -- what leaves a station of this kind: when its jobs depart; which are admitted and when those do; or the fate of each and what

@@ -1,7 +1,7 @@
 -- The departures of fates of jobs that all depart: for the proofs of mq_exits too.
 use Rattle.std.proofs.Common.{◌≡◌, ℕ, List, [], ◌∷◌, map, refl, ap}
+use Rattle.mq_core.specs.Fates.{departure_times}
 use Rattle.mq_core.specs.declared.model.Fate.TheVariants.{Departs}
-use Rattle.mq_stats.specs.Ahead.{departure_times}
 
 pub departures-of : (times : List ℕ) → departure_times (map (λ t. Departs t) times) ≡ times
 departures-of [] = refl

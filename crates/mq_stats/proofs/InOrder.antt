@@ -7,6 +7,7 @@ use Rattle.std.proofs.lemmas.List.Sums.{sum_by-append}
 use Rattle.mq_base.proofs.lemmas.Each.{Each-append, Each-weaker}
 use Rattle.mq_base.proofs.lemmas.Lists.{take-at}
 use Rattle.mq_core.proofs.lemmas.Rising.{Rises-append}
+use Rattle.mq_core.specs.Fates.{departure_times}
 use Rattle.mq_core.specs.Laws.{Rises}
 use Rattle.mq_core.specs.OnceOut.{departs_after}
 use Rattle.mq_core.specs.declared.model.Fate.{Fate}
@@ -14,7 +15,6 @@ use Rattle.mq_core.specs.declared.model.Fate.TheVariants.{Departs, Held, Lost}
 use Rattle.mq_stats.proofs.Founds.{count-next, rises-at}
 use Rattle.mq_stats.proofs.Passing.{passed-later, up_to}
 use Rattle.mq_stats.proofs.Telling.{count-departures, there}
-use Rattle.mq_stats.specs.Ahead.{departure_times}
 use Rattle.mq_stats.specs.Departures.{departures_rise, stays}
 
 -- where an earlier one departs later, they don't rise
@@ -31,14 +31,6 @@ pub record AreGoing (fates : List Fate) (latest : ℕ) (departs : List ℕ) : Ty
   pub many : length departs ≡ count_by stays fates
   pub order : Rises (λ a b. a ≤ b) departs
   pub most : Each (λ t. t ≤ latest) departs
-
-pub going-none : (departs : List ℕ) → departs ≡ [] → AreGoing [] 0 departs
-going-none departs e = record {
-  times = e;
-  many = ap length e;
-  order = subst (Rises (λ a b. a ≤ b)) (sym e) tt;
-  most = subst (Each (λ t. t ≤ 0)) (sym e) tt;
-}
 
 times-append : (fates more : List Fate) → departure_times (fates ++ more) ≡ departure_times fates ++ departure_times more
 times-append [] more = refl

@@ -53,9 +53,6 @@ services-end rows kind jobs fates i l = ap (λ rest. sequence_services rows kind
 pub sojourns-end : (span : ℕ) (arrives : List ℕ) (fates : List Fate) (i : ℕ) → length arrives ≤ i → sequence_sojourns span (drop i arrives) (drop i fates) ≡ []
 sojourns-end span arrives fates i l = ap (λ rest. sequence_sojourns span rest (drop i fates)) (drop_all i arrives l)
 
-pub numbers-end : (founds : List ℕ) (fates : List Fate) (i : ℕ) → length founds ≤ i → numbers_of (drop i founds) (drop i fates) ≡ []
-numbers-end founds fates i l = ap (λ rest. numbers_of rest (drop i fates)) (drop_all i founds l)
-
 pub leaves-at : (rows : Rows) (jobs times : List ℕ) (i job time : ℕ) → slice_get jobs i ≡ Some job → slice_get times i ≡ Some time →
     stream_sojourns rows (drop i jobs) (drop i times) ≡ (time - slice_index rows.time job) ∷ stream_sojourns rows (drop (i + 1) jobs) (drop (i + 1) times)
 leaves-at rows jobs times i job time j t = λ k. stream_sojourns rows (drop_at jobs i job j k) (drop_at times i time t k)

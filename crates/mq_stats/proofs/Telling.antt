@@ -15,6 +15,7 @@ use Rattle.mq_base.proofs.lemmas.Each.{Each-weaker}
 use Rattle.mq_base.proofs.lemmas.Counts.{count-cons}
 use Rattle.mq_core.proofs.lemmas.Rising.{Rises-in_order_of}
 use Rattle.mq_core.proofs.lemmas.Rising.{Rises-drop}
+use Rattle.mq_core.specs.Fates.{departure_times}
 use Rattle.mq_core.specs.SequenceLaws.{LeavesFrom}
 use Rattle.mq_core.specs.OnceOut.{departs_after, founds_from, founds_of}
 use Rattle.mq_core.specs.Streams.{by_first}
@@ -24,7 +25,7 @@ use Rattle.mq_core.specs.declared.model.Fate.TheVariants.{Departs, Held, Lost}
 use Rattle.mq_stats.proofs.Founds.{founds-next, rises-at}
 use Rattle.mq_stats.proofs.Ordered.{as-many}
 use Rattle.mq_stats.proofs.Passing.{none-passed, passed-later, passed-yes, rises-get, up_to}
-use Rattle.mq_stats.specs.Ahead.{AreCountsBefore, IsAhead, departure_times, leaves_at_once, departure_order}
+use Rattle.mq_stats.specs.Ahead.{AreCountsBefore, IsAhead, leaves_at_once, departure_order}
 use Rattle.mq_stats.specs.Departures.{departures_from, stays}
 use Rattle.mq_stats.specs.declared.pieces.AheadTable.{AheadTable}
 

@@ -1,6 +1,7 @@
 -- What is worked out ahead, so that what the visits at some indices found can be told from it alone.
-use Rattle.std.specs.Prelude.{◌≡◌, ℕ, ◌+◌, ◌≤◌, ◌==◌, Bool, false, List, [], ◌∷◌, count_by, length, take, slice_get, Some}
+use Rattle.std.specs.Prelude.{◌≡◌, ℕ, ◌+◌, ◌≤◌, ◌==◌, Bool, false, List, count_by, length, take, slice_get, Some}
 use Rattle.std.specs.List.{AllByRecursion, zip}
+use Rattle.mq_core.specs.Fates.{departure_times}
 use Rattle.mq_core.specs.SequenceLaws.{LeavesFrom}
 use Rattle.mq_core.specs.Laws.{Rises, in_order_of}
 use Rattle.mq_core.specs.declared.model.Fate.{Fate}
@@ -14,13 +15,6 @@ pub record AreComings (arrive : List ℕ) (fate : List Fate) : Type 0 where
   pub few : length arrive ≤ 1048576
   pub rising : Rises (λ a b. a ≤ b) arrive
   pub later : AllByRecursion (λ (p : ℕ × Fate). LeavesFrom p.0 p.1) (zip arrive fate)
-
--- the departures, by position
-abbrev pub departure_times : List Fate → List ℕ
-departure_times [] = []
-departure_times (Departs time ∷ fates) = time ∷ departure_times fates
-departure_times (Lost ∷ fates) = departure_times fates
-departure_times (Held ∷ fates) = departure_times fates
 
 -- the departures in order
 abbrev pub departure_order : List Fate → List ℕ

@@ -39,7 +39,7 @@ pub fn count_waits(table: &mut [u32], waits: &[u64])
     }
 }
 
-/// The counts of no waits.
+/// The counts of no waits. It refuses for want of memory alone.
 pub fn no_counts(alloc: Global) -> Result<WaitCounts, OutOfMemory>
     ensures { IfOk result (AreWaitCounts []) }
 {

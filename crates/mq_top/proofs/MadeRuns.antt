@@ -24,11 +24,6 @@ accepted_answer model trace wanted a =
     ap (model_answer model trace wanted) a.model
     ∙ (ap (trace_answer (network_in model) trace wanted) a.trace ∙ ap (run_answer (network_in model) (rows_in (network_in model) trace) wanted) a.run)
 
--- the same texts are accepted too
-pub same_accepted : (model trace model' trace' : List ℕ) → model' ≡ model → trace' ≡ trace → IsAccepted model trace → IsAccepted model' trace'
-same_accepted model trace model' trace' m t accepted =
-    subst (λ text. IsAccepted text trace') (sym m) (subst (λ text. IsAccepted model text) (sym t) accepted)
-
 -- a run ends with none of a refusal
 pub made_outcome : (model trace : List ℕ) (wanted : Wanted) (o : Outcome) (t : Taken) → IsAccepted model trace → Ends (answer model trace wanted) o t → ((second : Bool) → o ≢ ReadFault second) → IsOfMade o
 made_outcome model trace wanted o t a ends unread = go o (subst (λ b. Ends b o t) (accepted_answer model trace wanted a) ends) unread

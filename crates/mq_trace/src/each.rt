@@ -15,7 +15,7 @@ use mq_crew::{Open, Pieces, made};
 use std::alloc::Global;
 use std::thread::Threads;
 
-/// A text in pieces, of which each is read by itself. The header is the first record of the first.
+// A text in pieces, of which each is read by itself. The header is the first record of the first.
 #[derive(Drop)]
 struct TracePieces<'a> {
     pieces: &'a [&'a [u8]],

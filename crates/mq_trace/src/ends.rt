@@ -9,7 +9,7 @@ use mq_crew::{Open, Pieces, made};
 use std::alloc::Global;
 use std::thread::Threads;
 
-/// Pieces of a text, of which each is read as if it began outside quotes.
+// Pieces of a text, of which each is read as if it began outside quotes.
 #[derive(Drop)]
 struct Ends<'a> {
     pieces: &'a [&'a [u8]],

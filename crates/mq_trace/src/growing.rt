@@ -15,7 +15,7 @@ pub struct GrowingRows {
     pub demands: Vec<List<u64>>,
 }
 
-/// Empty lists with room, one for each column.
+// Empty lists with room, one for each column.
 fn empty_lists(
     alloc: Global,
     columns: &[List<u8>],
@@ -30,7 +30,7 @@ fn empty_lists(
     Ok(lists)
 }
 
-/// Each list gains the value at its index.
+// Each list gains the value at its index.
 fn push_values(
     lists: &mut [List<u64>],
     indices: &[usize],

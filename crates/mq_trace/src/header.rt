@@ -25,21 +25,21 @@ pub struct Header {
     pub indices: Vec<usize>,
 }
 
-/// Whether one of these names is this one.
+// Whether one of these names is this one.
 fn is_listed(names: &[List<u8>], name: &[u8]) -> bool
     ensures { result ≡ is_among names.now name.now }
 {
     names.iter().any(|other| other.as_slice() == name)
 }
 
-/// The same, of names in a text.
+// The same, of names in a text.
 fn is_seen(names: &[&[u8]], name: &[u8]) -> bool
     ensures { result ≡ list_any (λ other. bytes_eq other.now name.now) names.now }
 {
     names.iter().any(|other| *other == name)
 }
 
-/// Where a name stands among these, if it does.
+// Where a name stands among these, if it does.
 fn index_among(names: &[&[u8]], name: &[u8]) -> Option<usize>
     ensures { result ≡ position (λ other. bytes_eq other.now name.now) names.now }
 {
@@ -47,7 +47,7 @@ fn index_among(names: &[&[u8]], name: &[u8]) -> Option<usize>
 }
 
 #[tactic(auto, using(crate::proofs::TraceFacts::field_at_is))]
-/// Whether a record has this field at an index.
+// Whether a record has this field at an index.
 fn has_field(row: &ByteRecord, index: usize, name: &[u8]) -> bool
     ensures { result ≡ (nat_lt index (length (fields_of row.now)) && bytes_eq (field_of (fields_of row.now) index) name.now) }
 {
@@ -57,7 +57,7 @@ fn has_field(row: &ByteRecord, index: usize, name: &[u8]) -> bool
     }
 }
 
-/// The name at an index of a header, behind these, if its field isn't faulty.
+// The name at an index of a header, behind these, if its field isn't faulty.
 fn column_name<'a>(
     row: &'a ByteRecord,
     index: usize,
@@ -82,7 +82,7 @@ fn column_name<'a>(
 }
 
 #[tactic(auto, using(crate::proofs::TraceFacts::column_steps), unfolding(crate::specs::Header::bad_header))]
-/// The columns of a header without a fault in its fields.
+// The columns of a header without a fault in its fields.
 fn read_columns<'a>(alloc: Global, row: &'a ByteRecord) -> Result<Vec<&'a [u8]>, TraceFault>
     ensures ok { IfOk result (λ v. (bad_header (fields_of row.now) ≡ None) × (map (λ s. s.now) v.items ≡ columns_of (fields_of row.now))) }
     ensures size { IfOk result (λ _. (2 ≤ length (fields_of row.now)) × (length (fields_of row.now) ≤ 18)) }
@@ -102,7 +102,7 @@ fn read_columns<'a>(alloc: Global, row: &'a ByteRecord) -> Result<Vec<&'a [u8]>,
     Ok(columns)
 }
 
-/// Of each column of a text, whether it is among these names.
+// Of each column of a text, whether it is among these names.
 fn listed(alloc: Global, names: &[List<u8>], columns: &[&[u8]]) -> Result<Vec<bool>, AllocError>
     ensures { IfOk result (λ v. v.items ≡ map (λ column. is_among names.now column.now) columns.now) }
 {
@@ -112,7 +112,7 @@ fn listed(alloc: Global, names: &[List<u8>], columns: &[&[u8]]) -> Result<Vec<bo
         .collect(alloc)
 }
 
-/// Of each column of the model, its index among these names of a text.
+// Of each column of the model, its index among these names of a text.
 fn indices_among(alloc: Global, net: &Network, names: &[&[u8]]) -> Result<Vec<usize>, TraceFault>
     requires { length net.now.columns ≤ 16 }
     ensures none { IfOk result (λ _. position (λ name. not (is_among (map (λ s. s.now) names.now) name)) net.now.columns ≡ None) }

@@ -13,7 +13,7 @@ use mq_core::{Network, Rows};
 use std::alloc::Global;
 use std::thread::Threads;
 
-/// The fault of a piece, where so many data records stand before it.
+// The fault of a piece, where so many data records stand before it.
 fn fault_behind(before: u32, fault: TraceFault) -> TraceFault
     requires { before ≤ 1048576 }
     ensures { result ≡ behind before fault }
@@ -34,8 +34,8 @@ fn fault_behind(before: u32, fault: TraceFault) -> TraceFault
     }
 }
 
-/// How many rows all pieces have. The first fault is that of the first piece that has one, unless there are too many
-/// rows before it.
+// How many rows all pieces have. The first fault is that of the first piece that has one, unless there are too many
+// rows before it.
 fn judge(read: &[Result<Rows, TraceFault>], net: &Network) -> Result<u32, TraceFault>
     requires { (text : List ℕ) × AreReadApart net.now text read.now }
     ensures columns { OnOk result (HaveColumns (length net.now.columns) read.now) }

@@ -52,7 +52,7 @@ impl<'a> Pieces for Lists<'a> {
     }
 }
 
-/// The sources of a piece. One with a fault has none.
+// The sources of a piece. One with a fault has none.
 fn sources_of(piece: &Result<Rows, TraceFault>) -> &[u32]
     ensures { result.now ≡ piece_sources piece.now }
 {
@@ -62,7 +62,7 @@ fn sources_of(piece: &Result<Rows, TraceFault>) -> &[u32]
     }
 }
 
-/// The times of a piece, at place 0, or behind them its values in a column.
+// The times of a piece, at place 0, or behind them its values in a column.
 fn numbers_of(piece: &Result<Rows, TraceFault>, place: usize) -> &[u64]
     requires { IfOk piece.now (λ rows. place ≤ length rows.demands) }
     ensures { result.now ≡ piece_numbers place piece.now }
@@ -74,7 +74,7 @@ fn numbers_of(piece: &Result<Rows, TraceFault>, place: usize) -> &[u64]
     }
 }
 
-/// The sources of all pieces.
+// The sources of all pieces.
 fn sources(alloc: Global, lists: &Lists) -> Result<List<u32>, OutOfMemory>
     ensures { IfOk result (λ list. list ≡ all_sources lists.now.read.now) }
 {
@@ -86,7 +86,7 @@ fn sources(alloc: Global, lists: &Lists) -> Result<List<u32>, OutOfMemory>
     Ok(all)
 }
 
-/// The numbers of all pieces at a place.
+// The numbers of all pieces at a place.
 fn numbers(alloc: Global, lists: &Lists, place: usize) -> Result<List<u64>, OutOfMemory>
     requires columns { HaveColumns lists.now.columns lists.now.read.now }
     requires inside { place ≤ lists.now.columns }

@@ -16,7 +16,7 @@ use csv::{ByteRecord, Reader};
 use mq_core::{Network, Rows};
 use std::alloc::Global;
 
-/// Passes over the first record that a reader has left, which is the header.
+// Passes over the first record that a reader has left, which is the header.
 fn pass_header(alloc: Global, reader: &mut Reader<&[u8]>) -> Result<(), TraceFault>
     requires between { IsBetween reader.old }
     requires some { 1 ≤ length (records_left reader.old) }
@@ -30,7 +30,7 @@ fn pass_header(alloc: Global, reader: &mut Reader<&[u8]>) -> Result<(), TraceFau
     Ok(())
 }
 
-/// The same as `read_piece`, by `csv`, which finds the first fault.
+// The same as `read_piece`, by `csv`, which finds the first fault.
 fn read_by_csv(
     alloc: Global,
     room: usize,

@@ -12,7 +12,7 @@ use mq_base::OutOfMemory;
 use std::alloc::Global;
 use std::thread::Threads;
 
-/// The index of the first line feed from an index on, or the end.
+// The index of the first line feed from an index on, or the end.
 fn line_from(text: &[u8], from: usize) -> usize
     requires { from ≤ length text.now }
     ensures within { result ≤ length text.now }
@@ -24,7 +24,7 @@ fn line_from(text: &[u8], from: usize) -> usize
     }
 }
 
-/// Cuts a text into as many pieces, of about one length. Each but the first is empty or begins with a line feed.
+// Cuts a text into as many pieces, of about one length. Each but the first is empty or begins with a line feed.
 fn cut_lines<'a>(alloc: Global, text: &'a [u8], count: u32) -> Result<Vec<&'a [u8]>, OutOfMemory>
     requires { 1 ≤ count }
     ensures len { IfOk result (λ v. vec_len v ≡ count) }
@@ -43,7 +43,7 @@ fn cut_lines<'a>(alloc: Global, text: &'a [u8], count: u32) -> Result<Vec<&'a [u
     Ok(pieces)
 }
 
-/// Whether a piece ends outside quotes, where it is known for the case that it begins outside them.
+// Whether a piece ends outside quotes, where it is known for the case that it begins outside them.
 fn ends_from(piece: &[u8], outside: bool, end: bool) -> bool
     requires { end ≡ is_closed true piece.now }
     ensures { result ≡ is_closed outside piece.now }
@@ -55,8 +55,8 @@ fn ends_from(piece: &[u8], outside: bool, end: bool) -> bool
     }
 }
 
-/// The pieces of a text, of which each that begins within quotes is put behind the one before it. Where the last one ends
-/// isn't asked.
+// The pieces of a text, of which each that begins within quotes is put behind the one before it. Where the last one ends
+// isn't asked.
 fn merge_quoted<'a>(
     alloc: Global,
     text: &'a [u8],

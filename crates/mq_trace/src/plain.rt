@@ -29,14 +29,14 @@ pub struct PlainRow<'a> {
     pub rest: &'a [u8],
 }
 
-/// Whether a field that no quotes stand around may have this byte.
+// Whether a field that no quotes stand around may have this byte.
 fn is_plain_byte(byte: u8) -> bool
     ensures { result ≡ is_plain byte }
 {
     byte != b'"' && !ends_field(byte)
 }
 
-/// How many bytes of a field a text begins with.
+// How many bytes of a field a text begins with.
 fn field_length(text: &[u8]) -> usize
     ensures at { result ≡ prefix_len is_plain text.now }
     ensures within { result ≤ length text.now }
@@ -70,7 +70,7 @@ pub fn split_field(text: &[u8]) -> Option<(&[u8], &[u8])>
     Some(text.split_at(field_length(text)))
 }
 
-/// How many digits a text begins with, of which at most 19 are taken, and their value.
+// How many digits a text begins with, of which at most 19 are taken, and their value.
 fn leading_digits(text: &[u8]) -> (usize, u64)
     ensures within { result.0 ≤ length text.now }
     ensures few { result.0 ≤ 19 }
@@ -88,8 +88,8 @@ fn leading_digits(text: &[u8]) -> (usize, u64)
     (most, value)
 }
 
-/// The number that a text begins with, and what stands behind it. Nothing where there is no digit or the number is
-/// greater than the limit. Of more than 19 digits the others stand behind it.
+// The number that a text begins with, and what stands behind it. Nothing where there is no digit or the number is
+// greater than the limit. Of more than 19 digits the others stand behind it.
 fn split_number(text: &[u8], limit: u64) -> Option<(u64, &[u8])>
     ensures { IfSome result (λ p. (digits : List ℕ) × (text.now ≡ digits ++ p.1.now) × (number_of digits limit ≡ Some p.0)) }
 {
@@ -133,8 +133,8 @@ pub fn behind_first(text: &[u8]) -> Option<&[u8]>
     }
 }
 
-/// The field behind a comma, of which this is the text, and what stands behind it. Where the model reads its column the
-/// number goes into `value`.
+// The field behind a comma, of which this is the text, and what stands behind it. Where the model reads its column the
+// number goes into `value`.
 fn column_field<'a>(text: &'a [u8], reads: bool, value: &mut u64) -> Option<&'a [u8]>
     ensures { IfSome result (λ rest. IsColumnField reads value.new text.now rest.now) }
 {

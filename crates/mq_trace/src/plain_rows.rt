@@ -16,7 +16,7 @@ use mq_base::OutOfMemory;
 use mq_core::{Network, Rows};
 use std::alloc::Global;
 
-/// The text of the data records of a piece, where the header is plain.
+// The text of the data records of a piece, where the header is plain.
 fn data_text(at: usize, piece: &[u8]) -> Option<&[u8]>
     ensures { IfSome result (λ text. piece_data at piece.now ≡ records_at st.StartRecord text.now) }
 {
@@ -28,7 +28,7 @@ fn data_text(at: usize, piece: &[u8]) -> Option<&[u8]>
     }
 }
 
-/// Reads the records of a text. It is not inlined, so that its loop has the registers to itself.
+// Reads the records of a text. It is not inlined, so that its loop has the registers to itself.
 #[inline(never)]
 fn plain_rows(
     alloc: Global,

@@ -27,7 +27,7 @@ pub struct SourceField<'a> {
     pub rest: &'a [u8],
 }
 
-/// The source of a record, which is looked up in the network.
+// The source of a record, which is looked up in the network.
 fn new_source<'a>(text: &'a [u8], net: &Network) -> Option<SourceField<'a>>
     requires { length net.now.nodes < 2 ^ 32 }
     ensures { IfSome result (λ field. IsSourceOf net.now text.now field.source field.rest.now) }

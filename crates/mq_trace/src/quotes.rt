@@ -24,7 +24,7 @@ pub fn ends_field(byte: u8) -> bool
     byte == b',' || byte == b'\r' || byte == b'\n'
 }
 
-/// The place behind bytes without a quote.
+// The place behind bytes without a quote.
 fn place_behind_bytes(place: Place, bytes: &[u8]) -> Place
     requires { has_quote bytes.now ≡ false }
     ensures { (front : List ℕ) → place_after front ≡ place → place_after (front ++ bytes.now) ≡ result }
@@ -39,7 +39,7 @@ fn place_behind_bytes(place: Place, bytes: &[u8]) -> Place
     }
 }
 
-/// The place behind a quote.
+// The place behind a quote.
 fn place_behind_quote(place: Place) -> Place
     ensures { (front : List ℕ) → place_after front ≡ place → place_after (front ++ 34 ∷ []) ≡ result }
 {
@@ -50,7 +50,7 @@ fn place_behind_quote(place: Place) -> Place
     }
 }
 
-/// Whether a place is outside quotes.
+// Whether a place is outside quotes.
 fn stands_outside(place: Place) -> bool
     ensures { result ≡ is_outside place }
 {

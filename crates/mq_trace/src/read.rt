@@ -28,7 +28,7 @@ const PIECE_BYTES: usize = 65_536;
 // So many pieces for each worker, so that none waits long for another.
 const PIECES_EACH: u32 = 4;
 
-/// Reads the first record of a text, if it has one.
+// Reads the first record of a text, if it has one.
 fn first_record(alloc: Global, text: &[u8], row: &mut ByteRecord) -> Result<bool, TraceFault>
     ensures found { IfOk result (λ found. MatchBool found ((more : List Record) × (text_records text.now ≡ fields_of row.new ∷ more)) (text_records text.now ≡ [])) }
     ensures memory { IfErr result (λ e. e ≡ TraceFault.Memory) }
@@ -37,7 +37,7 @@ fn first_record(alloc: Global, text: &[u8], row: &mut ByteRecord) -> Result<bool
     next_record(&mut reader, row)
 }
 
-/// Reads a text whose first record is the header.
+// Reads a text whose first record is the header.
 fn read_whole(alloc: Global, text: &[u8], net: &Network) -> Result<Rows, TraceFault>
     requires nodes { length net.now.nodes < 2 ^ 32 }
     requires columns { length net.now.columns ≤ 16 }
@@ -62,7 +62,7 @@ fn read_whole(alloc: Global, text: &[u8], net: &Network) -> Result<Rows, TraceFa
     }
 }
 
-/// What is read of each piece of a text. Nothing, where the first has no record: the header stands in a later one.
+// What is read of each piece of a text. Nothing, where the first has no record: the header stands in a later one.
 fn read_apart<R: Threads + Sync>(
     rt: &R,
     alloc: Global,
@@ -100,7 +100,7 @@ fn read_apart<R: Threads + Sync>(
     }
 }
 
-/// The same, where a text is cut into so many pieces.
+// The same, where a text is cut into so many pieces.
 fn read_pieces<R: Threads + Sync>(
     rt: &R,
     alloc: Global,
@@ -168,7 +168,7 @@ fn take_text<R: Threads + Sync>(
     }
 }
 
-/// How many pieces a text is cut into. One worker reads it whole.
+// How many pieces a text is cut into. One worker reads it whole.
 fn pieces_for(workers: u32, len: usize) -> u32 {
     if workers == 1 {
         return 1;
@@ -177,7 +177,7 @@ fn pieces_for(workers: u32, len: usize) -> u32 {
     (len / PIECE_BYTES).min(most as usize) as u32
 }
 
-/// The fault that a text has whatever its records are: its length, or two byte order marks.
+// The fault that a text has whatever its records are: its length, or two byte order marks.
 fn fault_before(text: &[u8]) -> Option<TraceFault>
     ensures some { IfSome result (λ fault. (net : Network) → trace_fault net text.now ≡ Some fault) }
     ensures none { IfNone result ((net : Network) → trace_fault net text.now ≡ records_fault net (text_records text.now)) }

@@ -15,7 +15,7 @@ use csv::ByteRecord;
 use mq_base::read_number;
 use mq_core::{Network, Node, is_source};
 
-/// Whether a node is the source of this name.
+// Whether a node is the source of this name.
 fn is_source_named(node: &Node, name: &[u8]) -> bool
     ensures { result ≡ (is_source_kind node.now.kind && bytes_eq node.now.name name.now) }
 {
@@ -33,7 +33,7 @@ pub fn find_source(net: &Network, name: &[u8]) -> Option<usize>
 }
 
 #[tactic(auto, using(crate::proofs::TraceFacts::value_steps))]
-/// Puts the numbers that the model reads at their indices, or answers the number of the least field that is none.
+// Puts the numbers that the model reads at their indices, or answers the number of the least field that is none.
 fn read_values(row: &ByteRecord, net: &Network, header: &Header, values: &mut [u64]) -> Option<u32>
     requires header { IsHeaderOf net.now header.now }
     requires len { length (fields_of row.now) ≡ length (fields_of header.now.names) }

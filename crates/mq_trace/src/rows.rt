@@ -36,8 +36,8 @@ pub fn room_for(text: &[u8]) -> usize {
     rows.saturating_add(rows / 16).min(MOST_ROWS as usize)
 }
 
-/// Puts the data records that are left into rows, of which there are none yet. The last turn of the loop is the record
-/// that is one too many.
+// Puts the data records that are left into rows, of which there are none yet. The last turn of the loop is the record
+// that is one too many.
 fn take_rows(
     reader: &mut Reader<&[u8]>,
     net: &Network,

@@ -1,11 +1,12 @@
 -- The fates of a trunk group are those of its rule.
 use Rattle.std.proofs.Common.{◌≡◌, ℕ, ◌+◌, List, [], ◌∷◌, length, map, refl, sym, ap, ◌∙◌}
 use Rattle.std.specs.Prelude.{if◌then◌else◌}
+use Rattle.mq_core.specs.Fates.{departure_times}
 use Rattle.mq_core.specs.Recurrences.{finds_server, trunk_fates}
 use Rattle.mq_core.specs.declared.model.Fate.{Fate}
 use Rattle.mq_core.specs.declared.model.Fate.TheVariants.{Departs, Lost}
 use Rattle.mq_trunk.specs.Rounds.{admission, departure_at_once, trunk_rule}
-use Rattle.mq_rounds.specs.Rounds.{admission_of, admits, departures_in, departures_of, fates_from}
+use Rattle.mq_rounds.specs.Rounds.{admission_of, admits, departures_of, fates_from}
 use Rattle.mq_rounds.proofs.lemmas.Fates.{fates-each}
 use Rattle.mq_rounds.proofs.lemmas.Guesses.{admission-departs}
 
@@ -21,8 +22,8 @@ admission-is servers = λ k times demands. map admits (trunk-fates servers [] ti
 
 -- the departures of those that are admitted are those that the admission gives
 pub departures-are : (servers : ℕ) (times demands : List ℕ) → length demands ≡ length times →
-    departures_of departure_at_once times demands (admission_of (trunk_rule servers) times demands) ≡ departures_in (trunk_fates servers [] times demands)
-departures-are servers times demands d = sym (admission-departs (trunk_rule servers) [] times demands d) ∙ ap departures_in (trunk-fates servers [] times demands)
+    departures_of departure_at_once times demands (admission_of (trunk_rule servers) times demands) ≡ departure_times (trunk_fates servers [] times demands)
+departures-are servers times demands d = sym (admission-departs (trunk_rule servers) [] times demands d) ∙ ap departure_times (trunk-fates servers [] times demands)
 
 -- there is one an arrival
 pub trunk-each : (servers : ℕ) (times demands : List ℕ) → length demands ≡ length times → length (trunk_fates servers [] times demands) ≡ length times

@@ -3,6 +3,7 @@ use Rattle.std.proofs.Common.{◌≡◌, ℕ, suc, ◌≤◌, Bool, true, false,
 use Rattle.std.specs.List.{AllByRecursion as Each, zip}
 use Rattle.std.proofs.lemmas.List.{length-map}
 use Rattle.mq_core.proofs.lemmas.Orders.{is-sorted}
+use Rattle.mq_core.specs.Fates.{departure_times}
 use Rattle.mq_core.specs.Laws.{Rises}
 use Rattle.mq_core.specs.OnceOut.{leaving_times, out_of_fate}
 use Rattle.mq_core.specs.Recurrences.{trunk_fates}
@@ -15,7 +16,7 @@ use Rattle.mq_core.proofs.lemmas.Over.{IsOver, trunk-over}
 use Rattle.mq_merge.proofs.Merging.{by_first-rises}
 use Rattle.mq_trunk.specs.Parts.{AreAdmitted, lost_of, of_admitted, of_lost, trunk_stream}
 use Rattle.mq_trunk.proofs.Fates.{trunk-each}
-use Rattle.mq_rounds.specs.Rounds.{admits, departures_in}
+use Rattle.mq_rounds.specs.Rounds.{admits}
 use Rattle.mq_rounds.proofs.lemmas.Fates.{admitted-leave, lost-leave}
 
 -- those that are admitted leave by output 0, and the others by output 1
@@ -63,7 +64,7 @@ stays-sorted stream s = is-sorted stream stream s (sym (by_first-rises stream.ti
 
 -- the jobs that are admitted, by departure, are what leaves by output 0
 pub leaves-first : (servers : ℕ) (arrivals leaving : Stream) (demands : List ℕ) (admitted : List Bool) (departs : List ℕ) → length demands ≡ length arrivals.time → IsStream leaving →
-    admitted ≡ map admits (trunk_fates servers [] arrivals.time demands) → departs ≡ departures_in (trunk_fates servers [] arrivals.time demands) →
+    admitted ≡ map admits (trunk_fates servers [] arrivals.time demands) → departs ≡ departure_times (trunk_fates servers [] arrivals.time demands) →
     pairs_of leaving ≡ by_first (zip departs (of_admitted admitted arrivals.job)) → leaving ≡ trunk_stream servers arrivals demands 0
 leaves-first servers arrivals leaving demands admitted departs d s a t e =
     let fates : List Fate = trunk_fates servers [] arrivals.time demands in
@@ -88,7 +89,7 @@ admitted-even servers arrivals demands admitted departs h =
     ap length h.admission ∙ (length-map fates admits ∙ trunk-each servers arrivals.time demands h.each)
 
 -- and a departure for each that is admitted
-many-admitted : (fates : List Fate) (jobs : List ℕ) → length fates ≡ length jobs → Each IsOver fates → length (departures_in fates) ≡ length (of_admitted (map admits fates) jobs)
+many-admitted : (fates : List Fate) (jobs : List ℕ) → length fates ≡ length jobs → Each IsOver fates → length (departure_times fates) ≡ length (of_admitted (map admits fates) jobs)
 many-admitted [] jobs e o = refl
 many-admitted (fate ∷ fates) [] e o = absurd (omega arith)
 many-admitted (Departs time ∷ fates) (job ∷ jobs) e o = ap suc (many-admitted fates jobs (omega arith) o.1)

@@ -1,12 +1,13 @@
 -- What a trunk group settles: the fates of the arrivals, and what leaves by each output.
 use Rattle.std.specs.Prelude.{◌≡◌, ℕ, Bool, true, false, List, [], ◌∷◌, length, map}
+use Rattle.mq_core.specs.Fates.{departure_times}
 use Rattle.mq_core.specs.Came.{came_in}
 use Rattle.mq_core.specs.EmissionOrder.EmissionOrder.{Overtaking}
 use Rattle.mq_core.specs.OnceOut.{once_out, out_of_fate}
 use Rattle.mq_core.specs.Recurrences.{trunk_fates}
 use Rattle.mq_core.specs.Sequences.{IsStream}
 use Rattle.mq_core.specs.declared.model.Stream.{Stream}
-use Rattle.mq_rounds.specs.Rounds.{departures_in, fates_by}
+use Rattle.mq_rounds.specs.Rounds.{fates_by}
 use Rattle.mq_trunk.specs.Rounds.{admission}
 use Rattle.mq_trunk.specs.declared.answer.Trunk.{Trunk}
 use Rattle.mq_trunk.specs.declared.settling.Parts.{Parts as TheParts}
@@ -40,7 +41,7 @@ pub record AreAdmitted (servers : ℕ) (arrivals : Stream) (demands : List ℕ) 
   pub ordered : IsStream arrivals
   pub each : length demands ≡ length arrivals.time
   pub admission : admitted ≡ admission servers arrivals.time demands
-  pub departures : departs ≡ departures_in (trunk_fates servers [] arrivals.time demands)
+  pub departures : departs ≡ departure_times (trunk_fates servers [] arrivals.time demands)
   pub fates : fates_by admitted departs ≡ trunk_fates servers [] arrivals.time demands
 
 -- what leaves it by each output, by time
@@ -54,7 +55,7 @@ pub record ArePartedBy (servers : ℕ) (arrivals : Stream) (demands : List ℕ) 
 -- and what leaves by each output, by time.
 pub record IsSettled (servers : ℕ) (arrivals : Stream) (demands : List ℕ) (trunk : Trunk) : Type 0 where
   pub admitted : trunk.admitted ≡ admission servers arrivals.time demands
-  pub departs : trunk.departs ≡ departures_in (trunk_fates servers [] arrivals.time demands)
+  pub departs : trunk.departs ≡ departure_times (trunk_fates servers [] arrivals.time demands)
   pub fates : fates_by trunk.admitted trunk.departs ≡ trunk_fates servers [] arrivals.time demands
   pub leaving : trunk.leaving ≡ trunk_stream servers arrivals demands 0
   pub lost : trunk.lost ≡ trunk_stream servers arrivals demands 1

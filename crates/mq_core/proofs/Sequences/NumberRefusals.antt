@@ -1,12 +1,11 @@
 -- That the refusal of a run is found in sequences.
-use Rattle.std.proofs.Common.{◌≡◌, ◌⊎◌, inl, inr, ℕ, zero, suc, ◌+◌, ◌<◌, ◌≤◌, List, [], ◌∷◌, ◌++◌, length, map, Option, Some, None, sym, refl, ap, ◌∙◌, subst, arith, slice_get, option_map}
-use Rattle.std.proofs.lemmas.Bool.{cases_lt}
+use Rattle.std.proofs.Common.{◌≡◌, ℕ, zero, suc, ◌+◌, ◌<◌, List, [], ◌∷◌, ◌++◌, length, map, Option, Some, None, sym, refl, ap, ◌∙◌, subst, arith, slice_get, option_map}
 use Rattle.std.proofs.lemmas.List.{length-map}
 use Rattle.mq_core.specs.Sequences.{sequence_late_from, sequence_refusal, visits_by_node}
 use Rattle.mq_core.specs.Machine.{Visit, State, Station}
 use Rattle.mq_core.specs.Local.{Local}
 use Rattle.mq_core.specs.Fates.{fate_of}
-use Rattle.mq_core.specs.NumberLaws.{FineGrows, RefusalIsFirst, RefusalIsNone}
+use Rattle.mq_core.specs.NumberLaws.{RefusalIsFirst, RefusalIsNone}
 use Rattle.mq_core.specs.Results.{Refusal, fates_from, first_of, first_some, late_fate, late_from, or_held, refusal_at, refusal_by, visits_of}
 use Rattle.mq_core.specs.StandardTable.{run_of}
 use Rattle.mq_core.specs.declared.model.Fate.{Fate}
@@ -75,16 +74,3 @@ refusal-is_first plan rows read rank v node refusal index here before first =
 
 pub refusal-is_none : RefusalIsNone
 refusal-is_none plan rows read fine = none-in (refused plan rows) plan.order (λ r u l at. refused-none plan rows u (λ n e. fine r u n l at e))
-
--- one node more
-pub fine-grows : FineGrows
-fine-grows plan rows rank v node index here before own r u n l at e = go (cases_lt r rank)
-  where
-    go : (r < rank) ⊎ (rank ≤ r) → sequence_refusal plan.net.bound u (visits_of n.kind ((run_of plan rows).stations u)) ≡ None
-    go (inl k) = before r u n k at e
-    go (inr k) =
-        let same : r ≡ rank = omega arith in
-        let node_same : v ≡ u = (let both = sym index ∙ (ap (slice_get plan.order) (sym same) ∙ at) in cc) in
-        let kind_same : node ≡ n = (let both = sym here ∙ (ap (slice_get plan.net.nodes) node_same ∙ e) in cc) in
-        subst (λ w. sequence_refusal plan.net.bound w (visits_of n.kind ((run_of plan rows).stations w)) ≡ None) node_same
-        (subst (λ (m : Node). sequence_refusal plan.net.bound v (visits_of m.kind ((run_of plan rows).stations v)) ≡ None) kind_same own)

@@ -109,14 +109,6 @@ tandeming-arrives_falls rows onward (stage ∷ stages) v local visits more (line
     let c = push-weight (length line.queue) (suc (length stages) + onward) line.done in
     omega arith
 
--- and brings one job in
-pub tandeming-arrives_more : (rows : Rows) (stages : List Stage) (v : ℕ) (local : Local) (visits more : List Visit) (lines : List Line) (emitted : List Emission) (fs : List Event) (now : ℕ) → Tandeming rows stages v visits lines emitted fs now →
-    held_in (tandem_arrives rows more local now stages lines).local.lines ≡ held_in lines + 1
-tandeming-arrives_more rows [] v local visits more lines emitted fs now h = absurd (let k = h.sound.some in omega arith)
-tandeming-arrives_more rows (stage ∷ stages) v local visits more [] emitted fs now h = absurd h.tidy
-tandeming-arrives_more rows (stage ∷ stages) v local visits more (line ∷ lines) emitted fs now h =
-    omega (arith, length-append line.queue (latest more ∷ []), held-cons (record line { queue = line.queue ++ latest more ∷ [] }) lines, held-cons line lines)
-
 module _ (rows : Rows) (v : ℕ) (visits : List Visit) (emitted : List Emission) (rank : ℕ → ℕ) (fs rest : List Event) (now ending position : ℕ) (first : earliest rank fs ≡ Some (Finish now v ending position, rest)) where
   -- a mark takes one finish
   marked-lighter : (onward : ℕ) (time : ℕ → ℕ → ℕ) (server came q : ℕ) (stages : List Stage) (lines : List Line) → ending ≡ server + q → q < length stages → Stages rows v Blocked visits time server came stages lines emitted fs now →

@@ -1,9 +1,10 @@
 -- How a round mends a guess, by induction on the arrivals.
 use Rattle.std.proofs.Common.{◌≡◌, ℕ, zero, suc, ◌+◌, Bool, true, false, List, [], ◌∷◌, length, take, map, refl, sym, ap, ◌∙◌, subst, arith}
 use Rattle.std.specs.Prelude.{if◌then◌else◌}
+use Rattle.mq_core.specs.Fates.{departure_times}
 use Rattle.mq_core.specs.declared.model.Fate.TheVariants.{Departs, Lost}
 use Rattle.mq_rounds.specs.Laws.{GuessesGrow, OneGuessStays}
-use Rattle.mq_rounds.specs.Rounds.{Rule, admission_from, admission_of, admits, departures_from, departures_in, fates_from, left_behind, round_from, round_of}
+use Rattle.mq_rounds.specs.Rounds.{Rule, admission_from, admission_of, admits, departures_from, fates_from, left_behind, round_from, round_of}
 
 by-verdict : (rule : Rule) (left : List ℕ) (arrive demand : ℕ) (arrives demands : List ℕ) (b : Bool) →
     map admits (if b then (Departs (rule.departs left arrive demand) ∷ fates_from rule (rule.departs left arrive demand ∷ left) arrives demands) else (Lost ∷ fates_from rule left arrives demands))
@@ -86,15 +87,15 @@ one-stays rule = λ times demands guess d g. (
 
 -- the departures of those that are admitted are those that the admission gives
 verdict-departs : (rule : Rule) (left : List ℕ) (arrive demand : ℕ) (arrives demands : List ℕ) (b : Bool) →
-    departures_in (fates_from rule (left_behind rule.departs b left arrive demand) arrives demands)
+    departure_times (fates_from rule (left_behind rule.departs b left arrive demand) arrives demands)
     ≡ departures_from rule.departs (left_behind rule.departs b left arrive demand) arrives demands (admission_from rule (left_behind rule.departs b left arrive demand) arrives demands) →
-    departures_in (if b then (Departs (rule.departs left arrive demand) ∷ fates_from rule (rule.departs left arrive demand ∷ left) arrives demands) else (Lost ∷ fates_from rule left arrives demands))
+    departure_times (if b then (Departs (rule.departs left arrive demand) ∷ fates_from rule (rule.departs left arrive demand ∷ left) arrives demands) else (Lost ∷ fates_from rule left arrives demands))
     ≡ departures_from rule.departs left (arrive ∷ arrives) (demand ∷ demands) (b ∷ admission_from rule (left_behind rule.departs b left arrive demand) arrives demands)
 verdict-departs rule left arrive demand arrives demands true h = ap (λ ds. rule.departs left arrive demand ∷ ds) h
 verdict-departs rule left arrive demand arrives demands false h = h
 
 pub admission-departs : (rule : Rule) (left times demands : List ℕ) → length demands ≡ length times →
-    departures_in (fates_from rule left times demands) ≡ departures_from rule.departs left times demands (admission_from rule left times demands)
+    departure_times (fates_from rule left times demands) ≡ departures_from rule.departs left times demands (admission_from rule left times demands)
 admission-departs rule left [] demands d = refl
 admission-departs rule left (arrive ∷ arrives) [] d = absurd (omega arith)
 admission-departs rule left (arrive ∷ arrives) (demand ∷ demands) d =

@@ -101,7 +101,8 @@ AreToldBy rows demand jobs = (k job : ℕ) → slice_get jobs k ≡ Some job →
 pub asked-each : (rows : Rows) (demand : Demand) (jobs : List ℕ) → AreToldBy rows demand jobs → AreAsked rows demand jobs
 asked-each rows demand jobs told k job g = (told k job g).0
 
-within : (low high n : ℕ) → is_within low high n ≡ true → (low ≤ n) × (n ≤ high)
+-- a number within two limits
+pub within : (low high n : ℕ) → is_within low high n ≡ true → (low ≤ n) × (n ≤ high)
 within low high n h =
     let e = (and_parts (nat_le low n) (nat_le n high) h).0 in
     let f = (and_parts (nat_le low n) (nat_le n high) h).1 in

@@ -27,19 +27,13 @@ use Rattle.mq_tandem.specs.Stages.{AreStages}
 use Rattle.mq_stations.specs.Scans.{AreBranchLoads, IsBranchLoad}
 use Rattle.mq_asked.specs.Demands.{AreAsked}
 use Rattle.mq_stations.specs.Leaving.{AreServed, IsLoad}
-use Rattle.mq_stations.proofs.lemmas.Leaves.{AreToldBy, asked-each, load-sound}
+use Rattle.mq_stations.proofs.lemmas.Leaves.{AreToldBy, asked-each, load-sound, within}
 use Rattle.mq_stations.proofs.lemmas.Lists.{Each-get_or}
 
 -- what follows from a test that each item passes holds of each
 each-tested : {X : Type 0} (test : X → Bool) (P : X → Type 0) → ((x : X) → test x ≡ true → P x) → (xs : List X) → list_all test xs ≡ true → Each P xs
 each-tested test P f [] h = tt
 each-tested test P f (x ∷ xs) h = let a = and_parts (test x) (list_all test xs) h in (f x a.0, each-tested test P f xs a.1)
-
-within : (low high n : ℕ) → is_within low high n ≡ true → (low ≤ n) × (n ≤ high)
-within low high n h =
-    let a : nat_le low n ≡ true = (and_parts (nat_le low n) (nat_le n high) h).0 in
-    let b : nat_le n high ≡ true = (and_parts (nat_le low n) (nat_le n high) h).1 in
-    (grind (arith, nat_tests), grind (arith, nat_tests))
 
 -- A stage after the first, in its ranges.
 record IsLater (stage : Stage) : Type 0 where

@@ -3,7 +3,8 @@ use Rattle.std.proofs.lemmas.List.{length-map}
 use Rattle.mq_base.proofs.lemmas.Lists.{take-at}
 use Rattle.mq_core.specs.declared.model.Fate.{Fate}
 use Rattle.mq_core.specs.declared.model.Fate.TheVariants.{Departs, Held, Lost}
-use Rattle.mq_redo.proofs.Staying.{departs-at, departs_inj}
+use Rattle.mq_stations.proofs.lemmas.Late.{departs_inj}
+use Rattle.mq_redo.proofs.Staying.{departs-at}
 use Rattle.mq_redo.proofs.departures.first_departures.Goals as goal
 
 lost-none : (time : ℕ) → Lost ≡ Departs time → ⊥
