@@ -256,6 +256,13 @@ class Compare(InFolder):
         self.assertIn(f"{SWEEP} 8", text[0])
         self.assertEqual(text[1].split(), ["desk", *["-"] * 8, "4.28571"])
 
+    def test_large_means(self):
+        """They have all digits before the point, so that two that differ aren't shown alike."""
+        runs = [mpsim.run(DESK, f"source,time,d\ndoor,0,{it}\ndoor,1,5\ndoor,2,6\n") for it in (2469134, 2469140, 246913)]
+        paths = [self.file(f"{at}.txt", str(it)) for at, it in enumerate(runs)]
+        shown = self.tells("compare", *paths, "--figure", "mean_wait", "--node", "desk").splitlines()[1]
+        self.assertEqual(shown.split()[1:], ["1646090", "1646094", "(+4)", "164609", "(-1481481)"])
+
     def test_nodes_and_figures(self):
         """A node that one of them alone has, a figure that there isn't."""
         texts = [f"model 1\nsource door\nserver {name} ={demand} from door\n" for name, demand in (("a", 4), ("b", 3), ("a", 1))]

@@ -44,8 +44,10 @@ def compare(reports, figure="p90", nodes=()):
 
 
 def _number(value):
-    """A figure as it is shown."""
-    return "-" if value is None else f"{value:.6g}" if isinstance(value, float) else str(value)
+    """A figure as it is shown: of a mean six digits, or all that stand before its point."""
+    if isinstance(value, float):
+        return f"{value:.6g}" if abs(value) < 10**6 else f"{value:.0f}"
+    return "-" if value is None else str(value)
 
 
 def _difference(value, first):
