@@ -167,6 +167,15 @@ class Times(Test):
         # A date may have a midnight with it.
         self.assertEqual(list(prepare(table("2026-03-02 00:00:00,8:05", header="day,clock"), "clock", date="day").times), [300])
 
+    def test_times_with_and_without_am_and_pm(self):
+        """Where some have it, one that has none may be of either half of the day, but for what no clock of twelve hours shows."""
+        self.assertEqual(times("1:30 PM", "13:40", "0:10", "11:00 am", begin="day"), [600, 39600, 48600, 49200])
+        self.assertEqual(times("1:30", "13:40", begin="day"), [5400, 49200])
+        for one in "1:30", "12:05", "8:00:07":
+            with self.assertRaisesRegex(ValueError, "some times have AM or PM, and others .* none: --format '%I:%M %p' leaves these out"):
+                times("1:30 PM", "2:30 pm", one)
+        self.assertEqual(times("1:30 PM", "1:45", "2:30 pm", format="%I:%M %p"), [0, 3600])
+
     def test_a_day_in_three_columns(self):
         """By their names, in any order; 5 is five minutes past midnight, and 2400 the midnight behind the day."""
         head, given = "DAY_OF_MONTH,YEAR,DEP,MONTH", {"day": ["YEAR", "MONTH", "DAY_OF_MONTH"], "begin": "day"}

@@ -5,7 +5,7 @@ from datetime import datetime
 from operator import add, methodcaller
 
 from .formats import is_of_day
-from .times import DAY, SECOND, SPREADSHEET, Asks, Cache, Unread, at_utc, clock, excel, hmm, hmmss, iso_day, iso_rest, micros, rfc_day, rfc_rest
+from .times import DAY, HOUR, SECOND, SPREADSHEET, Asks, Cache, Unread, at_utc, clock, excel, hmm, hmmss, iso_day, iso_rest, micros, rfc_day, rfc_rest
 
 _MIDNIGHT = micros(datetime(1900, 1, 1))
 # What clock() reads as strptime would, in a twelfth of the time.
@@ -86,11 +86,11 @@ class Moments:
     """A column of times of one format, in a Zone. `of(text, than)` is the moment of a text (int, microseconds since 1970; without a zone or an offset
     what the clock shows), where `than` is a moment before which it isn't, or None. Where the format has the time of a day alone (`is_of_day`) it is
     microseconds since midnight; of the format ticks it is a number of ticks. Raises Unread for a text that is none, and Asks. `has_offsets` and
-    `has_none` tell what was met."""
+    `has_none` tell what was met; of the format clock `halves` has True for a time with AM or PM, and False for one that may lack it."""
 
     def __init__(self, form, zone):
         self.form, self.zone, self.is_of_day = form, zone, is_of_day(form)
-        self.has_offsets, self.has_none = form in ("unix", "unixms"), False
+        self.has_offsets, self.has_none, self.halves = form in ("unix", "unixms"), False, set()
         self._unit = {"ticks": 1, "unix": SECOND, "unixms": 1000}.get(form)
         self._seen, self._parts = {}, _parts_of(form)
         if self._parts:
@@ -112,7 +112,7 @@ class Moments:
     def make_of_day(self):
         """Has numbers of a spreadsheet be parts of a day, as they are where the day stands in a column of its own."""
         self.is_of_day = True
-        named = {"clock": clock, "hmm": hmm, "hmmss": hmmss, "excel": self._part_of_day}
+        named = {"clock": self._clock, "hmm": hmm, "hmmss": hmmss, "excel": self._part_of_day}
         read = (lambda text: (named[self.form](text), None)) if self.form in named else _clock_as(self.form)
         cache = Cache(lambda text: read(_there(text))[0])
         self.of = lambda text, than=None: cache[text]
@@ -124,6 +124,12 @@ class Moments:
             return True
         except (ValueError, OverflowError):
             return False
+
+    def _clock(self, text):
+        value, has_half = clock(text), text[-1] in "mM."
+        if has_half or HOUR <= value < 13 * HOUR:
+            self.halves.add(has_half)
+        return value
 
     def _part_of_day(self, text):
         value = excel(text)

@@ -245,6 +245,8 @@ def _ticks(plan, stamps, begin, made):
     readers = [it.how for it in plan.readers()]
     if any(it.has_none for it in readers) and any(it.has_offsets for it in readers) and not plan.place.name:
         raise ValueError("some times have an offset from UTC, and others none: --zone says what those are")
+    if any(len(it.halves) > 1 for it in readers):
+        raise ValueError("some times have AM or PM, and others from 1:00 to 12:59 none: --format '%I:%M %p' leaves these out")
     if plan.is_ticks:
         if begin != "hour":
             raise ValueError(f"--begin {begin}: it says nothing of times that are ticks")
