@@ -16,7 +16,6 @@ import unittest
 from ground import CASES, EXAMPLES, MODEL, SOURCES, Test, heeds_signals, nodes_of, text_of, words_of
 from looking import Tree, elements
 from looking import text_of as text_in
-from test_page_models import data_of
 
 import mpsim
 from mpsim.node_visits import HELD, LOST, NodeVisits, Visits
@@ -341,13 +340,6 @@ class Files(Test):
             labels = [names[0], *(f"{names[1]} {it}" for it in range(1, 9)), *names[2:]]
             self.assertEqual([text_in(it) for it in elements(run, "option")], labels)
         self.assertEqual([it.name for it in self.folder.iterdir()], ["a page.html"])
-
-    def test_time_of_the_day(self):
-        out = self.folder / "page.html"
-        words = "page", JOBS, "--out", out, "--tick", "500ms", "--start", "2026-03-02T08:00:30"
-        self.assertEqual(self.told(*words), (0, "", ""))
-        data = data_of(out)
-        self.assertEqual((data["tick"], data["date"], data["start"]), (0.5, "2026-03-02", 28830))
 
     def test_words_that_are_refused(self):
         out, other, absent = self.folder / "page.html", EXAMPLES / "desk" / "model.txt", self.folder / "absent"

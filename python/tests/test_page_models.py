@@ -1,9 +1,10 @@
-"""A page of reports of several models."""
+"""What the script of a page works on: the models of several reports, and the time of the day."""
 
 import json
 import unittest
 
 from commands import InFolder, planner
+from ground import EXAMPLES
 from looking import Tree, elements
 from looking import text_of as text_in
 
@@ -34,6 +35,13 @@ class Models(InFolder):
         line = "3 models for 2 reports: --model is given once, or once for each"
         self.assertEqual(planner("page", *reports, *["--model", models[0]] * 3, "--out", out), (1, "", f"planner: {line}\n"))
         self.assertEqual(planner("page", reports[0], "--model", models[0], "--out", models[0])[0], 1)
+
+    def test_time_of_the_day(self):
+        out = self.folder / "page.html"
+        words = "page", EXAMPLES / "callcentre" / "jobs.txt", "--out", out, "--tick", "500ms", "--start", "2026-03-02T08:00:30"
+        self.assertEqual(planner(*words), (0, "", ""))
+        data = data_of(out)
+        self.assertEqual((data["tick"], data["date"], data["start"]), (0.5, "2026-03-02", 28830))
 
 
 if __name__ == "__main__":
