@@ -17,7 +17,8 @@ import sys
 import tempfile
 
 HERE = pathlib.Path(__file__).resolve().parent
-MPSIM = HERE.parent.parent / "mpsim"
+CLONE = HERE.parent.parent / "mpsim"
+MPSIM = CLONE if CLONE.exists() else "mpsim"  # that of a release is on the path
 HOLD = 180_000.0  # the mean time for which a call holds a line, in ticks of a millisecond
 LOAD = 25.0  # how many lines the calls would hold on average if none were lost, in erlangs
 PARTS = 50  # the spread is told by the shares of so many parts of the trace
