@@ -47,6 +47,7 @@ class Codes(Test):
         for before, after in (
             ("model 2\nsource a\n", f"model 2\n{line}\nsource a\n"),
             ("# top\r\n model 2\r\nsource a\r\n", f"# top\r\n model 2\r\n{line}\r\nsource a\r\n"),
+            ("model 2\n# a tick is 1s\nsource a\n", f"model 2\n# a tick is 1s\n{line}\nsource a\n"),
             ('model 1\n# room: 3 is "x"\n# kind: 4 is "b", 5 is "c"\nsource a\n', f'model 1\n# room: 3 is "x"\n{line}\nsource a\n'),
         ):
             self.assertEqual(with_codes(before, "kind", {"a": 0}), after)

@@ -83,11 +83,14 @@ def with_told(text, tick, start, zone):
 
 
 def with_line(text, pattern, line):
-    """A model's text with a comment in place of the first line that is of a pattern; where there is none, behind the line that has the version."""
+    """A model's text with a comment in place of the first line that is of a pattern; where there is none, behind the line that has the version and the
+    comments that follow it."""
     lines = text.split("\n")
     at = next((at for at, it in enumerate(lines) if re.fullmatch(pattern, it.removesuffix("\r"))), None)
     if at is None:
         at = next((at for at, it in enumerate(lines, 1) if it.split()[:1] == ["model"]), 0)
+        while lines[at:] and lines[at].startswith("#"):
+            at += 1
         lines.insert(at, lines[at - 1])
     lines[at] = line + "\r" * lines[at].endswith("\r")
     return "\n".join(lines)
