@@ -27,6 +27,12 @@ class Sources(Test):
         other = prepare(table("8:00:02,x,1", "8:00:03,a,1"), "when", source="who", demand=["long=d"], model=model)
         self.assertEqual((other.left, other.names), ({"who: the model has no source x": 1}, ["a"]))
 
+    def test_a_column_that_is_mistyped(self):
+        """One name for all records, that a column nearly has."""
+        rows = table("8:00,a,1", header="when,klasse,long")
+        self.assertIn("no column is called 'klase', though one is 'klasse' (--source)", prepare(rows, "when", source="klase").warned)
+        self.assertFalse([it for it in prepare(rows, "when", source="desk").warned if "column" in it])
+
     def test_a_source_in_each_row(self):
         """As of a wrong column: it is refused in a time that grows with the rows, and not with their square."""
         begin, rows = time.process_time(), table(*(f"2026-03-02 08:00,id{it},1" for it in range(30000)))

@@ -18,8 +18,8 @@ STANDARD = {"array", "bisect", "collections", "contextlib", "csv", "fractions", 
 STANDARD |= {"resource"}
 STANDARD |= {"subprocess", "sys", "threading", "time", "typing"}
 # What the planner's commands and the pages take besides.
-STANDARD |= {"argparse", "base64", "codecs", "datetime", "errno", "functools", "gc", "glob", "hashlib", "heapq", "html", "json", "locale", "math"}
-STANDARD |= {"operator", "secrets", "shlex", "socket", "stat", "string", "unicodedata", "zoneinfo"}
+STANDARD |= {"argparse", "base64", "codecs", "datetime", "difflib", "errno", "functools", "gc", "glob", "hashlib", "heapq", "html", "json", "locale"}
+STANDARD |= {"math", "operator", "secrets", "shlex", "socket", "stat", "string", "unicodedata", "zoneinfo"}
 
 
 def module_of(name):

@@ -83,8 +83,8 @@ def with_told(text, tick, start, zone):
 
 
 def with_line(text, pattern, line):
-    """A model's text with a comment in place of the first line that is of a pattern; where there is none, behind the line that has the version and the
-    comments that follow it."""
+    """A model's text with a comment in place of the first line that is of a pattern; where there is none, behind the line that has the version and
+    the comments that follow it."""
     lines = text.split("\n")
     at = next((at for at, it in enumerate(lines) if re.fullmatch(pattern, it.removesuffix("\r"))), None)
     if at is None:

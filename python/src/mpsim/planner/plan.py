@@ -1,5 +1,7 @@
 """What becomes of the columns of an export: what is given, what is found, and what has to be said."""
 
+from difflib import get_close_matches
+
 from ..model import columns, sources
 from .codes import codes_in
 from .formats import found_format, judged_format
@@ -17,13 +19,14 @@ LISTED = 20
 
 
 class Plan:
-    """What is asked of an Export: how its columns are read, in a Zone, with a tick (int, microseconds); `told` (list of str), what was found. The
-    texts are the options of `planner prepare`; `model` is a model's text or None. Raises ValueError where one is none, or more has to be said."""
+    """What is asked of an Export: how its columns are read, in a Zone, with a tick (int, microseconds); `told` and `warned` (lists of str), what was
+    found. The texts are the options of `planner prepare`; `model` is a model's text or None. Raises ValueError where one is none, or more has to be
+    said."""
 
     def __init__(self, export, place, per, format, decimal, model):
         self.export, self.place, self.per, self.decimal, self.model = export, place, per, decimal, model
         self.format = judged_format(format) if format else None
-        self.told, self.columns = list(export.told), []
+        self.told, self.warned, self.columns = list(export.told), [], []
 
     def _texts(self, column):
         return [row[column] for row in self.export.sample]
@@ -173,6 +176,8 @@ class Plan:
             raise ValueError(f"the model has no source {only} (--source)")
         elif source:
             self.told.append(f"all records are of the source {source}")
+            if like := get_close_matches(source, header, 1, 0.8):
+                self.warned.append(f"no column is called {source!r}, though one is {like[0]!r} (--source)")
         if renamed and column is None:
             raise ValueError("--rename says nothing without a column of --source")
         self.records = Records(len(header), self.time, self.answered, self.columns, column, only, renamed, known)

@@ -205,7 +205,7 @@ def _finished(plan, rows, begin):
         raise ValueError("; ".join(["no row is left", *left[:3]]))
     made = Prepared(["source", "time", *(it.name for it in plan.columns)], _order(plan, rows.sources), plan.per, plan.place.name)
     made.told += plan.told
-    made.warned += unnamed
+    made.warned += [*plan.warned, *unnamed]
     ticks = _ticks(plan, rows.stamps, begin, made)
     made.told += plan.place.told()
     _judge_zero(plan, made)
