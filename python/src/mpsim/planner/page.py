@@ -47,10 +47,10 @@ def _models(asked):
 
 
 def _servers(node):
-    """How many servers a node of a model (ModelNode) has, or None where it has none."""
+    """How many servers a node of a model (ModelNode) has, or None where it has none, or a name in braces stands for the number."""
     asked = node.asked.split()
     count = {"server": 1, "loss": 1, "tandem": 1 + asked.count("/"), "forkjoin": len(asked) - asked.count("|")}
-    return int(asked[0]) if node.kind == "trunk" else count.get(node.kind)
+    return int(asked[0]) if node.kind == "trunk" and asked[0].isdecimal() else count.get(node.kind)
 
 
 def _unlike(report):
