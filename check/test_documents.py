@@ -15,6 +15,8 @@ from programs import EXAMPLES, PROGRAMS, ROOT, Check, difference, executable, ru
 PAGES = ["README.md", "CHANGELOG.md", "CONTRIBUTING.md", *(f"docs/{file.name}" for file in sorted((ROOT / "docs").glob("*.md")))]
 # A block is a command where it begins with one of these, or with the name of a file in a folder.
 COMMANDS = ["awk", "cat", "cd", "cp", "diff", "for", "gzip", "install", "man", "python3", "rt", "sed", "sh", "tar"]
+# Pages whose commands are one session: each works on the files that those before it wrote, whatever the heading.
+SESSIONS = ["docs/TUTORIAL.md"]
 # Headings of docs/MODEL.md whose commands test_recipes.py runs.
 RECIPES = ["A trace from a log", "Several servers at one queue"]
 # On docs/DEFINITIONS.md: one name or several, and behind them the file that defines them.
@@ -23,7 +25,7 @@ NAMED = re.compile(r"((?:`[\w-]+`(?:,| and| of)\s+)*`[\w-]+`)\s+\(`(crates/[\w./
 DEFINES = {".antt": r" *(?:(?:(?:abbrev|unfoldable|pub|record|data) )+{0} [:({{]|{0} :)", ".rt": r" *(?:pub )?(?:ensures|enum|fn|struct|trait) {0}\b"}
 # The other blocks of code that have texts of the examples, or what a program writes: for each the command that shows it.
 SHOWN = {
-    ("README.md", "A sample"): ["cat callcentre/model.txt", "cat callcentre/trace.csv", "cat callcentre/report.txt"],
+    ("README.md", "Example"): ["cat callcentre/model.txt", "cat callcentre/trace.csv", "cat callcentre/report.txt"],
     ("docs/MODEL.md", "The model by example"): ["cat callcentre/model.txt"],
     ("docs/MODEL.md", "The trace"): ["cat callcentre/trace.csv"],
     ("docs/EDITS.md", "One caller comes later"): ["cat edits/late-caller/edits.txt"],
@@ -186,7 +188,7 @@ class Documents(Check):
 
 
 for page in PAGES:
-    for heading, found in headings(page).items():
+    for heading, found in ({"whole": blocks(page)} if page in SESSIONS else headings(page)).items():
         if (page, heading) in SHOWN or page != "docs/MODEL.md" and any(it.is_marked or is_command(it) or usage_of(it) for it in found):
             name = re.sub(r"\W+", "_", f"{page.rsplit('/')[-1][:-3]}_{heading}".lower())
             setattr(Documents, f"test_{name}", lambda self, of=(page, heading, found): self.runs_below(*of))
