@@ -103,7 +103,7 @@ class Options(Check):
                 told = {status for _, cell, _ in rows_of("docs/ERRORS.md", ERRORS[program]) for status in cell.split(", ")} | {"0"}
                 page = re.findall(r"^\.B (\d+)$", "\n".join(manual_section(program, "EXIT STATUS")), flags=re.MULTILINE)
                 self.same(f"docs/{program}.1", page, sorted(told, key=int))
-        cells = [cell for cell, _ in rows_of("docs/EDITS.md", "## How it ends")]
+        cells = [cell for cell, _ in rows_of("docs/EDITS.md", "## Exit statuses")]
         self.same("docs/EDITS.md", sorted(int(it) for cell in cells for it in cell.split(", ")), sorted(map(int, told)))
 
 
