@@ -15,7 +15,7 @@ from programs import EXAMPLES, PROGRAMS, ROOT, Check, difference, executable, ru
 PAGES = ["README.md", "CHANGELOG.md", "CONTRIBUTING.md", *(f"docs/{file.name}" for file in sorted((ROOT / "docs").glob("*.md")))]
 # A block is a command where it begins with one of these, or with the name of a file in a folder.
 COMMANDS = ["awk", "cat", "cd", "cp", "diff", "for", "gzip", "install", "man", "python3", "rt", "sed", "sh", "tar"]
-# Pages whose commands are one session: each works on the files that those before it wrote, whatever the heading.
+# Pages that are one session: each command works on the files of the commands before it, across headings.
 SESSIONS = ["docs/TUTORIAL.md"]
 # Headings of docs/MODEL.md whose commands test_recipes.py runs.
 RECIPES = ["A trace from a log", "Several servers at one queue"]
