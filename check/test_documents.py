@@ -30,8 +30,9 @@ SHOWN = {
     ("docs/MODEL.md", "The trace"): ["cat callcentre/trace.csv"],
     ("docs/EDITS.md", "Move one arrival"): ["cat edits/late-caller/edits.txt"],
     ("docs/EDITS.md", "Move a whole shift"): ["cat edits/shift-moved/edits.awk"],
-    ("docs/REPORT.md", "The report"): ["../mpsim desk/model.txt desk/trace.csv", "../mpsim desk/model.txt desk/trace.csv --jobs"],
-    ("docs/REPORT.md", "L, W, and the other letters of the field"): ["cat callcentre/report.txt"],
+    ("docs/REPORT.md", "The report"): ["../mpsim desk/model.txt desk/trace.csv"],
+    ("docs/REPORT.md", "Lines per visit"): ["../mpsim desk/model.txt desk/trace.csv --jobs"],
+    ("docs/REPORT.md", "L, W and other queueing symbols"): ["cat callcentre/report.txt"],
     ("docs/REPORT.md", "Form 1"): ["../mpsim desk/model.txt desk/trace.csv --report 1"],
     ("docs/REPORT.md", "A sweep"): [
         "sed 's/model 1/model 9/' desk/model.txt >nine.txt; ../mpsweep desk/trace.csv desk/model.txt nine.txt || [ $? = 11 ]"
