@@ -4,7 +4,7 @@ from commands import InFolder, planner
 
 CALLS = 'source,time,g,kind,note\nphone,0,1,0,"a, ""b"""\nweb,5,1,1,\nphone,9,2,0,z\n'
 TIME, VALUE = 1 << 60, 1 << 36
-EXPECTED = "expected record, with names of columns behind it, or with --model set or add"
+EXPECTED = "expected record followed by column names or, with --model, set or add"
 
 
 class Changing(InFolder):
@@ -24,6 +24,6 @@ class Changing(InFolder):
         self.assertEqual(head, trace.splitlines(keepends=True)[0])
         return rows
 
-    def refused(self, why, changes, trace=CALLS, *words, where=" row 2: "):
+    def refused(self, why, changes, trace=CALLS, *words, where=": row 2: "):
         path = self.file("c.csv", changes)
         self.refuses(f"{path}{where}{why}", "edit", self.file("t.csv", trace), path, *words)

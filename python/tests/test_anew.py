@@ -17,7 +17,7 @@ from mpsim.planner.traces import Trace
 
 DAY, HOUR, SECOND = 86400, 3600, 10**6
 POOL = "planner: {} is a pool: its waits are those of {}\n"
-LATE = "planner: on {} of {} days somebody is still there when the next begins, who isn't there in its run\n"
+LATE = "planner: on {} of {} days jobs are still in the network when the next begins; its run starts without them\n"
 
 
 def through(calls, agents):
@@ -82,7 +82,7 @@ class Anew(InFolder):
         trace = self.file("t.csv", "source,time,talk\n" + "".join(f"calls,{time},{talk}\n" for time, talk in rows))
         model, pooled = self.pooled(self.file("m.txt", "model 1\nsource calls\nserver desk talk from calls\n"), trace, desk=2)
         self.assertEqual([it.split(",")[-1] for it in text_of(pooled).splitlines()[1:]], ["0", "0", "7130", "7130", "8850", "0", "0", "6800"])
-        told = POOL.format("desk", "desk_queue") + "planner: 4 records before a day opens or after it closes, left out\n"
+        told = POOL.format("desk", "desk_queue") + "planner: 4 records left out: before a day opens or after it closes\n"
         rows = self.rows(model, pooled, "--open", "8:00", "--close", "20:00", "--tick", "1s", "--start", "2026-11-02", error=told)
         want = [("3", "1720", "1720", "0", "3610"), ("1", "0", "0", "0", "60")]
         self.assertEqual([(it["in"], it["wait"], it["max"], it["p50"], it["span"]) for it in rows], want)
@@ -179,7 +179,7 @@ class Anew(InFolder):
         rows += [(6000, 0, 1400), (6001, 0, 1400), (6002, 0, 1400), (7000, 0, 5), (7000, 1501, 5)]
         trace = self.file("t.csv", "source,time,g,d\n" + "".join(f"door,{time},{g},{d}\n" for time, g, d in rows))
         plain = self.file("m.txt", "model 1\nsource door\nserver greet g from door\nserver desk d from greet\n")
-        late = "planner: in 7 of 8 pieces somebody is still there when the next begins, who isn't there in its run\n"
+        late = "planner: in 7 of 8 pieces jobs are still in the network when the next begins; its run starts without them\n"
         for by, where, last in ("trunk", "desk_queue", "desk position 2"), ("agents", "desk_1 to desk_2", "desk_1 position 1"):
             model, pooled = self.pooled(plain, trace, by, desk=2)
             self.rows(model, pooled, "--every", 1000, error=POOL.format("desk", where) + late.replace("7 of", "8 of"))
@@ -208,7 +208,7 @@ class Anew(InFolder):
         trunk, of_trunk = self.pooled(plain, trace, desk=3)
         agents, of_agents = self.pooled(plain, trace, "agents", desk=3)
         trunk, agents = text_of(trunk), text_of(agents)
-        why = "if it is a pool, its trace was made for another number of agents, and no figure of it holds"
+        why = "if it is a pool, its trace was made for another number of agents, and its figures are invalid"
         changed = {
             trunk.replace("desk 3 d", "desk 2 d"): f"planner: warning: desk loses 3 calls: {why}\n",
             trunk.replace("desk_wait", "e"): "",
@@ -249,14 +249,14 @@ class Anew(InFolder):
         pooled.write_text(text_of(pooled).replace("101,5", "101,x"))
         why = f"{pooled}: trace record 3: field 3 is not a number in range (column d): door,1,x,1,4"
         self.refuses(why, "days", model, pooled, "--every", 100, status=4)
-        told = POOL.format("desk", "desk_queue") + "planner: 2 records before a day opens or after it closes, left out\n"
+        told = POOL.format("desk", "desk_queue") + "planner: 2 records left out: before a day opens or after it closes\n"
         self.rows(model, pooled, "--close", "0:01", "--tick", "1s", error=told)
         model.write_text(text_of(model) + "server last d from absent\n")
         self.refuses(f"{model}: model line 5: input 0 unknown: server last d from absent", "days", model, pooled, "--every", 100, status=3)
         model.write_text(text_of(model) + "server\n")
         self.assertEqual(planner("days", model, pooled, "--every", 100)[0], 3)
         fork = "model 2\nsource door\nfork f 2 from door\ndelay desk_queue desk_wait from f f.1\ntrunk desk 9 d from desk_queue\n"
-        why = "a job comes to desk more than once, and its record has room for one wait"
+        why = "a job visits desk more than once, but its record has room for only one wait"
         self.refuses(why, "days", self.file("f.txt", fork), self.pooled(self.folder / "m.txt", trace, desk=2)[1], "--every", 100)
 
 

@@ -18,7 +18,7 @@ from mpsim.planner.days import by_calendar, by_ticks, cut
 from mpsim.planner.hours import hours
 
 TOLD = DESK.replace("model 1\n", "model 1\n# a tick is 1s, time 0 is 2026-03-27T08:00:00+01:00 in Europe/Berlin\n")
-NO_TICK = "how long is a tick? --tick and --start say it, or the first lines of {}, as planner prepare writes them"
+NO_TICK = "the length of a tick is unknown: give --tick and --start, or {} whose first lines planner prepare wrote"
 SECOND, HOUR, DAY = 10**6, 3600, 86400
 ZONE = zoneinfo.ZoneInfo("Europe/Berlin")
 
@@ -83,7 +83,7 @@ class Days(InFolder):
         self.assertEqual(list(told), ["2026-03-27", "2026-03-28", "2026-03-29", "2026-03-30"])
         figures = [[it[name] for name in ("status", "span", "in", "wait", "max", "util")] for it in told.values()]
         self.assertEqual(figures[:2], [["0", "90", "3", "60", "40", "1.0000"], ["0", "25", "3", "0", "0", "0.6000"]])
-        left = "planner: 1 record before a day opens or after it closes, left out\n"
+        left = "planner: 1 record left out: before a day opens or after it closes\n"
         told = rows_of(self.tells("days", model, trace, "--open", "9:00", "--close", "10:00", error=left), "day", node="desk")
         self.assertEqual({day: it["span"] for day, it in told.items()}, {"2026-03-27": "90", "2026-03-28": "25", "2026-03-30": "30"})
         told = rows_of(self.tells("days", model, trace, "--open", "3:00", "--node", "desk"), "day")
@@ -96,7 +96,7 @@ class Days(InFolder):
         times = 3 * HOUR, 12 * HOUR, 42 * HOUR - 60, 42 * HOUR, 54 * HOUR - 60, 54 * HOUR, 71 * HOUR, 76 * HOUR, 77 * HOUR
         trace = self.trace([(time, 1) for time in times])
         model = self.file("m.txt", TOLD.replace("2026-03-27T08", "2026-03-26T00"))
-        left = "planner: 4 records before a day opens or after it closes, left out\n"
+        left = "planner: 4 records left out: before a day opens or after it closes\n"
         told = rows_of(self.tells("days", model, trace, "--open", "18:00", "--close", "6:00", "--node", "desk", error=left), "day")
         self.assertEqual({day: it["in"] for day, it in told.items()}, {"2026-03-25": "1", "2026-03-27": "2", "2026-03-28": "2"})
         self.assertEqual({day: it["span"] for day, it in told.items()}["2026-03-28"], str(10 * HOUR + 1))
@@ -108,7 +108,7 @@ class Days(InFolder):
         rows = [(0, 1), (HOUR + 59 * 60, 2), (2 * HOUR, 4), (2 * HOUR + 29 * 60, 8), (3 * HOUR, 16)]
         model = self.file("m.txt", TOLD.replace("2026-03-27T08", "2026-03-29T00"))
         for words, count, busy in (("--open", "2:30"), 2, 28), (("--close", "2:30"), 3, 3):
-            said = f"planner: {count} records before a day opens or after it closes, left out\n"
+            said = f"planner: {count} records left out: before a day opens or after it closes\n"
             told = self.tells("days", model, self.trace(rows), *words, "--node", "desk", error=said)
             self.assertEqual(rows_of(told, "day")["2026-03-29"]["busy"], str(busy))
 
@@ -125,13 +125,13 @@ class Days(InFolder):
             self.assertEqual([got[name] for name in figures], [want[name] for name in figures])
             over += int(words_of(text, "jobs")[0][3]) > DAY
         self.assertGreater(over, 0)
-        said = f"planner: on {over} of 10 days somebody is still there when the next begins, who isn't there in its run\n"
+        said = f"planner: on {over} of 10 days jobs are still in the network when the next begins; its run starts without them\n"
         self.assertEqual((status, error), (0, said))
 
     def test_who_stays(self):
         """One stays over the end of its piece, one leaves at that very moment."""
         trace, model = self.trace([(0, 150), (90, 5), (250, 5), (390, 10), (490, 9)]), self.file("m.txt", DESK)
-        said = "planner: in 1 of 4 pieces somebody is still there when the next begins, who isn't there in its run\n"
+        said = "planner: in 1 of 4 pieces jobs are still in the network when the next begins; its run starts without them\n"
         told = rows_of(self.tells("days", model, trace, "--every", 100, error=said), "day", node="desk")
         self.assertEqual({day: it["span"] for day, it in told.items()}, {"0..99": "155", "200..299": "55", "300..399": "100", "400..499": "99"})
 
@@ -150,14 +150,14 @@ class Days(InFolder):
         trace = self.trace([(0, 6)])
         bad = self.file("b.txt", TOLD.replace("server desk", "server Desk"))
         self.refuses(f"{bad}: model line 4: word 2 not allowed: server Desk d from door", "days", bad, trace, status=3)
-        self.refuses(NO_TICK.format("the model"), "days", self.file("n.txt", DESK), trace)
+        self.refuses(NO_TICK.format("a model"), "days", self.file("n.txt", DESK), trace)
         self.assertEqual(planner("days", model, trace, "--every", "0")[0], 1)
         self.assertEqual(planner("days", model, trace, "--every", "10", "--open", "8:00")[0], 1)
-        self.refuses('"8 o\'clock": no time of the day as h:mm or h:mm:ss', "days", model, trace, "--open", "8 o'clock")
+        self.refuses('"8 o\'clock": not h:mm or h:mm:ss', "days", model, trace, "--open", "8 o'clock")
         for words in ("--open", "24:00"), ("--open", "24:00", "--close", "24:00"):
-            self.refuses("--open 24:00: a day is at its end then", "days", model, trace, *words)
+            self.refuses("--open 24:00: a day ends then", "days", model, trace, *words)
         for words in ("--close", "0:00"), ("--open", "8:00", "--close", "00:00"):
-            self.refuses(f"--close {words[-1]}: the midnight at the end of a day is 24:00", "days", model, trace, *words)
+            self.refuses(f"--close {words[-1]}: write 24:00 for the midnight at the end of a day", "days", model, trace, *words)
         # Without a line feed it is a model all the same, and no path.
         cr = self.file("cr.txt", TOLD.replace("\n", "\r"))
         shown = TOLD.replace("\n", "\\r").removesuffix("\\r")
@@ -165,7 +165,7 @@ class Days(InFolder):
             status, out, error = planner(*words)
             self.assertEqual((status, out), (3, ""))
             self.assertTrue(error.startswith(f"planner: {cr}: model line 1: byte not allowed: {shown}"), error)
-        told = f"time 20260302080017 is {20260302080017 // DAY} days behind time 0: a tick is shorter than 1 s, or these are no ticks"
+        told = f"time 20260302080017 is {20260302080017 // DAY} days after time 0: a tick is shorter than 1 s, or these times aren't ticks"
         self.refuses(told, "days", model, self.trace([(20260302080017, 1)]))
         self.refuses(f"{self.folder}/absent: No such file or directory", "days", model, self.folder / "absent")
         self.assertEqual(self.tells("days", model, self.trace([])).count("\n"), 1)
@@ -174,7 +174,7 @@ class Days(InFolder):
         """A header alone, and a line that says so. A day closes at midnight at the latest."""
         trace, model = self.trace([(0, 60), (DAY, 30)]), self.file("m.txt", TOLD)
         for words in ("--open", "23:00"), ("--close", "8:00"), ("--open", "8:00:01", "--close", "24:00"):
-            left = "planner: 2 records before a day opens or after it closes, left out: no day is left\n"
+            left = "planner: 2 records left out: before a day opens or after it closes; no day is left\n"
             self.assertEqual(self.tells("days", model, trace, *words, error=left).count("\n"), 1)
         told = rows_of(self.tells("days", model, trace, "--open", "8:00", "--close", "24:00", "--node", "desk"), "day")
         self.assertEqual(list(told), ["2026-03-27", "2026-03-28"])
@@ -203,8 +203,8 @@ class Hours(InFolder):
         told = self.tells("hours", jobs, "--node", "desk", "--by", "day", "--tick", "1s")
         self.assertEqual(came(told), {"day 1": "3", "day 2": "1"})
         self.refuses(NO_TICK.format("a --model"), "hours", jobs, "--node", "desk")
-        self.refuses("hours are those of one node, or of one pool: --node NAME or --pool NAME", "hours", jobs, "--tick", "1s")
-        self.refuses("weekdays want the date of time 0: --start says it", "hours", jobs, "--node", "desk", "--tick", "1s", "--by", "weekday")
+        self.refuses("hours takes one node or one pool: give --node NAME or --pool NAME", "hours", jobs, "--tick", "1s")
+        self.refuses("weekdays need the date of time 0: give --start", "hours", jobs, "--node", "desk", "--tick", "1s", "--by", "weekday")
 
     def test_each_hour_as_datetime_has_it(self):
         """Over the days on which clocks change; the figures are worked out from the lines of the jobs."""
@@ -264,7 +264,7 @@ class Hours(InFolder):
         for name in "page.html", "network.svg":
             self.tells("page", report, "--model", model, "--out", self.folder / name)
         model.write_bytes(TOLD.encode() + b"source B\xfcro\n")
-        self.refuses(f"{model}: line 5: the byte fc is no UTF-8", "hours", report, "--model", model, "--node", "desk")
+        self.refuses(f"{model}: line 5: the byte fc isn't valid UTF-8", "hours", report, "--model", model, "--node", "desk")
 
     def test_no_such_year(self):
         model, trace = self.file("m.txt", DESK), self.file("t.csv", "source,time,d\ndoor,0,5\ndoor,9,5\n")
@@ -283,7 +283,7 @@ class Hours(InFolder):
         trace = self.file("t.csv", "source,time,d\n")
         self.assertEqual(self.tells("hours", model, trace, "--node", "desk", "--tick", "1s").count("\n"), 1)
         report = EXAMPLES / "callcentre" / "report.txt"
-        self.refuses(f"{report}: it has no lines of jobs: mpsim writes them with --jobs", "hours", report, "--node", "desk", "--tick", "1s")
+        self.refuses(f"{report}: the report has no job lines: run mpsim with --jobs", "hours", report, "--node", "desk", "--tick", "1s")
 
 
 if __name__ == "__main__":

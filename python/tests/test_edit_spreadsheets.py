@@ -32,7 +32,7 @@ class Spreadsheets(Changing):
 
     def test_changes_that_are_no_utf_8(self):
         """They are Windows-1252 where the trace is UTF-8, as a spreadsheet saves them; where it isn't either, bytes stand as they are."""
-        path, counts = self.folder / "c.csv", "1 record of 1: 1 changed, 0 added, 0 taken out"
+        path, counts = self.folder / "c.csv", "1 record (from 1): 1 changed, 0 added, 0 removed"
         for trace, changes, wanted, told in (
             ("source,time,für\nweb,1,Müller\n".encode(), b"record;f\xfcr\n1;B\xfcro \x80\n", "web,1,Büro €\n".encode(), True),
             (b"source,time,note\nweb,1,\n", b"record,note\n1,B\xfcro\n", "web,1,Büro\n".encode(), True),
@@ -48,7 +48,7 @@ class Spreadsheets(Changing):
                 self.tells("edit", self.folder / "t.csv", path, "--out", out, error=f"{error}planner: {counts}\n")
                 self.assertEqual(out.read_bytes().splitlines(keepends=True)[1:], [wanted])
         for data, why in (
-            (b"\xef\xbb\xbfrecord,note\n1,\xfc\n", "line 2: the byte fc is no UTF-8, which its mark says"),
+            (b"\xef\xbb\xbfrecord,note\n1,\xfc\n", "line 2: the byte fc isn't valid UTF-8, although the file has a UTF-8 byte order mark"),
             (b"record,note\n\n1,\xfc\x81\n", "line 3: the byte 81 is neither UTF-8 nor Windows-1252"),
         ):
             path.write_bytes(data)
@@ -64,7 +64,7 @@ class Spreadsheets(Changing):
             ("record,,empty\n1,x,\n", "web,1,x,5\n"),
         ):
             self.assertEqual(self.rows(changes, trace), [wanted], changes)
-        self.refused('"" stands twice', "record,talk,,\n1,7,x,\n", trace, where=" row 1: ")
+        self.refused('"" appears twice', "record,talk,,\n1,7,x,\n", trace, where=": row 1: ")
 
     def test_rows_that_end_early(self):
         """Their last fields are empty, as a spreadsheet leaves them off."""

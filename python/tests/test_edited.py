@@ -72,7 +72,7 @@ class Beside(InFolder):
                 status, out, error = planner("edit", trace, edits, "--model", model)
                 number = why.split()[3].rstrip(":")
                 self.assertEqual((status, out), (1, ""))
-                self.assertRegex(error, rf"^planner: {re.escape(str(edits))} (line|row) {number}: .+\n$")
+                self.assertRegex(error, rf"^planner: {re.escape(str(edits))}: (line|row) {number}: .+\n$")
 
     def test_changes_that_are_drawn(self):
         """Over a trace whose columns stand in another order than the model has them, and with columns that it doesn't name."""

@@ -13,7 +13,7 @@ from test_shards import InFolder
 
 from mpsim import programs
 
-SHORT = "planner: 1 of 4 shards aren't in the table: planner sweep --folder {} --resume runs them"
+SHORT = "planner: 1 of 4 shards are missing from the table: planner sweep --folder {} --resume runs them"
 
 
 def is_gnu_parallel():
@@ -54,7 +54,7 @@ class Engine:
                 status, out, lines = self.told(*words, "--folder", at, way, settings={"MPSIM_PROGRAMS": str(self.programs)})
                 self.assertEqual(status, 1, lines)
                 self.assertIn(SHORT.format(f"'{at}'"), lines)
-                self.assertEqual(sum("nothing is left: not begun, or killed" in it for it in lines), killed == "$PPID", lines)
+                self.assertEqual(sum("it left nothing: not started, or killed" in it for it in lines), killed == "$PPID", lines)
                 shards = [it.name for it in (at / "0000").glob("*.txt")]
                 self.assertEqual(len(shards), 3)
                 table = set(want.splitlines())

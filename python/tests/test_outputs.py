@@ -56,7 +56,7 @@ class Outputs(InFolder):
                     os.link(name, "hard")
                     for path in name, f"./{name}", self.folder / name, "soft", "hard":
                         asked = [path if it == "OUT" else it for it in words.split()]
-                        self.refuses(f"{path}: it is the {what}, and isn't written over", *asked)
+                        self.refuses(f"{path}: this is the {what}, which is never overwritten", *asked)
                     os.unlink("soft")
                     os.unlink("hard")
         self.assertEqual({name: text_of(path) for name, path in self.inputs.items()}, self.texts)
@@ -73,13 +73,13 @@ class Outputs(InFolder):
                     os.symlink("new", "soft")
                 told = planner(*words.replace("OUT", first).split(), option, second)
                 self.assertEqual(told[0], 1)
-                self.assertRegex(told[2], r"^planner: (soft, new|new, (\./)?new|(\./)?new, new): one file can't be written for two things\n$")
+                self.assertRegex(told[2], r"^planner: (soft, new|new, (\./)?new|(\./)?new, new): two outputs can't go to one file\n$")
             os.unlink("soft")
         self.assertFalse(os.path.exists("new"))
 
     def test_a_name_that_is_empty(self):
         for words, _ in CALLS:
-            self.refuses("the name of a file to be written is empty", *("" if it == "OUT" else it for it in words.split()))
+            self.refuses("the name of an output file is empty", *("" if it == "OUT" else it for it in words.split()))
 
     def test_of_two_files_both_are_there_or_none(self):
         """One of them is on a disk that is full; it holds for the other whether it comes first or last."""

@@ -344,7 +344,7 @@ class Files(Test):
     def test_words_that_are_refused(self):
         out, other, absent = self.folder / "page.html", EXAMPLES / "desk" / "model.txt", self.folder / "absent"
         for words, line in (
-            ((JOBS, "--model", other), f"{other}: the model isn't that of the report: its nodes are others"),
+            ((JOBS, "--model", other), f"{other}: the model isn't that of the report: its nodes differ"),
             ((absent,), f"{absent}: No such file or directory"),
             ((EXAMPLES / "callcentre" / "report.txt", "--within", "20"), "the share within a time wants the lines of the jobs: jobs=True, or --jobs"),
         ):

@@ -30,12 +30,12 @@ class Models(InFolder):
         asked = lambda: [it["asked"]["ct"] for it in data_of(out)["runs"]]
         self.assertEqual(planner("page", *reports, "--model", models[0], "--model", models[1], "--out", out), (0, "", ""))
         self.assertEqual(asked(), ["trunk 2 d", "trunk 3 d"])
-        line = "ct of r3 has another number of servers than the model says, whose words stand in its box; --model is given for each"
+        line = "ct of r3 doesn't have the number of servers of the model, and its box shows the text of the model; give --model once per report"
         self.assertEqual(planner("page", *reports, "--model", models[0], "--out", out), (0, "", f"planner: warning: {line}\n"))
         # Where a name in braces stands for the number nothing is told.
         braces = self.file("braces.txt", models[0].read_text().replace("ct 2", "ct {agents}"))
         self.assertEqual(planner("page", *reports, "--model", braces, "--out", out), (0, "", ""))
-        line = "3 models for 2 reports: --model is given once, or once for each"
+        line = "3 models for 2 reports: give --model once, or once per report"
         self.assertEqual(planner("page", *reports, *["--model", models[0]] * 3, "--out", out), (1, "", f"planner: {line}\n"))
         self.assertEqual(planner("page", reports[0], "--model", models[0], "--out", models[0])[0], 1)
 

@@ -36,17 +36,17 @@ class Words(Test):
             status, out, err = planner(name, "--help")
             self.assertEqual((status, err), (0, ""))
             self.assertIn(f"example: planner {name} ", out)
-            self.assertIn(says, " ".join(out.split()))
+            self.assertIn(says[1:], " ".join(out.split()))
         status, out, _ = planner("--help")
         self.assertEqual([it for it in COMMANDS if f"    {it} " in out], list(COMMANDS))
         self.assertEqual(planner("--version"), (0, f"planner {mpsim.__version__}\n", ""))
 
     def test_words_that_are_none(self):
         for words, line in (
-            ([], "the following arguments are required: COMMAND (planner --help tells more)"),
-            (["prepare"], "the following arguments are required: export, --time (planner prepare --help tells more)"),
-            (["prepare", "x", "--tim", "y"], "the following arguments are required: --time (planner prepare --help tells more)"),
-            (["prepare", "x", "--time", "y", "--skip", "z"], "argument --skip: invalid int value: 'z' (planner prepare --help tells more)"),
+            ([], "the following arguments are required: COMMAND (see planner --help)"),
+            (["prepare"], "the following arguments are required: export, --time (see planner prepare --help)"),
+            (["prepare", "x", "--tim", "y"], "the following arguments are required: --time (see planner prepare --help)"),
+            (["prepare", "x", "--time", "y", "--skip", "z"], "argument --skip: invalid int value: 'z' (see planner prepare --help)"),
         ):
             self.assertEqual(planner(*words), (2, "", f"planner: {line}\n"))
         status, out, err = planner("prepares")
@@ -80,7 +80,7 @@ class LongFields(InFolder):
             self.assertEqual(csv.field_size_limit(), limit)
         self.assertEqual((text_of(out), text_of(more)), (text_of(trace) + "\n", text_of(trace).replace("door,0", "door,1") + "\ndoor,9,1,c\n"))
         self.assertEqual(Trace.read(trace).rows[1][3], note)
-        line = f"{trace}: behind row 1: field larger than field limit ({limit}): is a quote not closed?"
+        line = f"{trace}: after row 1: field larger than field limit ({limit}): is a closing quote missing?"
         self.refuses(line, "prepare", trace, "--time", "time", "--format", "ticks")
         self.assertEqual(csv.field_size_limit(), limit)
 
@@ -111,7 +111,7 @@ class Ends(InFolder):
 
     def test_an_output_that_is_full(self):
         for words, more, line in (
-            ([], {"stdout": open("/dev/full", "w")}, "planner: the output: No space left on device"),
+            ([], {"stdout": open("/dev/full", "w")}, "planner: standard output: No space left on device"),
             (["--out", "/dev/full"], {}, "planner: /dev/full: No space left on device"),
         ):
             with more.get("stdout", contextlib.nullcontext()):
@@ -132,7 +132,7 @@ class Ends(InFolder):
     def test_outputs_that_are_closed(self):
         script = 'exec "$@" >&-'
         ran = subprocess.run(["sh", "-c", script, "sh", *COMMAND, "prepare", *ASKED], env=os.environ, text=True, capture_output=True)
-        self.assertEqual((ran.returncode, ran.stderr.splitlines()[-1]), (1, "planner: the output: Bad file descriptor"))
+        self.assertEqual((ran.returncode, ran.stderr.splitlines()[-1]), (1, "planner: standard output: Bad file descriptor"))
         # What is told goes nowhere then, and not into the trace.
         ran = subprocess.run(["sh", "-c", 'exec "$@" 2>&-', "sh", *COMMAND, "prepare", *ASKED], env=os.environ, text=True, capture_output=True)
         self.assertEqual((ran.returncode, ran.stdout.splitlines()[:2]), (0, ["source,time", "verkauf_and_buro,5"]))
@@ -191,9 +191,9 @@ class Lines(Test):
             (ValueError("a\nb\x1b[1m\udcff"), "a\\nb\\x1b[1m\\udcff"),
             (ValueError(), "ValueError"),
             (FileNotFoundError(2, "No such file or directory", "x\n"), "x\\n: No such file or directory"),
-            (OSError(28, "No space left on device"), "the output: No space left on device"),
+            (OSError(28, "No space left on device"), "standard output: No space left on device"),
             (mpsim.ModelError("model line 2: word 2 not allowed", "", 3, "m", "source Döör"), "m: model line 2: word 2 not allowed: source Döör"),
-            (mpsim.ReportError(7, "x"), "report line 7: 'x' is no line of a report"),
+            (mpsim.ReportError(7, "x"), "report line 7: 'x' is not a line of a report"),
         ):
             self.assertEqual(line_of(fault), line)
 
@@ -263,7 +263,7 @@ class Terminal(io.StringIO):
 
 class Shown(Test):
     def test_progress(self):
-        out, line = Terminal(), "10 % of 1,000 rows, some 45 s to go"
+        out, line = Terminal(), "10 % of 1,000 rows, about 45 s left"
         with self.assertRaises(KeyboardInterrupt), Progress(1000, "rows", out) as tell:
             tell(1)
             self.assertEqual(out.getvalue(), "")

@@ -171,12 +171,12 @@ class Pool(Test):
 
     def test_what_can_not_be_a_pool(self):
         rows = trace_of([(0, 1)])
-        self.assertRaisesRegex(ValueError, "door is no server of the model, in whose place a pool can stand; it has desk", Queue, DESK, rows, "door")
-        self.assertRaisesRegex(ValueError, "absent is no server", Queue, DESK, rows, "absent")
+        self.assertRaisesRegex(ValueError, "door isn't a server of the model, .*; its servers: desk", Queue, DESK, rows, "door")
+        self.assertRaisesRegex(ValueError, "absent isn't a server", Queue, DESK, rows, "absent")
         fork = "model 2\nsource door\nfork f 2 from door\nserver desk d from f f.1\n"
-        self.assertRaisesRegex(ValueError, "a job comes to desk more than once", Queue, fork, rows, "desk")
+        self.assertRaisesRegex(ValueError, "a job visits desk more than once", Queue, fork, rows, "desk")
         taken = "model 1\nsource desk_queue\nsource door\nserver desk d from door desk_queue\n"
-        self.assertRaisesRegex(ValueError, "has a node 'desk_queue' already", Queue(taken, rows, "desk").with_pool, 2)
+        self.assertRaisesRegex(ValueError, "already has a node 'desk_queue'", Queue(taken, rows, "desk").with_pool, 2)
         # With two agents a third would be taken for one of them, and with one the split for their queue.
         more = "model 1\nsource door\nsplit desk_queue 2 turn from door\nserver desk d from desk_queue desk_queue.1\nserver desk_3 =9 from desk\n"
         for agents, by, name in (2, "agents", "desk_3"), (1, "agents", "desk_queue"), (1, "trunk", "desk_queue"):
@@ -186,7 +186,7 @@ class Pool(Test):
         long = "model 1\nsource door\nserver " + 27 * "n" + " d from door\n"
         self.assertRaisesRegex(ValueError, "longer than 32 letters", Queue(long, rows, 27 * "n").with_pool, 2)
         has = Trace("t.csv", [*HEAD, "desk_wait"], [["door", "0", "1", "7"]])
-        self.assertRaisesRegex(ValueError, "t.csv: it has a column 'desk_wait' already", Queue(DESK, has, "desk").with_pool, 2)
+        self.assertRaisesRegex(ValueError, "t.csv: it already has a column 'desk_wait'", Queue(DESK, has, "desk").with_pool, 2)
 
     def test_a_wrong_pool_is_found(self):
         """A trace that was made for two agents, and a model with one; and a report without a pool."""
@@ -259,21 +259,21 @@ class Commands(WithPool):
         why = f"{self.trace}: trace record 2: field 3 is not a number in range (column talk): phone,1,1.5,b"
         self.refuses(why, "pool", self.model, self.trace, *words, status=4)
         self.file("t.csv", "source,time,talk,note\nweb,1,4,a\nphone,1\n")
-        self.refuses(f"{self.trace}: record 2: 2 fields, where the header has 4: 'phone,1'", "pool", self.model, self.trace, *words)
+        self.refuses(f"{self.trace}: record 2: 2 fields, but the header has 4: 'phone,1'", "pool", self.model, self.trace, *words)
         bad = self.file("b.txt", "model 1\nsource Phone\nserver desk talk from phone\n")
         self.refuses(f"{bad}: model line 2: word 2 not allowed: source Phone", "pool", bad, EXAMPLES / "desk" / "trace.csv", *words, status=3)
         self.file("t.csv", "time,source\n")
-        self.refuses(f"{self.trace}: a trace begins with source,time and not with 'time,source'", "pool", self.model, self.trace, *words)
+        self.refuses(f"{self.trace}: a trace begins with source,time, not with 'time,source'", "pool", self.model, self.trace, *words)
         self.refuses(f"{self.folder}/absent: No such file or directory", "pool", self.model, self.folder / "absent", *words)
         for agents in "0", "x", "3..2", "-1", "1..":
             told = planner("pool", self.model, self.trace, "--node", "desk", f"--agents={agents}")
-            self.assertEqual(told, (1, "", f"planner: --agents {agents}: expected a number as 12, or rising ones as 8..15\n"))
+            self.assertEqual(told, (1, "", f"planner: --agents {agents}: expected a number such as 12, or a rising range such as 8..15\n"))
         words = "pool", self.model, self.trace, "--node", "desk", "--agents", "1..2", "--out", self.folder / "o"
-        self.refuses("--agents 1..2: a trace and a model are those of one number of agents", *words)
-        self.refuses("a pool wants a model, a trace and --agents; or --report", "pool", self.model, "--node", "desk")
+        self.refuses("--agents 1..2: --out and --out-model need one number of agents", *words)
+        self.refuses("give a model, a trace and --agents, or --report", "pool", self.model, "--node", "desk")
         self.assertEqual(sorted(it.name for it in self.folder.iterdir()), ["b.txt", "m.txt", "t.csv"])
         report = EXAMPLES / "callcentre" / "report.txt"
-        self.refuses(f"{report}: it has no lines of jobs: mpsim writes them with --jobs", "pool", "--report", report, "--node", "desk")
+        self.refuses(f"{report}: the report has no job lines: run mpsim with --jobs", "pool", "--report", report, "--node", "desk")
 
     def test_a_pool_that_is_named_as_a_node(self):
         """What `--node desk` tells is of the queue, by its names, and a line says so."""
@@ -312,7 +312,7 @@ class Commands(WithPool):
             plain = self.folder / "plain.txt"
             plain.write_text("".join(mpsim.run(self.folder / "net.txt", self.folder / "net.csv").lines()))
             server = next(it["p90"] for it in nodes_of(text_of(plain)) if it["name"] == "desk")
-            more = told + "planner: of a pool p90 wants the lines of jobs: mpsim writes them with --jobs\n"
+            more = told + "planner: a pool's p90 needs job lines: run mpsim with --jobs\n"
             got = self.tells("compare", plain, jobs, short, "--csv", error=more).splitlines()
             self.assertEqual([it for it in got if it.startswith("desk,")][0].split(",")[:4], ["desk", server, str(sorted(waits)[80]), ""])
             self.assertEqual(sum(it.startswith("desk_queue") for it in got), 0)
@@ -339,12 +339,12 @@ class Commands(WithPool):
     def test_a_pooled_trace_that_is_run_otherwise(self):
         """A sweep and more load warn: who waits for how long was worked out for these calls and these agents."""
         model, trace, _, _ = self.made()
-        why = "was made for a pool at desk: the waits in it hold for this trace and this number of agents alone; scale or edit first, then pool"
+        why = "was made for a pool at desk: its waits hold only for this trace and this number of agents; scale or edit first, then pool"
         warning = f"planner: warning: {trace} {why}\n"
         status, _, told = planner("scale", trace, "--by", "1/2", "--out", self.folder / "half.csv")
         self.assertEqual((status, told.split("\n")[0] + "\n"), (0, warning))
-        more = "planner: desk is a pool: its waits are those of desk_queue\nplanner: of a pool max, p50, p90 and p99 want the lines of jobs: "
-        self.tells("sweep", model, trace, error=warning + more + "planner sweep has them with --within\n")
+        more = "planner: desk is a pool: its waits are those of desk_queue\nplanner: a pool's max, p50, p90 and p99 need job lines: "
+        self.tells("sweep", model, trace, error=warning + more + "give planner sweep --within\n")
         # Nothing is said where there is no pool, or only one of its columns.
         plain = self.file("plain.csv", "source,time,talk,desk_wait,other_agent\nphone,0,4,0,0\n")
         self.tells("sweep", self.folder / "net.txt", plain)
@@ -355,7 +355,7 @@ class Commands(WithPool):
         model, trace, _, _ = self.made()
         model.write_text(text_of(model).replace("trunk desk 2", "trunk desk 1"))
         lost = next(it["lost"] for it in nodes_of("".join(mpsim.run(model, trace).lines())) if it["name"] == "desk")
-        why = f"desk loses {lost} calls: if it is a pool, its trace was made for another number of agents, and no figure of it holds"
+        why = f"desk loses {lost} calls: if it is a pool, its trace was made for another number of agents, and its figures are invalid"
         got = self.tells("service", model, trace, "--node", "desk", error=f"planner: warning: {why}\n")
         self.assertEqual(got.splitlines()[1].split(",")[:4], ["desk", "90", str(90 - int(lost)), lost])
         other = self.file("other.txt", "model 2\nsource door\ndelay desk_queue =3 from door\ntrunk desk 9 d from desk_queue\n")
@@ -369,7 +369,7 @@ class Commands(WithPool):
     def test_the_pool_in_front_is_made_first(self):
         model = self.file("two.txt", "model 1\nsource phone\nsource web\nserver desk talk from phone web\nserver back =3 from desk\n")
         made = [self.folder / it for it in ("b.csv", "b.txt")]
-        line = "the pool at back stands behind desk: make that at desk first, which says when calls come to back"
+        line = "the pool at back is downstream of desk: make the pool at desk first, since it decides when calls arrive at back"
         for by in "trunk", "agents":
             words = "--agents", 2, "--by", by
             self.tells("pool", model, self.trace, "--node", "back", *words, "--out", made[0], "--out-model", made[1])
@@ -379,7 +379,7 @@ class Commands(WithPool):
 
     def test_waits_that_no_column_has(self):
         trace = self.file("long.csv", "source,time,talk\nweb,1,68719476736\nweb,1,1\nweb,1,1\nphone,0,7\n")
-        line = "with 1 agent at desk a call waits for 68719476743 ticks, where a column has at most 68719476736"
+        line = "with 1 agent at desk a call waits 68719476743 ticks; the limit of a column is 68719476736"
         self.refuses(line, "pool", self.model, trace, "--node", "desk", "--agents", 1)
         self.tells("pool", self.model, trace, "--node", "desk", "--agents", 2)
 

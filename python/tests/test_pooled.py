@@ -1,6 +1,7 @@
 """A pool of agents as a whole: in tables, sweeps and days, and in the network and the pictures of a page. Expected figures come from a queue that is
 written by hand, and from the words of reports."""
 
+import html
 import json
 import re
 import unittest
@@ -13,8 +14,8 @@ from test_pool import WithPool
 
 import mpsim
 
-LACKS = "of a pool max, p50, p90 and p99 want the lines of jobs: "
-BY_MPSIM, BY_SWEEP = LACKS + "mpsim writes them with --jobs", LACKS + "planner sweep has them with --within"
+LACKS = "a pool's max, p50, p90 and p99 need job lines: "
+BY_MPSIM, BY_SWEEP = LACKS + "run mpsim with --jobs", LACKS + "give planner sweep --within"
 
 
 class Whole(WithPool):
@@ -53,7 +54,7 @@ class Whole(WithPool):
             exits = [",".join([*it[1].split("."), it[2], it[4]]) for it in words_of(text_of(jobs), "exit")]
             self.assertEqual(self.tells("table", jobs, "--of", "exits").splitlines()[1:], exits)
             names = ", ".join(it["name"] for it in nodes_of(text_of(jobs)))
-            self.refuses(f"there is no node 'x'; the report has {names}", "table", jobs, "--node", "x")
+            self.refuses(f"no node 'x'; the report has {names}", "table", jobs, "--node", "x")
             # A visit is one to the pool: from coming to the queue to the end of the service.
             calls = [tuple(map(int, it.split(",")[1:3])) for it in text_of(self.folder / "net.csv").splitlines()[1:]]
             visits = [f"{at},desk,{time},{wait},{time + wait + talk},left" for at, ((time, talk), wait) in enumerate(zip(calls, waits), 1)]
@@ -88,7 +89,7 @@ class Whole(WithPool):
         """Of three servers behind a split of another name no one's waits are told as those of all."""
         model = self.file("own.txt", "model 1\nsource a\nsplit who 2 turn from a\nserver ct_1 d from who\nserver ct_2 d from who.1\n")
         trace = self.file("own.csv", "source,time,d\na,0,4\na,1,4\na,2,4\n")
-        servers = "it has no node ct_queue, which planner pool would have put in front of the servers ct_1 to ct_2"
+        servers = "it lacks the node ct_queue, which planner pool would have put upstream of the servers ct_1 to ct_2"
         for command in "service", "hours":
             words = command, model, trace, "--pool", "ct", *(["--tick", "1s"] if command == "hours" else [])
             self.refuses(f"the report has no pool 'ct': {servers}", *words)
@@ -97,7 +98,7 @@ class Whole(WithPool):
         """With the shares within a time by its waits; without the lines of jobs its mean wait is known. In a folder the same."""
         for by, where in ("trunk", "desk_queue"), ("agents", "desk_1 to desk_2"):
             model, trace, jobs, waits = self.made(by)
-            why = "was made for a pool at desk: the waits in it hold for this trace and this number of agents alone; scale or edit first, then pool"
+            why = "was made for a pool at desk: its waits hold only for this trace and this number of agents; scale or edit first, then pool"
             told = f"planner: warning: {trace} {why}\nplanner: desk is a pool: its waits are those of {where}\n"
             lacks = f"planner: {BY_SWEEP}"
             whole, bare = self.line_of(jobs, waits)
@@ -118,7 +119,7 @@ class Whole(WithPool):
             self.assertEqual(got[1:], [f"{head},{bare},"])
             folder, said = self.folder / f"many-{by}", "planner: 1 scenarios in 1 shards, 1 to run\n"
             parts = told.partition("planner: desk")
-            error = parts[0] + said + parts[1] + parts[2] + lacks + ", and without --folder\n"
+            error = parts[0] + said + parts[1] + parts[2] + lacks + ", without --folder\n"
             again = self.tells("sweep", model, trace, "--node", "desk", "--folder", folder, error=error)
             self.assertEqual(again.splitlines(), got)
             self.assertEqual(self.tells("sweep", "--folder", folder, "--table", "--node", "wrap").count("\n"), 2)
@@ -190,7 +191,7 @@ class Whole(WithPool):
         told = "desk is a pool: its waits are those of desk_queue"
         for report, figures, lines in (jobs, f"p90 {p90:,}", [told]), (short, f"mean wait {mean:,}", [told, BY_MPSIM]):
             self.tells("page", report, "--model", model, "--out", page, error="".join(f"planner: {it}\n" for it in lines))
-            self.assertEqual(re.findall("<p>(.* pool.*)</p>", text_of(page)), lines)
+            self.assertEqual([html.unescape(it) for it in re.findall("<p>(.* pool.*)</p>", text_of(page))], lines)
             tree = Tree(text_of(page)).root
             boxes = [it for it in elements(tree, "g") if "data-node" in it[1]]
             boxes = {it[1]["data-node"]: [text_in(one) for one in elements(it, "text")] for it in boxes}

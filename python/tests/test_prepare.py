@@ -66,7 +66,7 @@ class Example(InFolder):
         lines = self.folder / "lines.txt"
         status, out, err = planner("prepare", *words, "--source", "ORIGIN", "--zone", "America/Los_Angeles", "--first-lines", lines)
         self.assertEqual((status, out), (0, "source,time,taxi\nsea,300,1260\nsea,86400,720\n"), err)
-        self.assertIn("planner: 1 row: DAY_OF_MONTH: no day of its month (row 4, '31')\n", err)
+        self.assertIn("planner: 1 row: DAY_OF_MONTH: not a day of its month (row 4, '31')\n", err)
         self.assertEqual(told_in(text_of(lines)), (10**6, "2015-06-30T00:00:00-07:00", "America/Los_Angeles"))
 
     def test_the_output(self):
@@ -87,7 +87,7 @@ class Exports(Test):
         self.assertEqual(found_encoding(b"a\nb\nx\xfc")[1].split(",")[0], "line 3 has the byte fc")
         # As those of DOS have it: two words that differ in such bytes would be one.
         dos = "when,who\n8:00,Bär\n8:00,Büro\n"
-        with self.assertRaisesRegex(ValueError, r"line 3: the byte 81 is no UTF-8 and no Windows-1252 \(--encoding\)"):
+        with self.assertRaisesRegex(ValueError, r"line 3: the byte 81 isn't valid UTF-8 or Windows-1252 \(--encoding\)"):
             prepare(dos.encode("cp850"), "when", source="who")
         self.assertEqual(prepare(dos.encode("cp850"), "when", source="who", encoding="cp850").sources, ["bar", "buro"])
 
@@ -101,7 +101,7 @@ class Exports(Test):
             (["a|b\n", "1|2\n"], "|"),
         ):
             self.assertEqual(found_delimiter(lines), mark)
-        with self.assertRaisesRegex(ValueError, r"the delimiter may be '[;,]' or '[;,]' \(--delimiter\)"):
+        with self.assertRaisesRegex(ValueError, r"the delimiter could be '[;,]' or '[;,]' \(--delimiter\)"):
             found_delimiter(["a;b,c\n", "1;2,3\n"])
         # As a spreadsheet says it; and a tab as one can type it.
         self.assertEqual(prepare(b"sep=|\r\nwhen|d\r\n8:00|1\r\n", "when", demand=["d"]).values[0].tolist(), [1])
@@ -119,13 +119,13 @@ class Exports(Test):
         out = io.StringIO()
         made = prepare(rows, "clock", format="clock", date="day", source="who", demand=["talk"], left_out=out, **given)
         self.assertEqual(list(made.rows()), [("phone", 5, 95), ("web", 40, 120)])
-        self.assertEqual(out.getvalue(), "row,reason,day,clock,who,talk\n2,clock: no time of the day as h:mm or h:mm:ss,2026-03-02,08:00:x,web,1\n")
+        self.assertEqual(out.getvalue(), "row,reason,day,clock,who,talk\n2,clock: not h:mm or h:mm:ss,2026-03-02,08:00:x,web,1\n")
 
     def test_columns(self):
         export = Export(b"a,a=b,d:e,twice,twice,\n1,2,3,4,5,\n")
         for word, found in ("a=b", (1, None, None)), ("a=b=c:min", (1, "c", "min")), ("d:e:h", (2, None, "h")), ("a=x", (0, "x", None)):
             self.assertEqual(export.asked(word, True), found)
-        for bad, says in ("twice", "two columns are called 'twice'"), ("x=y", "there is no column 'x'; it has 'a', 'a=b',"), ("", "no column ''"):
+        for bad, says in ("twice", "two columns are called 'twice'"), ("x=y", "no column 'x'; it has 'a', 'a=b',"), ("", "no column ''"):
             with self.assertRaisesRegex(ValueError, says):
                 export.asked(bad)
 
@@ -134,12 +134,12 @@ class Exports(Test):
         rows = [f"{day:02}/03/2026 8:00,a,{'1' * 20}" for day in range(1, 13) for _ in range(3000)]
         late = prepare(table(*rows, "13/03/2026 9:00,a,1"), "when", tick="1h")
         self.assertEqual((late.times[-1], sum(late.left.values())), (12 * 24 + 1, 0))
-        with self.assertRaisesRegex(ValueError, "may begin with the day or with the month"):
+        with self.assertRaisesRegex(ValueError, "could begin with the day or with the month"):
             prepare(table(*rows), "when")
 
     def test_fields_that_no_column_has(self):
         made = prepare(table("8:00,a,1,", "8:01,a,1,,", "8:02,a,1,x", "8:03,a"), "when")
-        self.assertEqual((len(made), made.left), (2, {"another number of fields than the header's 3": 2}))
+        self.assertEqual((len(made), made.left), (2, {"the number of fields isn't the header's 3": 2}))
 
     def test_rows_are_counted_as_a_spreadsheet_does(self):
         rows = ["8:00,a,1", "8:01,a,x", "", "8:02,b,1"] + ["8:03,b,1"] * 40000 + ['8:03,"b\nc",y', "8:07,c,z", "8:08"]
@@ -149,9 +149,9 @@ class Exports(Test):
         self.assertEqual((len(made), set(made.values[1])), (40002, {0, 1}))
         # Words of rows that are left out have no number.
         self.assertIn("kind: 0 is 'a', 1 is 'b'", made.told)
-        reasons = {"long: no number with a decimal point": 3, "another number of fields than the header's 3": 1}
+        reasons = {"long: not a number with a decimal point": 3, "the number of fields isn't the header's 3": 1}
         self.assertEqual(made.left, reasons)
-        self.assertIn("3 rows: long: no number with a decimal point; the first is row 4, 'x'", made.told)
+        self.assertIn("3 rows: long: not a number with a decimal point; the first is row 4, 'x'", made.told)
 
 
 class Times(Test):
@@ -172,7 +172,7 @@ class Times(Test):
         self.assertEqual(times("1:30 PM", "13:40", "0:10", "11:00 am", begin="day"), [600, 39600, 48600, 49200])
         self.assertEqual(times("1:30", "13:40", begin="day"), [5400, 49200])
         for one in "1:30", "12:05", "8:00:07":
-            with self.assertRaisesRegex(ValueError, "some times have AM or PM, and others .* none: --format '%I:%M %p' leaves these out"):
+            with self.assertRaisesRegex(ValueError, "some times have AM or PM, but others .* don't: --format '%I:%M %p' leaves those out"):
                 times("1:30 PM", "2:30 pm", one)
         self.assertEqual(times("1:30 PM", "1:45", "2:30 pm", format="%I:%M %p"), [0, 3600])
 
@@ -191,7 +191,7 @@ class Times(Test):
         self.assertEqual(list(prepare(table("2,2026,0.25,3", header=head), "DEP", format="excel", **given).times), [21600])
         rows = table("29,2026,300,3", "29,2026,2400,3", "29,2026,230,3", header=head)
         made = prepare(rows, "DEP", format="hmm", zone="Europe/Berlin", **given)
-        self.assertEqual((list(made.times), made.left), ([7200, 82800], {"DEP: in the hour that 2026-03-29 skips in Europe/Berlin": 1}))
+        self.assertEqual((list(made.times), made.left), ([7200, 82800], {"DEP: in the hour that is skipped on 2026-03-29 in Europe/Berlin": 1}))
         # What ends behind midnight.
         rows = table("31,2015,2350,12,110", header=f"{head},ARR")
         self.assertEqual(prepare(rows, "DEP", format="hmm", end=["ARR=fly"], tick="1min", **given).values[0].tolist(), [80])
@@ -203,13 +203,13 @@ class Times(Test):
         out = io.StringIO()
         made = prepare(table(*rows, header="Y,M,D,DEP"), "DEP", day=["Y", "M", "D"], format="hmm", left_out=out)
         self.assertEqual((len(made), made.zero, list(made.times)), (1, "2015-04-30T00:00:00", [300]))
-        one = {"M is empty": "row 11", "DEP is empty": "row 15", "DEP: no number as hmm": "row 16, '-5'"}
+        one = {"M is empty": "row 11", "DEP is empty": "row 15", "DEP: not a number of the form hmm": "row 16, '-5'"}
         more = {
-            "M: no month from 1 to 12": (3, "row 3, '13'"),
-            "D: no day from 1 to 31": (3, "row 7, '32'"),
-            "D: no day of its month": (2, "row 5, '31'"),
-            "Y: no year of four digits": (2, "row 9, '15'"),
-            "DEP: no time of the day": (2, "row 13, '1260'"),
+            "M: not a month from 1 to 12": (3, "row 3, '13'"),
+            "D: not a day from 1 to 31": (3, "row 7, '32'"),
+            "D: not a day of its month": (2, "row 5, '31'"),
+            "Y: not a year of four digits": (2, "row 9, '15'"),
+            "DEP: not a time of day": (2, "row 13, '1260'"),
         }
         self.assertEqual(made.left, {**{why: count for why, (count, _) in more.items()}, **dict.fromkeys(one, 1)})
         for why, where in one.items():
@@ -218,8 +218,8 @@ class Times(Test):
             self.assertIn(f"{count} rows: {why}; the first is {where}", made.told)
         written = out.getvalue().splitlines()
         self.assertEqual(written[0], "row,reason,Y,M,D,DEP")
-        self.assertEqual((written[1], written[-1]), ("3,M: no month from 1 to 12,2015,13,1,5", "17,M: no month from 1 to 12,2015,31,4,5"))
-        with self.assertRaisesRegex(ValueError, "no row is left; 1 row: D: no year of four digits \\(row 2, '4'\\)"):
+        self.assertEqual((written[1], written[-1]), ("3,M: not a month from 1 to 12,2015,13,1,5", "17,M: not a month from 1 to 12,2015,31,4,5"))
+        with self.assertRaisesRegex(ValueError, "no rows are left; 1 row: D: not a year of four digits \\(row 2, '4'\\)"):
             prepare(table("4,5,2015,5", header="D,M,Y,DEP"), "DEP", day=["D", "M", "Y"], format="hmm")
 
     def test_a_date_with_a_time(self):
@@ -229,8 +229,8 @@ class Times(Test):
     def test_ticks(self):
         made = prepare(table("8:00:00.250,a,0.26", "8:00:01.999,a,1.04"), "when", tick="100ms", demand=["long=d"])
         self.assertEqual((list(made.times), made.values[0].tolist()), ([2, 19], [3, 10]))
-        self.assertIn("2 times between two ticks, taken back to the earlier one", made.told)
-        self.assertIn("d: 2 different values between two ticks, taken to the nearer one", made.told)
+        self.assertIn("2 times between two ticks, rounded down", made.told)
+        self.assertIn("d: 2 different values between two ticks, rounded to the nearest", made.told)
         self.assertIn("# a tick is 100ms\n", made.first_lines())
         plain = prepare(table("5,a,7", "3,a,1"), "when", format="ticks", tick="1min", demand=["long=d:ticks"])
         self.assertEqual((list(plain.rows()), plain.zero), ([("jobs", 3, 1), ("jobs", 5, 7)], None))
@@ -242,7 +242,7 @@ class Times(Test):
             zone = "Europe/Berlin" if "+" in begin else None
             self.assertEqual(times("2026-03-02 08:30", begin=begin, zone=zone), [ticks], begin)
         self.assertEqual(times("2026-03-02 08:30+01:00", begin="2026-03-02T08:00+01:00"), [1800])
-        with self.assertRaisesRegex(ValueError, "it has an offset from UTC, and the times have none: --zone says what those are"):
+        with self.assertRaisesRegex(ValueError, "it has an offset from UTC, but the times have none: give --zone for those"):
             times("2026-03-02 08:30", begin="2026-03-02T08:00+01:00")
         # Hours are those of the clock on the wall.
         self.assertEqual(times("2026-03-02T08:20+05:45", begin="hour", zone="Asia/Kathmandu"), [1200])
@@ -267,15 +267,15 @@ class Times(Test):
         made = prepare(rows, "come", end=["end"], zone="Europe/Berlin", twice="order", tick="1min")
         self.assertEqual((list(made.times), made.values[0].tolist()), ([50, 52, 61], [20, 6, 2]))
         # A file that has the newest first goes back at each row, so that nobody knows which hour is meant.
-        with self.assertRaisesRegex(ValueError, "row 4, .*'2026-10-25 02:05:00'.*goes back more than once there: --twice order wants rows in"):
+        with self.assertRaisesRegex(ValueError, "row 4, .*'2026-10-25 02:05:00'.*goes back more than once there: --twice order needs rows in"):
             times("2026-10-25 02:50:00", "2026-10-25 02:20:00", "2026-10-25 02:05:00", zone="Europe/Berlin", twice="order")
         gone = prepare(table("2026-03-29 02:30,a,1", "2026-03-29 03:30,a,1"), "when", zone="Europe/Berlin")
-        self.assertEqual(gone.left, {"when: in the hour that 2026-03-29 skips in Europe/Berlin": 1})
+        self.assertEqual(gone.left, {"when: in the hour that is skipped on 2026-03-29 in Europe/Berlin": 1})
 
     def test_offsets_go_before_the_zone(self):
         self.assertEqual(times("2026-10-25T02:59:59+02:00", "2026-10-25T02:00:00+01:00", zone="Europe/Berlin"), [0, 1])
         mixed = table("2026-03-02T08:00:00,a,1", "2026-03-02T08:00:00Z,a,1")
-        with self.assertRaisesRegex(ValueError, "some times have an offset from UTC, and others none: --zone says what those are"):
+        with self.assertRaisesRegex(ValueError, "some times have an offset from UTC and others have none: give --zone for those"):
             prepare(mixed, "when")
         self.assertEqual(list(prepare(mixed, "when", zone="Europe/Berlin").times), [0, 3600])
 
@@ -305,14 +305,14 @@ class Values(Test):
         self.assertEqual(prepare(rows, "come").left, {"come is empty": 1})
         full = table("2026-03-02 08:00,2026-03-02 07:59", *["2026-03-02 08:00,2026-03-02 08:07"] * 9, "2026-03-02 08:00,0:05", header="come,end")
         made = prepare(full, "come", end=["end"])
-        self.assertEqual((made.values[0].tolist(), made.left), ([420] * 9, {"end: before it begins": 1, "end: no ISO 8601 time": 1}))
+        self.assertEqual((made.values[0].tolist(), made.left), ([420] * 9, {"end: before the service begins": 1, "end: not an ISO 8601 time": 1}))
         # A time of the day alone is the next one from the beginning on, in the days of the zone.
         night = table("2026-10-24 23:50,0:05", "2026-10-25 01:50,4:00", header="come,end")
         self.assertEqual(prepare(night, "come", end=["end"], zone="Europe/Berlin", tick="1min").values[0].tolist(), [15, 130 + 60])
         # Of the hour that was skipped in the morning it is one of the next day; behind the beginning it is none.
         night = table("2026-03-29 23:50,2:10", "2026-03-29 01:50,2:15", header="come,end")
         made = prepare(night, "come", end=["end"], zone="Europe/Berlin", tick="1min")
-        self.assertEqual((made.values[0].tolist(), made.left), ([140], {"end: in the hour that 2026-03-29 skips in Europe/Berlin": 1}))
+        self.assertEqual((made.values[0].tolist(), made.left), ([140], {"end: in the hour that is skipped on 2026-03-29 in Europe/Berlin": 1}))
         # A format that was given is that of other times as well.
         given = table("03/02/2026 8:00,03/02/2026 8:01", header="come,end")
         self.assertEqual(prepare(given, "come", format="%d/%m/%Y %H:%M", end=["end"]).values[0].tolist(), [60])
@@ -323,7 +323,7 @@ class Values(Test):
         self.assertEqual(prepare(rows, "come", end=["end"], tick="1min").values[0].tolist(), [0, 0, 1])
 
     def test_ends_with_beginnings_of_their_own(self):
-        """A scan and its report: each has when it begins. A row in which the later beginning is empty, or is before the job comes, is left out."""
+        """A scan and its report: each has when it begins. A row in which the later beginning is empty, or is before the job arrives, is left out."""
         header = "come,scan,scanned,read,done"
         rows = table("8:00,8:05,8:15,9:00,9:05", "8:10,8:20,8:21,,", "8:20,8:30,8:31,8:10,8:12", header=header)
         made = prepare(rows, "come", end=["scanned=scan", "done=report"], answered=["scan", "read"], begin="day", date=None)
@@ -331,7 +331,7 @@ class Values(Test):
         self.assertEqual(made.left, {"read is empty": 1})
         one = prepare(rows, "come", end=["scanned=scan"], answered="scan", begin="day")
         self.assertEqual(one.values[0].tolist(), [600, 60, 60])
-        with self.assertRaisesRegex(ValueError, "--answered is given 2 times for 3 of --end: it is given once, or once for each"):
+        with self.assertRaisesRegex(ValueError, "--answered is given 2 times for 3 of --end: give it once, or once per --end"):
             prepare(rows, "come", end=["scanned=a", "done=b", "read=c"], answered=["scan", "read"])
 
     def test_rows_that_are_left_out_have_no_code(self):
@@ -369,12 +369,12 @@ class Values(Test):
         made = prepare(rows, "when", demand=asks, tick="2s")
         # Five seconds are two ticks and a half.
         self.assertEqual((made.header, [it.tolist() for it in made.values]), (["source", "time", "aht", "note"], [[1 + 3, 0 + 3, 2**36], [15, 0, 0]]))
-        self.assertEqual(made.left, {"talk is empty": 1, "wrap: no number with a decimal point": 1})
+        self.assertEqual(made.left, {"talk is empty": 1, "wrap: not a number with a decimal point": 1})
         self.assertIn("aht is the sum of 'talk' and 'wrap'", made.told)
-        self.assertIn("aht: 2 different values between two ticks, taken to the nearer one", made.told)
+        self.assertIn("aht: 2 different values between two ticks, rounded to the nearest", made.told)
         more = prepare(rows.replace(b"68719476735", b"68719476736"), "when", demand=["talk=aht:ticks", "wrap=aht"], empty="4s")
         self.assertEqual(more.values[0].tolist(), [1 + 5, 0 + 5, 4 + 9])
-        self.assertEqual(more.left, {"talk: above 2^36 ticks": 1, "wrap: no number with a decimal point": 1})
+        self.assertEqual(more.left, {"talk: above 2^36 ticks": 1, "wrap: not a number with a decimal point": 1})
         with unittest.mock.patch.object(Records, "many", side_effect=Unread("one by one")):
             self.assertEqual(list(prepare(rows, "when", demand=asks, tick="2s").rows()), list(made.rows()))
         # Times in ISO 8601 are read by columns.
@@ -383,7 +383,7 @@ class Values(Test):
         self.assertEqual((many.values[0].tolist(), many.left), ([2**36], {"a: above 2^36 ticks": 1}))
         three = prepare(table(f"{day},1,20,300", header="when,a,b,c"), "when", demand=["a=d", "b=d", "c=d"])
         self.assertEqual((list(three.rows()), "d is the sum of 'a' and 'b' and 'c'" in three.told), ([("jobs", 0, 321)], True))
-        with self.assertRaisesRegex(ValueError, "--demand a=d:min: the column 'a' is in d already"):
+        with self.assertRaisesRegex(ValueError, "--demand a=d:min: the column 'a' is already part of d"):
             prepare(table("8:00,1", header="when,a"), "when", demand=["a=d", "a=d:min"])
 
     def test_limits(self):

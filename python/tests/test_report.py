@@ -243,7 +243,7 @@ class Refusals(Test):
         for text in "", "\n", "mpsim report 2", "mpsim report 3\n", "scenario 1 status 0\n", CALLS + "\n", CALLS + CALLS, "\ufeff" + CALLS:
             with self.subTest(text[:30]):
                 self.refused(text)
-        self.assertEqual(str(self.refused("jobs 3\n")), "report line 1: 'jobs 3' is no line of a report")
+        self.assertEqual(str(self.refused("jobs 3\n")), "report line 1: 'jobs 3' is not a line of a report")
 
 
 class Pieces(Test):

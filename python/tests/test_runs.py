@@ -59,12 +59,12 @@ class Examples(Test):
 
     def test_what_is_no_edit(self):
         for edits, word in [
-            (change := mpsim.Set(10, "web", 20, (1, 1, 4, 1, 2)), "a list of Set and Add, and no Set"),
-            ([change._replace(values="11412")], "and no str: Set("),
-            ([mpsim.Add("web", 20, {"g": 1})], "and no dict: Add("),
-            ([mpsim.Add("web", 20, 1)], "and no int: Add("),
-            ([("web", 20)], "an edit is a Set, an Add or a line, and no tuple"),
-            (3, "and no int"),
+            (change := mpsim.Set(10, "web", 20, (1, 1, 4, 1, 2)), "a list of Set and Add, not Set"),
+            ([change._replace(values="11412")], "not str: Set("),
+            ([mpsim.Add("web", 20, {"g": 1})], "not dict: Add("),
+            ([mpsim.Add("web", 20, 1)], "not int: Add("),
+            ([("web", 20)], "an edit is a Set, an Add or a line, not tuple"),
+            (3, "not int"),
         ]:
             with self.subTest(word), self.assertRaisesRegex(TypeError, word.replace("(", r"\(")):
                 mpsim.edit(MODEL, TRACE, edits)
@@ -243,7 +243,7 @@ class Ends(Test):
         self.assertEqual(str(mpsim.run(MODEL, TRACE, timeout=60)), REPORT)
         for script in "head -c 300 {}; exec sleep 60", "cat {}; exec sleep 60", "cat {}; exec sleep 60 >&-":
             fault = self.ends(mpsim.TimedOut, script.format(STORED), lambda: mpsim.run(MODEL, TRACE, timeout=0.2))
-            self.assertEqual(str(fault), "mpsim was ended, since its time was out")
+            self.assertEqual(str(fault), "mpsim was ended: its timeout has passed")
 
     def test_a_time_that_is_that_of_all_runs(self):
         script = f'sleep 0.2; exec {programs.find("mpsim")} "$@"'

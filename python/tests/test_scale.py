@@ -123,27 +123,28 @@ class Command(InFolder):
     def test_each_way(self):
         text, told = self.made("--by", "2", "--twins")
         self.assertEqual(text, 'source,time,d,note\na,0,5,\udcff\na,0,5,\udcff\nb,7,6,"x,\ny"\nb,7,6,"x,\ny"\n')
-        self.assertRegex(told, "^planner: 4 records of 2: each record has one copy, at its own time, so that twins come at one moment")
+        self.assertRegex(told, r"^planner: 4 records \(from 2\): each record has one copy, at its own time, so twins arrive together")
         text, told = self.made("--by", "2", "--shift", "4")
         self.assertEqual([it.split(",")[:2] for it in text.split("\n") if it[:2] in ("a,", "b,")], [["a", "0"], ["b", "3"], ["a", "4"], ["b", "7"]])
-        self.assertEqual(told, "planner: 4 records of 2: each record has one copy, 4 ticks later; copies past the end begin again at the front\n")
+        self.assertEqual(told, "planner: 4 records (from 2): each record has one copy, 4 ticks later; copies past the end wrap round to the start\n")
         told = self.made("--by", "6/2", "--shift", "3", "--source", "b")[1]
-        more = "each record of b has 2 copies, each 3 ticks behind the one before; copies past the end begin again at the front"
-        self.assertEqual(told, f"planner: 4 records of 2: {more}\n")
+        more = "each record of b has 2 copies, each 3 ticks after the one before; copies past the end wrap round to the start"
+        self.assertEqual(told, f"planner: 4 records (from 2): {more}\n")
         told = self.made("--by", "3/2", "--shift", "4")[1]
-        more = "of each 2 records of a source 3 stand there, each copy 4 ticks behind the one before; copies past the end begin again at the front"
-        self.assertEqual(told, f"planner: 3 records of 2: {more}\n")
-        self.assertEqual(self.made("--by", "1", "--twins")[1], "planner: 2 records of 2: each record stands there, as it was\n")
+        more = "every 2 records of a source become 3, each copy 4 ticks after the one before; copies past the end wrap round to the start"
+        self.assertEqual(told, f"planner: 3 records (from 2): {more}\n")
+        self.assertEqual(self.made("--by", "1", "--twins")[1], "planner: 2 records (from 2): each record is kept as it was\n")
         text, told = self.made("--by", "7/2", "--times")
         self.assertIn("\nb,2,6,", text)
-        self.assertIn("each time is 2/7 of what it was: the same jobs come faster", told)
+        self.assertIn("each time is 2/7 of its old value: the same jobs arrive faster", told)
         text, told = self.made("--by", "2/3", "--times")
         self.assertIn("\nb,10,6,", text)
-        self.assertIn("each time is 3/2 of what it was: the same jobs come more slowly, and demands are as they were. A day is longer", told)
-        self.assertEqual(self.made("--by", "3/3", "--times")[1], "planner: 2 records of 2: each record stands there, as it was\n")
+        self.assertIn("each time is 3/2 of its old value: the same jobs arrive more slowly, and their service times don't change", told)
+        self.assertIn(". Days, nights and peaks are longer\n", told)
+        self.assertEqual(self.made("--by", "3/3", "--times")[1], "planner: 2 records (from 2): each record is kept as it was\n")
         text, told = self.made("--by", "1/2")
         self.assertEqual(text, "source,time,d,note\na,0,5,\udcff\n")
-        self.assertIn("1 record of 2: of each 2 records of a source 1 stand there, at their own times", told)
+        self.assertIn("1 record (from 2): every 2 records of a source become 1, at their own times", told)
         text, told = self.made("--by", "2", "--twins", "--source", "a")
         self.assertEqual((text.count("a,0,5"), text.count("b,7,6")), (2, 1))
 
@@ -161,7 +162,7 @@ class Command(InFolder):
     def test_limits(self):
         """As many records as mpsim takes, and times up to its greatest; more is refused in the words of `planner edit`, and nothing is written."""
         self.assertEqual((scale.RECORDS, scale.GREATEST_TIME), (1 << 20, 1 << 60))
-        more = "--by {}: {} more than the {} that mpsim takes"
+        more = "--by {}: {} above the limit of {}"
         trace, out = self.file("t.csv", f"source,time,d\na,0,1\nb,3,1\na,{2**58},1\n"), self.folder / "o.csv"
         words = "scale", trace, "--out", out, "--by"
         self.refuses(more.format(999999, "1,951,421 records", 1 << 20), *words, 999999, "--twins")
@@ -171,32 +172,33 @@ class Command(InFolder):
             self.assertFalse(out.exists())
             for by, way in ("3/2", ["--twins"]), ("2", ["--twins", "--source", "b"]), ("9", ["--times"]):
                 self.made("--by", by, *way)
-        self.refuses(f"--by 1/5: a time of {5 * 2**58}, which is above {1 << 60}", *words, "1/5", "--times")
+        self.refuses(f"--by 1/5: the time {5 * 2**58} is above the limit of {1 << 60}", *words, "1/5", "--times")
         late = self.file("late.csv", f"source,time\na,{2**59}\na,{2**60}\n")
-        self.refuses(f"--by 2: a time of {2**60 + 1}, which is above {1 << 60}", "scale", late, "--by", 2, "--shift", 2**59 + 1)
+        self.refuses(f"--by 2: the time {2**60 + 1} is above the limit of {1 << 60}", "scale", late, "--by", 2, "--shift", 2**59 + 1)
         self.assertIn(f"a,{2**60},1", self.made("--by", "1/4", "--times")[0])
 
     def test_refusals(self):
         trace = str(self.trace)
-        self.refuses("--by 2: say how: --shift TICKS (those of a day or a week), --times or --twins", "scale", trace, "--by", 2)
-        for text, says in ("1.5", ", as 3/2"), ("0,9", ", as 9/10"), ("2.0", ", as 2"), ("x", ""), ("0.0", ""), ("0", ""), ("1/0", ""), ("-1.5", ""):
-            why = f"--by {text}: expected K or K/N, whole numbers from 1 on{says}"
+        self.refuses("--by 2: choose how: --shift TICKS (those of a day or a week), --times or --twins", "scale", trace, "--by", 2)
+        fractions = ("1.5", ", e.g. 3/2"), ("0,9", ", e.g. 9/10"), ("2.0", ", e.g. 2")
+        for text, says in *fractions, ("x", ""), ("0.0", ""), ("0", ""), ("1/0", ""), ("-1.5", ""):
+            why = f"--by {text}: expected K or K/N, whole numbers of 1 or more{says}"
             self.refuses(why, "scale", trace, f"--by={text}", "--twins")
-        self.refuses("--shift 0: expected a number of ticks, as those of a day or a week", "scale", trace, "--by", 2, "--shift", 0)
-        why = "--shift 8: within the trace there is no other time whole shifts away from 7, where 2 records are to stand"
+        self.refuses("--shift 0: expected a positive number of ticks, such as those of a day or a week", "scale", trace, "--by", 2, "--shift", 0)
+        why = "--shift 8: within the trace there is no other time whole shifts away from 7, but 2 records need one"
         self.refuses(why, "scale", trace, "--by", 2, "--shift", 8)
-        self.refuses(f"{trace}: no record is of the source 'c'", "scale", trace, "--by", 2, "--twins", "--source", "c")
+        self.refuses(f"{trace}: no record has the source 'c'", "scale", trace, "--by", 2, "--twins", "--source", "c")
         self.assertEqual(planner("scale", trace, "--by", "2", "--times", "--source", "a")[0], 1)
         self.assertEqual(planner("scale", trace, "--by", "2", "--times", "--twins")[0], 2)
         self.file("t.csv", "source,time,d\na,0,5\nb,08:00,6\n")
-        self.refuses(f"{trace}: record 2, column time: '08:00' is no whole number", "scale", trace, "--by", 2, "--twins")
+        self.refuses(f"{trace}: record 2, column time: '08:00' is not a whole number", "scale", trace, "--by", 2, "--twins")
         for text in "\u00b2", "\u0663", "-1", "", " 1":
             self.file("t.csv", f"source,time,d\na,0,5\nb,{text},6\n")
-            self.refuses(f"{trace}: record 2, column time: {text!r} is no whole number", "scale", trace, "--by", 2, "--twins")
+            self.refuses(f"{trace}: record 2, column time: {text!r} is not a whole number", "scale", trace, "--by", 2, "--twins")
         self.file("t.csv", "source,time,d\na,0,5\n\nb,1\n")
-        self.refuses(f"{trace}: record 2: 2 fields, where the header has 3: 'b,1'", "scale", trace, "--by", 2, "--twins")
+        self.refuses(f"{trace}: record 2: 2 fields, but the header has 3: 'b,1'", "scale", trace, "--by", 2, "--twins")
         self.file("t.csv", "")
-        self.refuses(f"{trace}: a trace begins with source,time and not with ''", "scale", trace, "--by", 2, "--twins")
+        self.refuses(f"{trace}: a trace begins with source,time, not with ''", "scale", trace, "--by", 2, "--twins")
         words = "scale", self.file("u.csv", "source,time\na,0\n"), "--by", 2, "--twins", "--out", "/dev/full"
         self.refuses("/dev/full: No space left on device", *words)
         self.assertEqual(sorted(it.name for it in self.folder.iterdir()), ["t.csv", "u.csv"])

@@ -47,7 +47,7 @@ class Plans(Test):
             ("# a model\n\n" + front + "split desk_queue 2 turn from s\ndelay desk_1 a from desk_queue\n", "s, desk_queue, desk_1"),
             (front + "nonsense\n", "s"),
         ):
-            self.assertRaisesRegex(ValueError, f"^model x: there is no node 'desk'; it has {names}$", judged, text)
+            self.assertRaisesRegex(ValueError, f"^model x: no node 'desk'; it has {names}$", judged, text)
 
     def test_values(self):
         found = [values_of(it) for it in ("a=1..3", "a=1..9..4", "b=2,x", "c==5,=7", "d=0..0", "e=0..10..5")]

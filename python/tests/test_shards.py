@@ -159,23 +159,23 @@ class InMemory(InFolder):
     def test_words_that_are_refused(self):
         self.told(self.model, self.trace, "--set", "lines=1", "--set", "column=a", "--folder", self.at)
         for words, line in (
-            ([self.model], "a sweep wants a model and a trace"),
-            ([self.model, self.trace, "--set", "lines=1..3"], "model m: a name in braces has no --set (KeyError: 'column')"),
-            ([self.model, self.trace], "model m: {lines} has no --set: --set lines=FROM..TO, or --set lines=VALUE,VALUE"),
-            ([self.model, self.trace, "--folder", "x"], "model m: {lines} has no --set"),
-            ([self.model, self.trace, "--set", "agents=1..3"], "--set agents: no model has {agents}"),
-            ([self.model, self.trace, "--set", "lines=3..1"], "--set lines=3..1: from 3 to 1 there is no number"),
-            ([self.model, self.trace, "--set", "lines=1", "--set", "lines=2"], "--set lines: it is given twice"),
-            ([self.model, self.trace, "--set", "util=1"], "--set util=1: util is a column of the table already"),
-            ([self.model, "absent*.csv", "--set", "lines=1"], "absent*.csv: there is no such file"),
-            ([self.model, self.trace, "--set", "lines=1", "--resume"], "--parallel, --slurm, --resume, --table and --shard want a --folder"),
-            ([self.model, self.trace, "--set", "lines=1", "--folder", "x", "--within", "3"], "--page and --within go without --folder: they are"),
+            ([self.model], "a sweep needs a model and a trace"),
+            ([self.model, self.trace, "--set", "lines=1..3"], "model m: a name in braces has no value from --set (KeyError: 'column')"),
+            ([self.model, self.trace], "model m: {lines} has no value: give --set lines=FROM..TO or --set lines=VALUE,VALUE"),
+            ([self.model, self.trace, "--folder", "x"], "model m: {lines} has no value: give --set"),
+            ([self.model, self.trace, "--set", "agents=1..3"], "--set agents: no model contains {agents}"),
+            ([self.model, self.trace, "--set", "lines=3..1"], "--set lines=3..1: the range 3..1 is empty"),
+            ([self.model, self.trace, "--set", "lines=1", "--set", "lines=2"], "--set lines is given twice"),
+            ([self.model, self.trace, "--set", "util=1"], "--set util=1: util is already a column of the table"),
+            ([self.model, "absent*.csv", "--set", "lines=1"], "absent*.csv: no such file"),
+            ([self.model, self.trace, "--set", "lines=1", "--resume"], "--parallel, --slurm, --resume, --table and --shard require --folder"),
+            ([self.model, self.trace, "--set", "lines=1", "--folder", "x", "--within", "3"], "--page and --within can't be used"),
             ([self.model, "/dev/null", "--set", "lines=1", "--set", "column=a", "--folder", "x"], "/dev/null: each shard reads the trace, so"),
-            ([self.model, "--folder", self.at, "--resume"], f"{self.at} knows its models, values and traces: none is given with"),
-            (["--folder", self.at, "--resume", "--parallel", "--slurm"], "--parallel and --slurm are two ways: one of them is given"),
+            ([self.model, "--folder", self.at, "--resume"], f"{self.at} already has its models, values and traces: give none with"),
+            (["--folder", self.at, "--resume", "--parallel", "--slurm"], "--parallel and --slurm exclude each other: give one of them"),
             (["--folder", self.at, "--shard", "2"], f"--shard 2: {self.at} has shards 1 to 1"),
             (["--folder", "nowhere", "--table"], "nowhere/plan.json: No such file or directory"),
-            ([self.model, self.trace, "--set", "lines=1", "--set", "column=a", "--folder", self.at], f"{self.at} has a sweep already: --resume"),
+            ([self.model, self.trace, "--set", "lines=1", "--set", "column=a", "--folder", self.at], f"{self.at} already has a sweep: give --resume"),
         ):
             with self.subTest(line):
                 status, out, lines = self.told(*words)
@@ -192,10 +192,10 @@ class InMemory(InFolder):
         stand_in(stand_ins, "mpsweep", f"touch {ran}")
         values = "--set", "column=a", "--set", "lines=1..3"
         for node, models, line in (
-            ("zz", [self.model], "model m: there is no node 'zz'; it has calls, lines"),
-            ("lines", [self.model, self.trace, "--model", other], "model other: there is no node 'lines'; it has calls, desk_queue, s1"),
-            ("zz", [other], "model other: there is no node 'zz'; it has calls, desk_queue, s1"),
-            ("s1", [other], "model other: there is no node 's1'; it has calls, desk_queue, s2"),
+            ("zz", [self.model], "model m: no node 'zz'; it has calls, lines"),
+            ("lines", [self.model, self.trace, "--model", other], "model other: no node 'lines'; it has calls, desk_queue, s1"),
+            ("zz", [other], "model other: no node 'zz'; it has calls, desk_queue, s1"),
+            ("s1", [other], "model other: no node 's1'; it has calls, desk_queue, s2"),
         ):
             words = [*models, *[self.trace] * (len(models) == 1), *values, "--node", "calls", "--node", node]
             for more in [], ["--folder", self.at]:
@@ -242,8 +242,8 @@ class Shards(InFolder):
             self.assertTrue(killed.exists())
             self.assertEqual(status, 1)
             self.assertEqual(lines[1:3], [
-                f"planner: shard {shard}: nothing is left: not begun, or killed, or its disk was full, or its machine vanished",
-                f"planner: 1 of 4 shards aren't in the table: planner sweep --folder {at} --resume runs them",
+                f"planner: shard {shard}: it left nothing: not started, or killed, or its disk was full, or its machine disappeared",
+                f"planner: 1 of 4 shards are missing from the table: planner sweep --folder {at} --resume runs them",
             ])
             of_shard = {str(it) for it in range(64 * shard - 64, 64 * shard)}
             rest = [line for line in want.splitlines(keepends=True) if line.split(",")[2] not in of_shard]
@@ -295,11 +295,11 @@ class Shards(InFolder):
         for way in [], ["--parallel"]:
             status, out, lines = self.told("--folder", self.at, "--resume", *way)
             self.assertEqual(status, 1)
-            self.assertIn(f"planner: shards 1, 3: {socket.gethostname()}: {self.trace}: it isn't what it was when the sweep was begun", "; ".join(
+            self.assertIn(f"planner: shards 1, 3: {socket.gethostname()}: {self.trace}: the file has changed since the sweep began", "; ".join(
                 [re.sub("shard 1: ", "shards 1, 3: ", it) for it in lines if "shard 3:" not in it]))
         self.trace.write_text(text_of(self.trace).replace("calls,999,1,1\n", ""))
         for settings, why in (
-            ({"MPSIM_PROGRAMS": "/nowhere"}, "there is no program mpsweep in /nowhere; MPSIM_PROGRAMS names a folder that has it"),
+            ({"MPSIM_PROGRAMS": "/nowhere"}, "no program mpsweep in /nowhere; set MPSIM_PROGRAMS to a directory that has it"),
         ):
             status, _, lines = self.told("--folder", self.at, "--resume", settings=settings)
             self.assertEqual((status, lines[1:3]), (1, [f"planner: shard {it}: {why}" for it in (1, 3)]))
@@ -312,7 +312,7 @@ class Shards(InFolder):
         for way, name in ("--parallel", "parallel"), ("--slurm", "sbatch"):
             status, _, lines = self.told(*words, "--folder", self.folder / name, way, settings={"PATH": "/nowhere"})
             self.assertEqual((status, len(lines)), (1, 2))
-            self.assertTrue(lines[1].startswith(f"planner: there is no command {name} on the path: {way} wants "), lines)
+            self.assertTrue(lines[1].startswith(f"planner: the command {name} isn't on the PATH: {way} requires "), lines)
 
     def test_damaged_files(self):
         """Emptied, filled with zeros, cut, one digit changed, a scenario taken out, another shard's: each is told, left out, and run again."""
@@ -348,7 +348,7 @@ class Shards(InFolder):
                 self.assertNotEqual(other, text)
                 plan.write_text(other)
                 told = self.told("--folder", self.at, "--resume")
-                self.assertEqual(told, (1, "", [f"planner: {self.at}/plan.json: it is no plan of a sweep, or damaged"]))
+                self.assertEqual(told, (1, "", [f"planner: {self.at}/plan.json: not the plan of a sweep, or damaged"]))
         plan.write_text(text)
         self.told(self.model, self.trace, "--set", "lines=1..70", "--folder", "other")
         plan.write_text((self.folder / "other" / "plan.json").read_text())

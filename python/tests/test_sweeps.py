@@ -121,7 +121,7 @@ class Texts(Test):
         for count in 0, 7, 9:
             self.assertRaisesRegex(ValueError, f"{count} labels for 8 scenarios", mpsim.Sweep.parse, STORED, list(range(count)))
         # Else the second would stand in the place of the first.
-        self.assertRaisesRegex(ValueError, "the label 'x' stands twice", mpsim.Sweep.parse, STORED, [*"abcxdefx"])
+        self.assertRaisesRegex(ValueError, "the label 'x' appears twice", mpsim.Sweep.parse, STORED, [*"abcxdefx"])
 
     def test_sweeps_that_are_altered(self):
         lines = STORED.splitlines(keepends=True)
@@ -140,7 +140,7 @@ class Texts(Test):
     def test_a_sweep_that_lacks_its_first_line(self):
         """It isn't taken for the report of its first scenario alone."""
         text = STORED.split("\n", 1)[1]
-        with self.assertRaisesRegex(mpsim.ReportError, "report line 8: 'scenario 2 status 0' is no line of a report"):
+        with self.assertRaisesRegex(mpsim.ReportError, "report line 8: 'scenario 2 status 0' is not a line of a report"):
             mpsim.Report.parse(text)
         self.assertEqual(mpsim.Report.parse(text[: text.index("scenario 2")])["callback"].in_, 253)
 

@@ -21,8 +21,8 @@ from mpsim.planner.sojourns import table as sojourn_table
 
 CALLS = EXAMPLES / "callcentre"
 JOBS, REPORT, SWEEP = CALLS / "jobs.txt", CALLS / "report.txt", EXAMPLES / "sweep" / "report.txt"
-NO_TICK = "how long is a tick? --tick and --start say it, or the first lines of {}, as planner prepare writes them"
-NO_JOBS = f"{REPORT}: it has no lines of jobs: mpsim writes them with --jobs"
+NO_TICK = "the length of a tick is unknown: give --tick and --start, or {} whose first lines planner prepare wrote"
+NO_JOBS = f"{REPORT}: the report has no job lines: run mpsim with --jobs"
 
 
 def rows_of(text):
@@ -95,12 +95,12 @@ class Service(InFolder):
 
     def test_refusals(self):
         self.refuses(NO_JOBS, "service", REPORT)
-        self.refuses(f"{JOBS}: there is no node 'deck'; it has phone, web, greet, menu, expert, desk, wrap", "service", JOBS, "--node", "deck")
-        self.refuses("a percentile is from 0 to 100, and not 101.0", "service", JOBS, "--percentile", 101)
+        self.refuses(f"{JOBS}: no node 'deck'; it has phone, web, greet, menu, expert, desk, wrap", "service", JOBS, "--node", "deck")
+        self.refuses("a percentile is from 0 to 100, not 101.0", "service", JOBS, "--percentile", 101)
         pool, sweep, page = ("--node", "desk", "--agents", 2), (MODEL, TRACE), (JOBS, "--out", self.folder / "page.html")
         for words in ("service", JOBS), ("hours", JOBS), ("pool", MODEL, TRACE, *pool), ("sojourns", JOBS), ("sweep", *sweep), ("page", *page):
-            for text, why in ("-1", "-1: expected a number of ticks, from 0 on"), ("1.5", "1.5: expected a number of ticks, from 0 on"):
-                self.refuses(f"argument --within: {why} (planner {words[0]} --help tells more)", *words, f"--within={text}", status=2)
+            for text, why in ("-1", "-1: expected a number of ticks, 0 or more"), ("1.5", "1.5: expected a number of ticks, 0 or more"):
+                self.refuses(f"argument --within: {why} (see planner {words[0]} --help)", *words, f"--within={text}", status=2)
         self.refuses("/absent: cannot read the model", "service", "/absent", "/absent", status=6)
         self.assertEqual(planner("service", "/absent"), (1, "", "planner: /absent: No such file or directory\n"))
 
@@ -200,16 +200,16 @@ class Table(InFolder):
         rows = rows_of(self.tells("table", refused, "--of", "exits"))
         self.assertEqual([it[3:6] for it in rows[1:3]], [["agents", "0", "885"], ["callback", "0", "253"]])
         self.refuses("2 labels for 8 scenarios", "table", SWEEP, "--labels", "a", "b")
-        self.refuses("there is no node 'desk'; the report has calls, agents, callback", "table", SWEEP, "--node", "desk")
+        self.refuses("no node 'desk'; the report has calls, agents, callback", "table", SWEEP, "--node", "desk")
 
     def test_what_is_no_report(self):
         text = text_of(JOBS)
         for name, altered, told in (
             ("cut", text[:-20], r"report line \d+: .* is cut"),
             ("altered", text.replace("wait 5", "wait 6", 1), r"report line \d+: .* contradicts the report"),
-            ("version", text.replace("report 2", "report 3", 1), r"report line 1: 'mpsim report 3' begins a report of a form that isn't known here"),
-            ("empty", "", r"report line 1: '' is no line of a report"),
-            ("trace", text_of(TRACE), r"report line 1: 'source,time,.*' is no line of a report"),
+            ("version", text.replace("report 2", "report 3", 1), r"report line 1: 'mpsim report 3' begins a report of an unknown form"),
+            ("empty", "", r"report line 1: '' is not a line of a report"),
+            ("trace", text_of(TRACE), r"report line 1: 'source,time,.*' is not a line of a report"),
             ("sweep", text_of(SWEEP)[:-100], r"report line \d+: "),
             ("bytes", "\udcff\n", r"report line 1: "),
         ):
@@ -218,8 +218,8 @@ class Table(InFolder):
                 status, out, line = planner("table", path)
                 self.assertEqual((status, out, line.count("\n")), (1, "", 1))
                 self.assertRegex(line, f"^planner: {path}: {told}")
-        self.refuses(NO_JOBS.replace(f"{REPORT}: it", "the report"), "table", REPORT, "--of", "visits")
-        self.refuses("--labels are those of a sweep, and this is one report", "table", REPORT, "--labels", "a")
+        self.refuses(NO_JOBS.replace(f"{REPORT}: ", ""), "table", REPORT, "--of", "visits")
+        self.refuses("--labels needs a sweep, but this is a single report", "table", REPORT, "--labels", "a")
         self.refuses(f"{self.folder}/absent: No such file or directory", "table", self.folder / "absent")
 
     def test_outputs_that_fail(self):
@@ -227,7 +227,7 @@ class Table(InFolder):
         words = ["sh", "-c", '"$@"', "sh", sys.executable, "-B", ROOT / "tools" / "planner", "table", MODEL, TRACE, "--of", "visits"]
         words[2] = '"$@" >/dev/full'
         ran = subprocess.run(words, stdout=subprocess.PIPE, stderr=subprocess.PIPE, text=True)
-        self.assertEqual((ran.returncode, ran.stdout, ran.stderr), (1, "", "planner: the output: No space left on device\n"))
+        self.assertEqual((ran.returncode, ran.stdout, ran.stderr), (1, "", "planner: standard output: No space left on device\n"))
         words[2] = '{ "$@"; echo $? >&2; } | head -1'
         words[8:10] = [self.file("m.txt", DESK), self.file("t.csv", "source,time,d\n" + 20000 * "door,0,0\n")]
         ran = subprocess.run(words, stdout=subprocess.PIPE, stderr=subprocess.PIPE, text=True)
@@ -275,13 +275,13 @@ class Compare(InFolder):
         self.assertEqual(planner("compare", REPORT, "--figure", "p95")[0], 2)
         self.refuses("no report has a node 'x'; they have phone, web, greet, menu, expert, desk, wrap", "compare", REPORT, "--node", "x")
         refused = self.file("s.txt", "scenario 1 status 3\nmpsim: model line 1: expected model 1 or model 2\n")
-        self.refuses(f"{refused}: each scenario is refused", "compare", refused)
+        self.refuses(f"{refused}: every scenario was refused", "compare", refused)
         # One that is refused isn't there, and a line says so: differences are those to the first that is.
         others = re.sub(r"^scenario (\d+)", lambda found: f"scenario {int(found[1]) + 1}", text_of(SWEEP), flags=re.M)
         some = self.file("some.txt", text_of(refused) + others)
         status, out, err = planner("compare", some, "--csv")
         self.assertEqual((status, out.split("\n")[0].split(",")[:2]), (0, ["node", "2"]))
-        self.assertEqual(err, "planner: 1 isn't there, since it is refused: mpsim: model line 1: expected model 1 or model 2\n")
+        self.assertEqual(err, "planner: 1 is left out, because it was refused: mpsim: model line 1: expected model 1 or model 2\n")
 
 
 class Run(InFolder):
@@ -295,13 +295,13 @@ class Run(InFolder):
     def test_times_that_look_like_clocks(self):
         model = self.file("m.txt", "model 1\nsource a\n")
         for name, times, looks in (
-            ("dates", [20260302080017, 20260302080102], "dates with a time, as 20260302080017"),
-            ("clocks", [90000 + 100 * it + it for it in range(60)], "times of the day with seconds, as 95959"),
+            ("dates", [20260302080017, 20260302080102], "dates with a time, such as 20260302080017"),
+            ("clocks", [90000 + 100 * it + it for it in range(60)], "times of day with seconds, such as 95959"),
             ("ticks", range(0, 90000, 1000), None),
             ("one", [20260399], None),
         ):
             trace = self.file(f"{name}.csv", "source,time\n" + "".join(f"a,{it}\n" for it in times))
-            said = f"its times look like {looks}, and are taken as ticks: planner prepare makes ticks of them"
+            said = f"its times look like {looks}, but are read as ticks: planner prepare converts them"
             told = self.tells("run", model, trace, error=f"planner: warning: {trace}: {said}\n" if looks else "")
             self.assertIn(f"span {max(times)}\n", told)
 
@@ -321,16 +321,16 @@ class Run(InFolder):
         """They are judged before anything is written, of a picture of the network too; without a page those of `run` say nothing."""
         page, picture, day = self.folder / "page.html", self.folder / "network.svg", ("--start", "2026-03-02T08:00")
         for words in ("--tick", "1s"), day, ("--zone", "Europe/Berlin"):
-            self.refuses(f"{words[0]} says nothing without --page", "run", MODEL, TRACE, *words)
-        calls = [(("run", MODEL, TRACE, "--page", page), NO_TICK.format("the model"))]
+            self.refuses(f"{words[0]} requires --page", "run", MODEL, TRACE, *words)
+        calls = [(("run", MODEL, TRACE, "--page", page), NO_TICK.format("a model"))]
         calls += [(("page", JOBS, "--model", MODEL, "--out", it), NO_TICK.format("a --model")) for it in (page, picture)]
         for call, no_tick in calls:
             for words, line in (
                 (day, no_tick),
                 (("--start", "banana"), no_tick),
                 (("--zone", "Europe/Berlin"), no_tick),
-                (("--tick", "1s", "--start", "08:00"), "--start 08:00: no ISO 8601 time"),
-                (("--tick", "1s", "--zone", "X/Y"), "this machine has no time zone 'X/Y': they are called as Europe/Berlin"),
+                (("--tick", "1s", "--start", "08:00"), "--start 08:00: not an ISO 8601 time"),
+                (("--tick", "1s", "--zone", "X/Y"), "this machine has no time zone 'X/Y'; their names look like Europe/Berlin"),
             ):
                 self.refuses(line, *call, *words)
         self.assertEqual(list(self.folder.iterdir()), [])

@@ -164,15 +164,15 @@ class Formats(Test):
 
     def test_what_has_to_be_said(self):
         for texts, says in (
-            (["03/02/2026 8:00", "04/05/2026 9:00"], "'03/02/2026 8:00' may begin with the day or with the month: the format is '%d/%m/%Y %H:%M' or"),
-            (["25/03/2026 8:00", "03/25/2026 8:00"], "may begin with the day or with the month"),
-            (["02.03.26 08:00"], "'02.03.26 08:00' has a year of two digits: the format may be '%d.%m.%y %H:%M'"),
+            (["03/02/2026 8:00", "04/05/2026 9:00"], "'03/02/2026 8:00' could begin with the day or with the month: the format is '%d/%m/%Y %H:%M'"),
+            (["25/03/2026 8:00", "03/25/2026 8:00"], "could begin with the day or with the month"),
+            (["02.03.26 08:00"], "'02.03.26 08:00' has a two-digit year: the format may be '%d.%m.%y %H:%M'"),
             (["46083.25"], "'46083.25' is a number: the format is one of ticks, unix"),
             (["1772434817"], "is a number"),
-            (["2026-03-02"] * 8 + ["x", "y"], "'x' isn't written as '2026-03-02' is; where a format is given such rows are left out"),
-            (["01.10.2026 7:00", "01.10.2026 7:00", "01.10.2026 7:00:30"], "'01.10.2026 7:00:30' isn't written as '01.10.2026 7:00' is"),
-            (["2026-03-02", "x"], "'2026-03-02' is of no format that is found by itself"),
-            (["", " "], "no time to find the format by"),
+            (["2026-03-02"] * 8 + ["x", "y"], "'x' isn't written like '2026-03-02'; if you give a format, such rows are left out"),
+            (["01.10.2026 7:00", "01.10.2026 7:00", "01.10.2026 7:00:30"], "'01.10.2026 7:00:30' isn't written like '01.10.2026 7:00'"),
+            (["2026-03-02", "x"], "the format of '2026-03-02' can't be detected"),
+            (["", " "], "there is no time from which to detect the format"),
         ):
             with self.assertRaises(ValueError) as caught:
                 found_format(texts)
@@ -186,13 +186,13 @@ class Formats(Test):
                 judged_format(bad)
 
     def test_what_looks_like_clocks(self):
-        self.assertEqual(looks_like_clocks([20260302080017, 20260302080018]), "dates with a time, as 20260302080017")
-        self.assertEqual(looks_like_clocks([202603020800]), "dates with a time, as 202603020800")
-        self.assertEqual(looks_like_clocks([800 + 100 * (it // 60) + it % 60 for it in range(0, 300, 7)]), "times of the day, as 1254")
+        self.assertEqual(looks_like_clocks([20260302080017, 20260302080018]), "dates with a time, such as 20260302080017")
+        self.assertEqual(looks_like_clocks([202603020800]), "dates with a time, such as 202603020800")
+        self.assertEqual(looks_like_clocks([800 + 100 * (it // 60) + it % 60 for it in range(0, 300, 7)]), "times of day, such as 1254")
         seconds = [10000 * (it // 3600) + 100 * (it // 60 % 60) + it % 60 for it in range(28800, 60000, 77)]
-        self.assertEqual(looks_like_clocks(seconds), f"times of the day with seconds, as {seconds[-1]}")
-        self.assertEqual(looks_like_clocks([1772434817]), "seconds since 1970, as 1772434817")
-        self.assertEqual(looks_like_clocks([1772434817000]), "milliseconds since 1970, as 1772434817000")
+        self.assertEqual(looks_like_clocks(seconds), f"times of day with seconds, such as {seconds[-1]}")
+        self.assertEqual(looks_like_clocks([1772434817]), "seconds since 1970, such as 1772434817")
+        self.assertEqual(looks_like_clocks([1772434817000]), "milliseconds since 1970, such as 1772434817000")
         for values in range(0, 5000, 7), range(0, 2400, 100), [5] * 100, [], [20261302080017], range(0, 60), [10**18], [800, 801], range(800, 861):
             self.assertIsNone(looks_like_clocks(values))
 
@@ -255,7 +255,7 @@ class Demands(Test):
     def test_decimal_marks(self):
         texts = ["1,5", "2"], ["1.5"], ["1.000,5"], ["1,000.5"], ["1.000.000"], ["2", "0:03:30,5"], ["1.500", "1,5"], ["0.500"]
         self.assertEqual([found_decimal(it) for it in texts], [",", ".", ",", ".", ",", None, ",", "."])
-        for texts, says in (["1.500"], "'1.500' may be thousands or a fraction"), (["1.5", "1,5"], "both"):
+        for texts, says in (["1.500"], "'1.500' could be thousands or a decimal fraction"), (["1.5", "1,5"], "both"):
             with self.assertRaisesRegex(ValueError, says):
                 found_decimal(texts)
 

@@ -109,7 +109,7 @@ class ReportError(ValueError):
     """A text is no report: it is cut, altered, or of another form. `line` (int, from 1) is where, `found` (str) what stands there, `file` the path,
     where one was read, else None."""
 
-    def __init__(self, line, found, why="is no line of a report", file=None):
+    def __init__(self, line, found, why="is not a line of a report", file=None):
         super().__init__(line, found, why, file)
         self.line, self.found, self.why, self.file = line, found, why, file
 
@@ -171,7 +171,7 @@ def error_of(program, status, told, inputs=()):
 def _signal(number):
     """The name of a signal, with what it may come of."""
     name = signal.Signals(number).name if number in set(signal.Signals) else f"signal {number}"
-    causes = {"SIGILL": ": the processor lacks what x86-64-v2 has", "SIGKILL": ", perhaps for want of memory"}
+    causes = {"SIGILL": ": the processor doesn't support x86-64-v2", "SIGKILL": ", perhaps for lack of memory"}
     return name + causes.get(name, "")
 
 

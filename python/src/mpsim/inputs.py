@@ -48,7 +48,7 @@ class Add(NamedTuple):
 def _row_of(edit):
     """The words of an edit's row: the source, the time and the values."""
     if isinstance(edit.values, (str, bytes, Mapping)) or not isinstance(edit.values, Iterable):
-        raise TypeError(f"the values of an edit are numbers, in the order of the model's columns, and no {type(edit.values).__name__}: {edit!r}")
+        raise TypeError(f"the values of an edit are numbers, in the order of the model's columns, not {type(edit.values).__name__}: {edit!r}")
     return [edit.source, _whole(edit.time), *map(_whole, edit.values)]
 
 
@@ -186,7 +186,7 @@ def trace_input(value, model):
     if _is_given(value):
         return _given(value)
     if not isinstance(value, Iterable):
-        raise TypeError(f"a trace is a path, a text, a data frame or rows, and no {type(value).__name__}")
+        raise TypeError(f"a trace is a path, a text, a data frame or rows, not {type(value).__name__}")
     rows = _rows_of_frame(value) if hasattr(value, "columns") else _rows(iter(value), model)
     return Input(write=lambda file: _write_rows(file, rows))
 
@@ -198,13 +198,13 @@ def edits_input(value):
     if _is_given(value):
         return _given(value)
     if isinstance(value, (Set, Add)) or not isinstance(value, Iterable):
-        raise TypeError(f"edits are a path, a text, or a list of Set and Add, and no {type(value).__name__}")
+        raise TypeError(f"edits are a path, a text, or a list of Set and Add, not {type(value).__name__}")
     return Input(write=lambda file: file.writelines(f"{it}\n".encode() for it in map(_known_edit, value)))
 
 
 def _known_edit(edit):
     if not isinstance(edit, (Set, Add, str)):
-        raise TypeError(f"an edit is a Set, an Add or a line, and no {type(edit).__name__}: {edit!r}")
+        raise TypeError(f"an edit is a Set, an Add or a line, not {type(edit).__name__}: {edit!r}")
     return edit
 
 
@@ -237,7 +237,7 @@ def _rows(rows, model):
 
 def _of_mapping(row, header, number):
     if set(row) != set(header):
-        raise ValueError(f"trace record {number} has the columns {list(row)}, and those before it have {header}")
+        raise ValueError(f"trace record {number} has the columns {list(row)}, but those before it have {header}")
     return [row[name] for name in header]
 
 
@@ -251,7 +251,7 @@ def _write_rows(file, rows):
     text, line_of = _Text(file), row_writer()
     for number, row in enumerate(rows):
         if isinstance(row, (str, bytes)):
-            raise TypeError(f"trace record {number} is a text, and no row: {row!r}")
+            raise TypeError(f"trace record {number} is a text, not a row: {row!r}")
         text.write(line_of([_whole(it) for it in row]) + "\n")
     text.flush()
 

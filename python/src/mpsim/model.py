@@ -193,7 +193,7 @@ def nodes_of(text):
         if not words or words[0].startswith("#") or words[0] in ("model", "bound"):
             continue
         if len(words) == 1:
-            raise ValueError(f"{line.strip()!r} is no line of a model")
+            raise ValueError(f"{line.strip()!r} is not a line of a model")
         begin = words.index("from") if "from" in words else len(words)
         kind, asked = words[0], words[2:begin]
         inputs = [it.partition(".") for it in words[begin + 1 :]]

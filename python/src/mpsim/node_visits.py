@@ -92,7 +92,7 @@ class NodeVisits:
 def percentile_of(waits, percent):
     """Of n sorted waits number n * percent / 100, rounded up."""
     if not 0 <= percent <= 100:
-        raise ValueError(f"a percentile is from 0 to 100, and not {percent}")
+        raise ValueError(f"a percentile is from 0 to 100, not {percent}")
     # As the number is written: the float 99.9 is a little more than 999 of 1000.
     share = Fraction(str(percent)) / 100
     return waits[max(-(-share.numerator * len(waits) // share.denominator), 1) - 1] if waits else 0

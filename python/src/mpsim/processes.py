@@ -72,7 +72,7 @@ class Running:
         """Raises what the program's end asks for."""
         status = self._process.returncode
         if self._is_late and status == -signal.SIGKILL:
-            raise TimedOut(f"{self.name} was ended, since its time was out", told, status) from None
+            raise TimedOut(f"{self.name} was ended: its timeout has passed", told, status) from None
         if self._is_killed:
             return
         if status == -signal.SIGINT:

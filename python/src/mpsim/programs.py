@@ -28,8 +28,8 @@ def find(name):
             return file
     found = None if asked else shutil.which(name)
     if found is None:
-        where = asked or f"this package, in a clone around it (where ./{name} builds it), or on the path"
-        raise ProgramError(f"there is no program {name} in {where}; MPSIM_PROGRAMS names a folder that has it")
+        where = asked or f"this package, in a clone around it (where ./{name} builds it), or on the PATH"
+        raise ProgramError(f"no program {name} in {where}; set MPSIM_PROGRAMS to a directory that has it")
     return found
 
 

@@ -67,7 +67,7 @@ class Report:
     @model.setter
     def model(self, text):
         if text is not None and sorted((it.name, it.kind) for it in nodes_of(text)) != sorted((it.name, it.kind) for it in self.nodes):
-            raise ValueError("the model isn't that of the report: its nodes are others")
+            raise ValueError("the model isn't that of the report: its nodes differ")
         self._model = text
 
     def __getitem__(self, name):
@@ -126,7 +126,7 @@ class Report:
         >>> import mpsim
         >>> mpsim.Report.parse("mpsim report 2\\njobs 3 span")
         Traceback (most recent call last):
-        mpsim.errors.ReportError: report line 2: 'jobs 3 span' is no line of a report
+        mpsim.errors.ReportError: report line 2: 'jobs 3 span' is not a line of a report
         """
         report = Reading(text).report()
         report.model = None if model is None else model_text(model)
@@ -176,7 +176,7 @@ class Reading:
         self.again = None
         self._next()
         if re.fullmatch(rb"mpsim report ([03-9]|[1-9]\d+)\n", self._line):
-            raise self._fault(self._line, "begins a report of a form that isn't known here: 1 and 2 are")
+            raise self._fault(self._line, "begins a report of an unknown form: only 1 and 2 are known")
         self.form = int(self._line_of("form")[1])
         self.jobs, self.span = map(int, self._line_of("jobs").groups())
         self.nodes, self.exits, self._node_lines = [], [], self._number
@@ -197,7 +197,7 @@ class Reading:
         self._number += 1
         self._line = self._stream.readline()
 
-    def _fault(self, line, why="is no line of a report"):
+    def _fault(self, line, why="is not a line of a report"):
         return ReportError(self._number, line.decode(errors="surrogateescape").rstrip("\n"), why)
 
     def _line_of(self, kind):
@@ -220,7 +220,7 @@ class Reading:
             if node.in_ != node.out + node.lost + (node.held or 0):
                 raise self._contradiction(node, "its in isn't the sum of out, lost and held")
             if node.name in names:
-                raise self._contradiction(node, "its name stands twice")
+                raise self._contradiction(node, "its name appears twice")
             names.append(node.name)
         return names
 
@@ -232,7 +232,7 @@ class Reading:
             it = Exit(name, *map(int, values))
             place = names.index(name) if name in names else -1, it.output
             if place <= before or place[0] < 0:
-                raise ReportError(self._number - 1, line.decode().rstrip("\n"), "is of no node, or stands behind the line of a later output")
+                raise ReportError(self._number - 1, line.decode().rstrip("\n"), "names no node, or follows the line of a later output")
             before = place
             self.exits.append(it)
 
@@ -241,7 +241,7 @@ class Reading:
         if self.jobs != sum(it.in_ for it in self.nodes if it.kind == "source"):
             raise ReportError(self._node_lines - 1, f"jobs {self.jobs} span {self.span}", "contradicts the lines of the sources")
         if not any(it.kind in ("fork", "join") for it in self.nodes) and self.jobs != sum(it.jobs for it in self.exits):
-            raise self._fault(self._line, f"stands behind lines of exits by which not all of {self.jobs} jobs leave")
+            raise self._fault(self._line, f"follows exit lines by which not all of the {self.jobs} jobs leave")
 
     def _contradiction(self, node, why):
         return ReportError(self._node_lines + self.nodes.index(node), node.line(), f"contradicts the report: {why}")
@@ -258,7 +258,7 @@ class Reading:
                 yield piece
         for node in self.nodes:
             if seen[node.name].told() != (node.in_, node.out, node.lost, node.held or 0, node.wait, node.max, node.area):
-                raise self._contradiction(node, "the lines of its jobs are others, or some lack")
+                raise self._contradiction(node, "its job lines differ, or some are missing")
 
     def _texts(self):
         """The lines of the jobs, whole lines, half a megabyte or so at a time."""
@@ -316,7 +316,7 @@ class Reading:
                 return self._fault(line)
             name = found[2].decode()
             if name not in self._left:
-                return self._fault(line, "is of no node, or stands behind the lines of a later one")
+                return self._fault(line, "names no node, or follows the lines of a later one")
             del self._left[: self._left.index(name)]
             self._number += 1
         return self._fault(cut, "is cut")

@@ -55,7 +55,7 @@ class Sweep(dict):
             raise ValueError(f"{len(labels)} labels for {len(found)} scenarios")
         for label in labels or ():
             if labels.count(label) > 1:
-                raise ValueError(f"the label {label!r} stands twice")
+                raise ValueError(f"the label {label!r} appears twice")
         return cls((it, scenario._replace(label=it)) for it, scenario in zip(labels or range(1, len(found) + 1), found))
 
     def reports(self):
@@ -116,7 +116,7 @@ def scenarios_of(text, labels=None, inputs=None):
         found = SCENARIO.fullmatch(line)
         count += 1
         if not found or int(found[1]) != count or (labels is not None and count > len(labels)):
-            raise ReportError(number, line.decode(errors="surrogateescape").rstrip("\n"), "is no line of a sweep")
+            raise ReportError(number, line.decode(errors="surrogateescape").rstrip("\n"), "is not a line of a sweep")
         label, status = labels[count - 1] if labels is not None else count, int(found[2])
         if status == 0:
             reading = Reading(stream, number + 1, in_sweep=True)
@@ -126,8 +126,8 @@ def scenarios_of(text, labels=None, inputs=None):
         else:
             told = stream.readline().decode(errors="surrogateescape")
             if status not in REFUSED or not told.startswith("mpsim: ") or not told.endswith("\n"):
-                raise ReportError(number + 1, told.rstrip("\n"), f"is no line of a refusal with status {status}")
+                raise ReportError(number + 1, told.rstrip("\n"), f"is not the line of a refusal with status {status}")
             yield Scenario(label, status, None, error_of("mpsim", status, told, [inputs[count], inputs[0]] if inputs else ()))
             line, number = stream.readline(), number + 2
     if count == 0 or (labels is not None and count < len(labels)):
-        raise ReportError(number, "", f"is the end of a sweep, behind {count} scenarios")
+        raise ReportError(number, "", f"is the end of a sweep, after {count} scenarios")

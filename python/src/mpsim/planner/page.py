@@ -1,4 +1,4 @@
-"""The command `planner page`: a page of reports that are there."""
+"""The command `planner page`: makes an HTML page from existing reports."""
 
 from .. import page
 from ..model import nodes_of
@@ -14,17 +14,19 @@ EXAMPLE = "planner page jobs.txt --model model.txt --out run.html"
 
 
 def words(parser):
-    parser.add_argument("reports", metavar="REPORT", nargs="+", help="what mpsim or mpsweep wrote; with lines of jobs (--jobs) there are waits")
-    parser.add_argument("--model", action="append", default=[], metavar="FILE", help="the model of all reports, or one for each, for the network")
-    parser.add_argument("--out", metavar="FILE", required=True, help="the page; with a name that ends in .svg the network of the first report")
-    parser.add_argument("--title", metavar="TEXT", help="its title; else the name of the report")
-    parser.add_argument("--within", type=ticks, metavar="TICKS", help="the share served within so many ticks is a figure as well")
+    says = "a report of mpsim or a sweep of mpsweep; with job lines (--jobs) the page has waits"
+    parser.add_argument("reports", metavar="REPORT", nargs="+", help=says)
+    says = "the model, to draw the network: one for all reports, or one per report"
+    parser.add_argument("--model", action="append", default=[], metavar="FILE", help=says)
+    parser.add_argument("--out", metavar="FILE", required=True, help="the page; if the name ends in .svg, a drawing of the first report's network")
+    parser.add_argument("--title", metavar="TEXT", help="title of the page; default: the name of the report")
+    parser.add_argument("--within", type=ticks, metavar="TICKS", help="also show the share served within this many ticks")
     calendar.words(parser)
 
 
 def axes(asked, text):
-    """The options of a page that come of a command's words and of a model's text (str or None): how many seconds a tick has, and what a clock shows
-    at time 0. None of them where nobody says how long a tick is, unless other words want it."""
+    """Returns the options of a page given by a command's arguments and a model's text (str or None): the seconds per tick, and the wall-clock time of
+    time 0. Empty if nothing gives the length of a tick and no argument needs it."""
     tick, start, _ = calendar.told_in(text or "")
     if not (tick or calendar.words_of(asked)):
         return {}
@@ -33,28 +35,28 @@ def axes(asked, text):
 
 
 def _labelled(path, name):
-    """Pairs of a label and a report, of a file that is called so: its name, and behind it the numbers of the scenarios of a sweep."""
+    """Yields pairs of a label and a report in a file: the label is the file's name, followed in a sweep by the number of the scenario."""
     told = load(path)
     return [(f"{name} {label}", it) for label, it in told.reports().items()] if isinstance(told, Sweep) else [(name, told)]
 
 
 def _models(asked):
-    """The text of the model (str or None) of each report's file. Raises ValueError where they are more than one, and not one for each."""
+    """Returns the model's text (str or None) for each report file. Raises ValueError unless there is one model, or one per report."""
     texts = [text_of(it) for it in asked.model] or [None]
     if len(texts) not in (1, len(asked.reports)):
-        raise ValueError(f"{len(texts)} models for {counted(len(asked.reports), 'report')}: --model is given once, or once for each")
+        raise ValueError(f"{len(texts)} models for {counted(len(asked.reports), 'report')}: give --model once, or once per report")
     return texts * len(asked.reports) if len(texts) == 1 else texts
 
 
 def _servers(node):
-    """How many servers a node of a model (ModelNode) has, or None where it has none, or a name in braces stands for the number."""
+    """Returns the number of servers of a model's node (ModelNode), or None if it has none or the number is a name in braces."""
     asked = node.asked.split()
     count = {"server": 1, "loss": 1, "tandem": 1 + asked.count("/"), "forkjoin": len(asked) - asked.count("|")}
     return int(asked[0]) if node.kind == "trunk" and asked[0].isdecimal() else count.get(node.kind)
 
 
 def _unlike(report):
-    """The name of the first node of a report that hasn't as many servers as its model says, by what its utilisation tells; or None."""
+    """Returns the name of the first node whose utilisation doesn't fit the number of servers in the model, or None."""
     for it in nodes_of(report.model) if report.span else ():
         count = _servers(it)
         if count and round(10**4 * report[it.name].util) != 10**4 * report[it.name].busy // (count * report.span):
@@ -62,7 +64,7 @@ def _unlike(report):
 
 
 def tell_pools(reports):
-    """Says which nodes of reports a page has as pools."""
+    """Prints which nodes of reports the page shows as pools."""
     for line in pool_lines(reports, lacks=True):
         say(line)
 
@@ -77,8 +79,8 @@ def main(asked):
             except ValueError as fault:
                 raise ValueError(f"{asked.model[min(at, len(asked.model) - 1)]}: {fault}") from None
             if texts[at] is not None and (other := _unlike(report)):
-                words = "whose words stand in its box; --model is given for each"
-                say(f"warning: {other} of {label} has another number of servers than the model says, {words}")
+                words = "and its box shows the text of the model; give --model once per report"
+                say(f"warning: {other} of {label} doesn't have the number of servers of the model, {words}")
             labelled.append((label, report))
     times = axes(asked, texts[0])
     if asked.out.endswith(".svg"):

@@ -1,4 +1,4 @@
-"""The command `planner sweep`: many variants of a model, over one trace or several, here or on other machines, in one table."""
+"""The command `planner sweep`: runs many variants of a model over one or more traces, here or on other machines, and makes one table."""
 
 import csv
 import os
@@ -22,35 +22,39 @@ EXAMPLE = """planner sweep model.txt trace.csv --set agents=20..40 --page sweep.
 
 
 def words(parser):
-    parser.add_argument("model", nargs="?", help="a model in which {NAME} stands for a value of --set")
-    parser.add_argument("trace", nargs="?")
-    parser.add_argument("--set", action="append", default=[], metavar="NAME=VALUES", help="20..40, 20..40..5 or 1,2,5; each with each of others")
-    parser.add_argument("--model", dest="models", action="extend", nargs="+", default=[], metavar="FILE", help="further models, or a pattern of them")
-    parser.add_argument("--trace", dest="traces", action="extend", nargs="+", default=[], metavar="FILE", help="further traces, or a pattern of them")
-    alone = "rows of this node, or pool, alone; may be repeated; --folder keeps it"
+    parser.add_argument("model", nargs="?", help="a model in which {NAME} is replaced by a value of --set")
+    parser.add_argument("trace", nargs="?", help="its trace")
+    ranges = "values of NAME: a range (20..40), a range with a step (20..40..5) or a list (1,2,5); several --set run every combination"
+    parser.add_argument("--set", action="append", default=[], metavar="NAME=VALUES", help=ranges)
+    says = "further models, or a pattern such as variants/*.txt"
+    parser.add_argument("--model", dest="models", action="extend", nargs="+", default=[], metavar="FILE", help=says)
+    says = "further traces, or a pattern such as days/*.csv"
+    parser.add_argument("--trace", dest="traces", action="extend", nargs="+", default=[], metavar="FILE", help=says)
+    alone = "only rows of this node or pool; may be repeated; --folder stores it with the sweep"
     parser.add_argument("--node", action="append", default=[], metavar="NAME", help=alone)
-    parser.add_argument("--within", type=ticks, metavar="TICKS", help="with two columns of the share served within so many ticks; takes longer")
-    parser.add_argument("--page", metavar="FILE", help="an HTML file with curves over the values as well")
-    folder = parser.add_argument_group("any number of scenarios, on any machines")
-    folder.add_argument("--folder", metavar="FOLDER", help="keeps the sweep there, cut into shards of up to 64 models")
-    folder.add_argument("--parallel", metavar="OPTIONS", nargs="?", const="", help="by GNU parallel, as --parallel='--sshlogin a,b --jobs 4'")
-    folder.add_argument("--slurm", metavar="OPTIONS", nargs="?", const="", help="as an array of Slurm, with these options of sbatch")
-    folder.add_argument("--resume", action="store_true", help="goes on with the sweep of the folder: runs what isn't done, or is damaged")
-    folder.add_argument("--table", action="store_true", help="runs nothing: the table of what is done")
-    folder.add_argument("--shard", type=int, metavar="N", help="runs one shard, and writes no table")
+    parser.add_argument("--within", type=ticks, metavar="TICKS", help="add two columns with the share served within this many ticks; takes longer")
+    parser.add_argument("--page", metavar="FILE", help="also write an HTML page with curves over the values")
+    folder = parser.add_argument_group("sweeps of any size, on any machines")
+    folder.add_argument("--folder", metavar="FOLDER", help="keep the sweep in this directory, cut into shards of up to 64 models")
+    says = "run the shards with GNU parallel, e.g. --parallel='--sshlogin a,b --jobs 4'"
+    folder.add_argument("--parallel", metavar="OPTIONS", nargs="?", const="", help=says)
+    folder.add_argument("--slurm", metavar="OPTIONS", nargs="?", const="", help="run the shards as a Slurm array, with these options of sbatch")
+    folder.add_argument("--resume", action="store_true", help="continue the sweep of --folder: run the shards that are missing or damaged")
+    folder.add_argument("--table", action="store_true", help="run nothing; write the table of the shards that are done")
+    folder.add_argument("--shard", type=int, metavar="N", help="run one shard, and write no table")
 
 
 def _judged(asked):
-    """Raises ValueError where words don't go together."""
+    """Raises ValueError for arguments that exclude each other."""
     goes_on = asked.resume or asked.table or asked.shard is not None
     if asked.folder is None and (goes_on or asked.parallel is not None or asked.slurm is not None):
-        raise ValueError("--parallel, --slurm, --resume, --table and --shard want a --folder")
+        raise ValueError("--parallel, --slurm, --resume, --table and --shard require --folder")
     if asked.folder is not None and (asked.page or asked.within is not None):
-        raise ValueError("--page and --within go without --folder: they are made of what memory holds")
+        raise ValueError("--page and --within can't be used with --folder: they are made from what memory holds")
     if goes_on and (asked.model or asked.set or asked.models or asked.traces):
-        raise ValueError(f"{asked.folder} knows its models, values and traces: none is given with --resume, --table or --shard")
+        raise ValueError(f"{asked.folder} already has its models, values and traces: give none with --resume, --table or --shard")
     if asked.parallel is not None and asked.slurm is not None:
-        raise ValueError("--parallel and --slurm are two ways: one of them is given")
+        raise ValueError("--parallel and --slurm exclude each other: give one of them")
 
 
 def _plan(asked):
@@ -65,20 +69,20 @@ def _plan(asked):
 
 
 def _shares(report, ticks, nodes):
-    """For each row of a report the two shares that are served within so many ticks."""
+    """Yields, for each row of a report, the two shares served within this many ticks."""
     for it in visits_at(report, names_of(report, nodes)):
         shares = it.share_within(ticks), it.share_within(ticks, departed=True)
         yield [None if share is None else round(share, 6) for share in shares]
 
 
 def _tell_pools(told, how):
-    """Says what was seen of pools (PoolLines), and where figures of them lack how they come to be there."""
+    """Prints what was collected about pools (PoolLines), and how to get their missing figures."""
     for line in [*told.lines(), *told.lacks(how)]:
         say(line)
 
 
 def _scenarios(plan, shard, with_jobs):
-    """The scenarios of a shard, each as it comes, and the numbers of their models."""
+    """Yields the scenarios of a shard as they come, with the numbers of their models."""
     trace, models = plan.shard(shard)
     texts = [plan.model(it)[2].encode(errors="surrogateescape") for it in models]
     if with_jobs:
@@ -89,7 +93,7 @@ def _scenarios(plan, shard, with_jobs):
 
 
 def _in_memory(asked):
-    """One shard after another; rows are written as they come, and reports kept for a page alone."""
+    """Runs one shard after another. Rows are written as they come; reports are kept only for a page."""
     plan, kept, refused, told = _plan(asked), Sweep(), False, PoolLines(asked.node)
     head = plan.head()
     if asked.within is not None:
@@ -109,21 +113,21 @@ def _in_memory(asked):
                 if asked.page:
                     kept[_label(plan, trace, at)] = it
                 tell(done)
-    _tell_pools(told, "planner sweep has them with --within")
+    _tell_pools(told, "give planner sweep --within")
     if asked.page:
         kept.save(asked.page, title=" ".join(asked.set) or None, within=asked.within)
     return 11 if refused else 0
 
 
 def _label(plan, trace, at):
-    """What a scenario is called on the page: its values, with the names of its model and its trace where there are several."""
+    """Returns the label of a scenario on the page: its values, with the names of its model and its trace if there are several."""
     label, values, _ = plan.model(at)
     words = [trace["label"]] * (len(plan.traces) > 1) + [label] * (len(plan.models) > 1 or not values) + [str(it) for it in values.values()]
     return ", ".join(words)
 
 
 def _cleared(folder):
-    """Takes away what is damaged, to be run again, and what killed runs of this machine left."""
+    """Removes damaged shards, so that they run again, and what killed runs on this machine left behind."""
     for shard in range(1, folder.plan.shards + 1):
         try:
             folder.text(shard)
@@ -138,7 +142,7 @@ def _cleared(folder):
 
 
 def _here(folder, lacking):
-    """Runs one shard after another. One that fails lets the others run."""
+    """Runs one shard after another. If one fails, the others still run."""
     with Progress(len(lacking), "shards") as tell:
         for done, shard in enumerate(lacking):
             tell(done)
@@ -162,7 +166,7 @@ def _run(asked, folder):
 
 
 def ranges(numbers, most=20):
-    """Rising numbers as text, "1-3, 7" of 1, 2, 3 and 7; no more than so many pieces."""
+    """Returns rising numbers as text, such as "1-3, 7" for 1, 2, 3 and 7, in at most this many pieces."""
     pieces = []
     for it in numbers:
         if pieces and pieces[-1][1] == it - 1:
@@ -174,10 +178,10 @@ def ranges(numbers, most=20):
 
 
 def _tell_lacking(folder, damaged):
-    """Says which shards aren't in the table, and why. How many they are."""
+    """Prints which shards are missing from the table, and why. Returns their number."""
     whys = {}
     for shard in sorted({*folder.lacking(), *damaged}):
-        why = damaged.get(shard, "nothing is left: not begun, or killed, or its disk was full, or its machine vanished")
+        why = damaged.get(shard, "it left nothing: not started, or killed, or its disk was full, or its machine disappeared")
         if shard not in damaged and os.path.exists(folder.failure(shard)):
             with open(folder.failure(shard), encoding="utf-8", errors="replace") as file:
                 why = file.read().strip()
@@ -187,11 +191,11 @@ def _tell_lacking(folder, damaged):
     missing = sum(map(len, whys.values()))
     if missing:
         again = f"planner sweep --folder {shlex.quote(folder.path)} --resume"
-        say(f"{missing:,} of {folder.plan.shards:,} shards aren't in the table: {again} runs them")
+        say(f"{missing:,} of {folder.plan.shards:,} shards are missing from the table: {again} runs them")
         parts = len(folder.parts())
         if parts:
-            several = f"{parts:,} files .part are of shards that still run, or were killed"
-            say(several if parts > 1 else "1 file .part is of a shard that still runs, or was killed")
+            several = f"{parts:,} .part files belong to shards that are still running, or were killed"
+            say(several if parts > 1 else "1 .part file belongs to a shard that is still running, or was killed")
     return missing
 
 
@@ -206,7 +210,7 @@ def _in_folder(asked):
     if asked.shard is not None:
         if not 1 <= asked.shard <= folder.plan.shards:
             raise ValueError(f"--shard {asked.shard}: {asked.folder} has shards 1 to {folder.plan.shards}")
-        # Slurm begins a task again whose machine vanished: what is done stays.
+        # Slurm restarts a task whose machine disappeared: finished shards stay.
         if not os.path.exists(folder.file(asked.shard)):
             shards.run_shard(folder, asked.shard)
         return 0
@@ -219,7 +223,7 @@ def _in_folder(asked):
         for at, row in enumerate(shards.gather(folder, damaged, told, nodes)):
             writer.writerow(row)
             refused = refused or at > 0 and row[status] != 0
-    _tell_pools(told, "planner sweep has them with --within, and without --folder")
+    _tell_pools(told, "give planner sweep --within, without --folder")
     return 1 if _tell_lacking(folder, damaged) else 11 if refused else 0
 
 
