@@ -1,4 +1,4 @@
-"""A trace, and calls of `planner edit` with changes of it."""
+"""A trace, and calls of `planner edit` that change it."""
 
 from commands import InFolder, planner
 
@@ -11,7 +11,7 @@ class Changing(InFolder):
     """A test with calls of `planner edit`."""
 
     def made(self, changes, trace=CALLS, *words, told=None):
-        """The trace that a call writes, and that it tells this."""
+        """Returns the trace that a call writes; it must print this."""
         status, out, error = planner("edit", self.file("t.csv", trace), self.file("c.csv", changes), *words)
         self.assertEqual(status, 0, error)
         if told:
@@ -19,7 +19,7 @@ class Changing(InFolder):
         return out
 
     def rows(self, changes, trace=CALLS, *words, **more):
-        """The records that a call writes, as texts, behind the header, which stays."""
+        """Returns the records that a call writes, as texts, after the header, which must stay."""
         head, *rows = self.made(changes, trace, *words, **more).splitlines(keepends=True)
         self.assertEqual(head, trace.splitlines(keepends=True)[0])
         return rows

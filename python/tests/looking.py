@@ -1,5 +1,5 @@
-"""Who looks at a page: a browser, or in its place a program for node that has as much of a document as the page's script asks for. Both do the same:
-`all` gives the text and the attributes of elements by a selector, the other calls do what a person does with the one at a place."""
+"""Looks at a page through a browser, or through a program for node that provides as much of a document as the page's script uses. Both have the same
+methods: `all` gives the text and the attributes of elements by a selector, the other calls act on one of them as a person would."""
 
 import html.parser
 import json
@@ -50,7 +50,7 @@ class Tree(html.parser.HTMLParser):
 
 
 def elements(tree, name=None):
-    """The elements of a tree, or those of this name, in their order."""
+    """Yields the elements of a tree, or those of this name, in order."""
     for it in tree[2]:
         if isinstance(it, list):
             if name in (None, it[0]):
@@ -59,7 +59,7 @@ def elements(tree, name=None):
 
 
 def text_of(tree):
-    """The text of an element."""
+    """Returns the text of an element."""
     return "".join(it if isinstance(it, str) else text_of(it) for it in tree[2])
 
 
@@ -102,7 +102,7 @@ class StandIn:
 
 
 class Browser:
-    """Chromium, without a window."""
+    """Headless Chromium."""
 
     def __init__(self):
         options = webdriver.ChromeOptions()

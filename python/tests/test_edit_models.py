@@ -109,8 +109,8 @@ class Models(Changing):
         self.refused(f"it is empty: {EXPECTED}", "sep=;\n\n", CALLS, *words, where=": ")
         path, nul = self.folder / "c.csv", "NUL bytes: is it UTF-16 without a byte order mark? Without one it is read as UTF-8"
         for data, why in (
-            ("record,time\n1,5\n".encode("utf-16-le"), f" row 1: it begins with {nul}"),
-            ("record,time\n1,5\n".encode("utf-16-be"), f" row 1: it begins with {nul}"),
+            ("record,time\n1,5\n".encode("utf-16-le"), f": row 1: it begins with {nul}"),
+            ("record,time\n1,5\n".encode("utf-16-be"), f": row 1: it begins with {nul}"),
             (b"\xff\xfer", ": not valid UTF-16, although it has a UTF-16 byte order mark"),
         ):
             path.write_bytes(data)

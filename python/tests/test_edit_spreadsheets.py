@@ -48,7 +48,7 @@ class Spreadsheets(Changing):
                 self.tells("edit", self.folder / "t.csv", path, "--out", out, error=f"{error}planner: {counts}\n")
                 self.assertEqual(out.read_bytes().splitlines(keepends=True)[1:], [wanted])
         for data, why in (
-            (b"\xef\xbb\xbfrecord,note\n1,\xfc\n", "line 2: the byte fc isn't valid UTF-8, although the file has a UTF-8 byte order mark"),
+            (b"\xef\xbb\xbfrecord,note\n1,\xfc\n", "line 2: the byte fc is not valid UTF-8, although the file has a UTF-8 byte order mark"),
             (b"record,note\n\n1,\xfc\x81\n", "line 3: the byte 81 is neither UTF-8 nor Windows-1252"),
         ):
             path.write_bytes(data)

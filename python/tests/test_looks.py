@@ -77,7 +77,7 @@ class Looked(Looking):
         self.assertEqual(self.texts("#pictures p"), ["This node has no waits of its own."])
         self.assertEqual(self.attributes("#pictures svg", "data-picture"), ["number"])
         self.looker.pick("#node", self.texts("#node option").index("menu"))
-        self.assertEqual(self.texts("#pictures p"), ["Nobody can wait at this node, or nobody came."])
+        self.assertEqual(self.texts("#pictures p"), ["No job can wait at this node, or none arrived."])
 
     def test_node_to_begin_with(self):
         """That with the longest p90."""
@@ -103,37 +103,37 @@ class Looked(Looking):
         while (text := self.texts("[data-told=time]")[0]) != before:
             before = text
             texts.append(text)
-            came += int(re.search(r": ([\d,]+) came", text)[1].replace(",", ""))
+            came += int(re.search(r": ([\d,]+) arrived", text)[1].replace(",", ""))
             lost += int((re.search(r"([\d,]+) lost", text) or [0, "0"])[1].replace(",", ""))
-            longest = max(longest, int((re.search(r"longest for ([\d,]+)", text) or [0, "0"])[1].replace(",", "")))
+            longest = max(longest, int((re.search(r"longest wait was ([\d,]+)", text) or [0, "0"])[1].replace(",", "")))
             self.looker.press("[data-picture=time]", "ArrowRight")
         node = next(it for it in nodes_of(self.text) if it["name"] == "expert")
         self.assertEqual((came, lost, longest), (int(node["in"]), int(node["lost"]), int(node["max"])))
         self.looker.press("[data-picture=time]", "ArrowLeft")
         self.assertEqual(self.texts("[data-told=time]"), [texts[-2]])
         self.looker.press("[data-picture=waits]", "End")
-        self.assertEqual(self.texts("[data-told=waits]"), [f"100.0 % waited for {int(node['max']):,} or less"])
+        self.assertEqual(self.texts("[data-told=waits]"), [f"100.0 % waited {int(node['max']):,} or less"])
         self.looker.press("[data-picture=waits]", "Home")
         waits = waits_of(self.text, "expert")
         share = 100 * sum(it <= min(waits) for it in waits) / len(waits)
-        self.assertEqual(self.texts("[data-told=waits]"), [f"{share:.1f} % waited for {min(waits):,} or less"])
+        self.assertEqual(self.texts("[data-told=waits]"), [f"{share:.1f} % waited {min(waits):,} or less"])
 
     def test_pieces_of_time(self):
         """One by one, from the lines of the jobs."""
         self.looker.show(page([self.report]))
         self.looker.click("g.node", self.nodes()["expert"])
-        width = int(re.search(r"Pieces of ([\d,]+) ticks", self.texts("figcaption")[0])[1].replace(",", ""))
+        width = int(re.search(r"Intervals of ([\d,]+) ticks", self.texts("figcaption")[0])[1].replace(",", ""))
         visits = [it.split() for it in self.text.splitlines() if it.startswith("job ") and it.split()[2] == "expert"]
         span = int(re.search(r" span (\d+)", self.text)[1])
         self.looker.press("[data-picture=time]", "Home")
         for at in range(span // width + 1):
             mine = [it for it in visits if at * width <= int(it[4]) < (at + 1) * width]
             waits = sorted(int(it[6]) for it in mine if it[5] == "wait")
-            want = f"{at * width:,} to {(at + 1) * width:,}: {len(mine):,} came"
+            want = f"{at * width:,} to {(at + 1) * width:,}: {len(mine):,} arrived"
             want += f", {len(mine) - len(waits):,} lost or held" if len(waits) < len(mine) else ""
             if waits:
                 half, most = waits[(len(waits) + 1) // 2 - 1], waits[(9 * len(waits) + 9) // 10 - 1]
-                want += f"; half waited for {half:,} or less, 9 of 10 for {most:,}, the longest for {waits[-1]:,}"
+                want += f"; half waited {half:,} or less, 9 of 10 {most:,} or less, the longest wait was {waits[-1]:,}"
             self.assertEqual(self.texts("[data-told=time]"), [want])
             self.looker.press("[data-picture=time]", "ArrowRight")
 
@@ -260,19 +260,19 @@ class Looked(Looking):
         """Ticks of half a second from 23:00 on, over midnight, as datetime has them."""
         rows = [("s", it * 900) for it in range(40)]
         report = mpsim.run("model 1\nsource s\nserver d =1000 from s\n", rows, jobs=True)
-        for start, first in (datetime(2026, 2, 28, 23, 0), "23:00 to 23:10: 2 came"), (None, "00:00 to 00:10: 2 came"):
+        for start, first in (datetime(2026, 2, 28, 23, 0), "23:00 to 23:10: 2 arrived"), (None, "00:00 to 00:10: 2 arrived"):
             self.looker.show(page([report], tick=0.5, start=start))
             self.looker.press("[data-picture=time]", "Home")
             told = self.texts("[data-told=time]")[0]
-            width = int(re.search(r"Pieces of ([\d,]+) ticks", self.texts("figcaption")[0])[1].replace(",", "")) // 2
+            width = int(re.search(r"Intervals of ([\d,]+) ticks", self.texts("figcaption")[0])[1].replace(",", "")) // 2
             came = sum(it * 450 < width for it in range(40))
             begin = start or datetime(2000, 1, 1)
             end = datetime.fromtimestamp(begin.timestamp() + width)
-            self.assertTrue(told.startswith(f"{begin:%H:%M} to {end:%H:%M}: {came} came"), told)
+            self.assertTrue(told.startswith(f"{begin:%H:%M} to {end:%H:%M}: {came} arrived"), told)
         long = mpsim.run("model 1\nsource s\nserver d =9 from s\n", [("s", it * 86400 * 7) for it in range(30)], jobs=True)
         self.looker.show(page([long], tick=1, start=datetime(2026, 2, 27, 6, 30)))
         self.looker.press("[data-picture=time]", "End")
-        width = int(re.search(r"Pieces of ([\d,]+) ticks", self.texts("figcaption")[0])[1].replace(",", ""))
+        width = int(re.search(r"Intervals of ([\d,]+) ticks", self.texts("figcaption")[0])[1].replace(",", ""))
         last = datetime(2026, 2, 27, 6, 30).timestamp() + (29 * 86400 * 7 + 9) // width * width
         self.assertEqual(width % 86400, 0)
         told = self.texts("[data-told=time]")[0]
@@ -299,7 +299,7 @@ class Looked(Looking):
         self.looker.pick("#run", 1)
         self.assertIn(shown, self.texts("#nodes tr[data-node=n0] td"))
         self.looker.press("[data-picture=waits]", "End")
-        self.assertEqual(self.texts("[data-told=waits]"), [f"100.0 % waited for {max(report.visits['n0'].wait):,} or less"])
+        self.assertEqual(self.texts("[data-told=waits]"), [f"100.0 % waited {max(report.visits['n0'].wait):,} or less"])
 
     def test_report_without_jobs(self):
         self.looker.show(page([mpsim.run(CALLS, day())]))

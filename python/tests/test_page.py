@@ -110,7 +110,7 @@ class Figures(Test):
         self.assertEqual((found["node"], found["expert"], found["desk"], found["greet"]), ("within 4", "0.3333", "0.4286", "1"))
         # Where nobody ever waits or is lost there is none.
         self.assertEqual([found[it] for it in ("phone", "web", "menu", "wrap")], ["–"] * 4)
-        with self.assertRaisesRegex(ValueError, "wants the lines of the jobs"):
+        with self.assertRaisesRegex(ValueError, "needs job lines"):
             page([mpsim.Report.read(EXAMPLES / "callcentre" / "report.txt")], within=4)
 
     def test_counts_are_exact_where_they_are_kept(self):
@@ -346,7 +346,7 @@ class Files(Test):
         for words, line in (
             ((JOBS, "--model", other), f"{other}: the model isn't that of the report: its nodes differ"),
             ((absent,), f"{absent}: No such file or directory"),
-            ((EXAMPLES / "callcentre" / "report.txt", "--within", "20"), "the share within a time wants the lines of the jobs: jobs=True, or --jobs"),
+            ((EXAMPLES / "callcentre" / "report.txt", "--within", "20"), "the share within a time needs job lines: use jobs=True or --jobs"),
         ):
             with self.subTest(line):
                 self.assertEqual(self.told("page", *words, "--out", out), (1, "", f"planner: {line}\n"))

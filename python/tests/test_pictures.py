@@ -22,7 +22,7 @@ class Pictures(Looking):
         for name in "expert", "wrap":
             self.looker.click("g.node", self.nodes()[name])
             captions = self.texts("figcaption")
-            width = int(re.search(r"piece of ([\d,]+) ticks", captions[1 if name == "expert" else 0])[1].replace(",", ""))
+            width = int(re.search(r"interval of ([\d,]+) ticks", captions[1 if name == "expert" else 0])[1].replace(",", ""))
             mine = [it for it in map(str.split, self.text.splitlines()) if it[0] == "job" and it[2] == name and it[5] == "wait"]
             stays = [(int(it[4]), int(it[8])) for it in mine]
             steps = {}
@@ -66,7 +66,7 @@ class Pictures(Looking):
         cards = dict(zip(self.attributes(".card", "data-figure"), map(number, self.attributes(".card", "data-v"))))
         self.assertEqual({name: cards[name] for name in want}, want)
         self.looker.press("[data-picture=waits]", "End")
-        self.assertEqual(self.texts("[data-told=waits]"), [f"100.0 % waited for {waits[119]:,} or less"])
+        self.assertEqual(self.texts("[data-told=waits]"), [f"100.0 % waited {waits[119]:,} or less"])
         self.looker.type("#ticks", str(waits[59]))
         self.assertEqual(self.texts("#of-all"), [f"{100 * sum(it <= waits[59] for it in waits) / 120:.1f} %"])
         box = self.nodes()["desk"]

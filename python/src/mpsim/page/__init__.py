@@ -1,4 +1,4 @@
-"""The page of a run, or of several side by side: one HTML file, which asks nothing of any network; and the piece of it that a notebook shows."""
+"""Makes the page of a run, or of several side by side: one HTML file that loads nothing from the network; and the excerpt that a notebook shows."""
 
 import base64
 import hashlib
@@ -25,25 +25,25 @@ def _part(name):
 
 
 def _policy(script):
-    """What the browser lets the page do: nothing by a network, and no script but this one."""
+    """The browser's policy for the page: no network access, and only the page's own script."""
     digest = base64.b64encode(hashlib.sha256(script.encode()).digest()).decode()
     return f"default-src 'none'; style-src 'unsafe-inline'; script-src 'sha256-{digest}'; base-uri 'none'; form-action 'none'"
 
 
 def _first_node(nodes):
-    """The node to begin with: where somebody waits that with the longest p90, else the busiest one, or one that has servers."""
+    """Returns the node to select first: the one with waits and the longest p90, else the busiest, or one with servers."""
     return max(nodes, key=lambda it: (it.p90 or 0, it.max or 0, it.lost, it.util or 0, it.util is not None)).name
 
 
 def _exact(value):
-    """A figure for the script. One that no double holds goes as a text."""
+    """Returns a figure for the script; as text if a double can't hold it."""
     if isinstance(value, list):
         return [_exact(it) for it in value]
     return str(value) if isinstance(value, int) and value >= 1 << 53 else value
 
 
 def _data(reports, lines, labels, columns, tick, start):
-    """What the script works on: the figures and pictures of the nodes of each run (`lines`, lists of Node), in the order of the columns."""
+    """Returns the script's data: the figures and charts of the nodes of each run (`lines`, lists of Node), in the order of the columns."""
     runs = []
     for label, report, mine in zip(labels, reports, lines):
         nodes = nodes_that_are_drawn(report)
@@ -77,17 +77,17 @@ def _options(names, chosen=None):
 
 
 def page(reports, labels=None, title=None, tick=None, start=None, within=None):
-    """The page (str) of a report, or of several side by side, under their labels (1, 2 and so on where none are given). The network and the rows of
-    the tables are those of the first one; figures follow the run that is chosen. A pool is a node as a whole: the figures of its name are its own.
+    """Returns the page (str) of a report, or of several side by side, under their labels (by default 1, 2 and so on). The network and the rows of the
+    tables are those of the first; figures follow the selected run. A pool is one node: the figures under its name are those of the whole.
 
-    With `tick`, the seconds of a tick (a number), axes have times of the day, with `start`, the datetime of time 0 on the clock of the place, dates
-    too. With `within` (int, ticks) the share of all that came who are served within that time is a figure as others are: for that each report needs
-    its visits. Raises ValueError where there is no report.
+    With `tick`, the seconds per tick (a number), axes show times of day; with `start`, the local datetime of time 0, also dates. With `within` (int,
+    ticks), the share of all arrivals served within that time becomes a figure; each report then needs its visits. Raises ValueError if there is no
+    report.
     """
     reports = list(reports)
     if not reports:
         raise ValueError("a page wants a report: none is there, or each model was refused")
-    # A name of a file that isn't UTF-8 can't stand in a page.
+    # A file name that isn't UTF-8 can't appear in a page.
     labels = [str(it).encode(errors="surrogateescape").decode(errors="replace") for it in labels or range(1, len(reports) + 1)]
     first, is_several = reports[0], len(reports) > 1
     title = (title or (f"{len(reports)} runs" if is_several else "Run")).encode(errors="surrogateescape").decode(errors="replace")
@@ -107,21 +107,21 @@ def page(reports, labels=None, title=None, tick=None, start=None, within=None):
         nodes=_options([it.name for it in lines[0]], data["node"]),
         tables=nodes_table(first, lines[0], columns),
         exits="" if is_several else exits_table(first),
-        # Nothing in a text may end the element that it stands in.
+        # Nothing in a text may end the element that contains it.
         data=json.dumps(data, separators=(",", ":"), allow_nan=False).replace("<", "\\u003c"),
         script=script,
     )
 
 
 def save(path, reports, labels=None, title=None, **options):
-    """Writes a page, whole or not at all. It takes what `page` takes, and raises OSError besides."""
+    """Writes a page, completely or not at all. Takes what `page` takes, and also raises OSError."""
     text = page(reports, labels, title, **options)
     with written(os.fspath(path)) as file:
         file.write(text)
 
 
 def drawing(report):
-    """The network alone (str), as an SVG file for documents: in light colours. Raises ValueError where the report's model isn't known."""
+    """Returns only the network (str), as an SVG file for documents, in light colours. Raises ValueError if the report's model isn't known."""
     svg = network(report, beside_pools(report), is_still=True)
     if not svg:
         raise ValueError("the network wants the model of the report")
@@ -133,7 +133,7 @@ def drawing(report):
 
 
 def piece(report):
-    """What a notebook shows (str): the network and the tables, without a script."""
+    """Returns what a notebook shows (str): the network and the tables, without a script."""
     lines = beside_pools(report)
     svg = network(report, lines, is_still=True)
     drawn = f'{legend()}<div class="scroll">{svg}</div>' if svg else ""

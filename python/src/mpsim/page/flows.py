@@ -1,9 +1,9 @@
-"""How many jobs went by each output of a network, as far as a report tells it."""
+"""Finds how many jobs took each output of a network, as far as a report shows it."""
 
 
 def flows(nodes, report):
-    """How many jobs (int) went by the outputs of these nodes of a model: a dict by pairs of a node's name and a number. One that isn't there can't be
-    told: of a split and a join the report counts what came by all their outputs together, so that each one is told by who reads it."""
+    """Returns the number of jobs (int) on the outputs of a model's nodes: a dict by pairs of a node's name and an output. Missing pairs are unknown:
+    for a split and a join the report counts all outputs together, so each is derived from the node that reads it."""
     told = {(it.name, it.output): it.jobs for it in report.exits}
     for node in nodes:
         line = report[node.name]
@@ -24,7 +24,7 @@ def flows(nodes, report):
 
 
 def _by_sum(told, outputs, count):
-    """Where all of these outputs but one are told, and all together, that one is too."""
+    """If all but one of these outputs are known, and their sum, derives the missing one."""
     left = [it for it in outputs if it not in told]
     if len(left) == 1:
         told[left[0]] = count - sum(told[it] for it in outputs if it != left[0])

@@ -1,16 +1,16 @@
-"""Where the nodes of a network stand: in layers from the sources to the right, with the lines between them."""
+"""Lays out a network: nodes in layers, from the sources to the right, and the lines between them."""
 
 from typing import NamedTuple, Tuple
 
 # The box of a node, and the gaps between boxes.
 WIDE, HIGH, GAP_X, GAP_Y = 150, 62, 64, 20
-# How high a line is that passes a layer, and the end of one that leaves; how wide the words behind that are; the gap around all.
+# The height of a line that crosses a layer, and of the end of one that leaves; the width of the text after that; the margin.
 PASSING, LEAVING, LEAVES, AROUND = 12, 20, 70, 12
 
 
 class Line(NamedTuple):
-    """A line from an output (its node's name and number): the names of the places by which it goes, its node's first, and whether somebody reads it
-    (else it ends by leaving)."""
+    """A line from an output (its node's name and number): the names of the places it passes, beginning with its node, and whether a node reads it
+    (else it leaves the network)."""
 
     output: Tuple[str, int]
     path: Tuple[str, ...]
@@ -18,7 +18,7 @@ class Line(NamedTuple):
 
 
 class Layout:
-    """The left side and the middle of each place, by name (`places`); the lines; and how wide and high all is."""
+    """The left edge and the middle of each place, by name (`places`); the lines; and the width and height of the drawing."""
 
     def __init__(self, nodes):
         columns, self.lines = _columns(nodes, _layers(nodes))
@@ -33,7 +33,7 @@ class Layout:
 
 
 def _layers(nodes):
-    """The number of each node's layer: behind all that it reads; that of a source is just before who reads it."""
+    """Returns the number of each node's layer: after everything it reads; a source comes just before its reader."""
     layers, left = {}, list(nodes)
     while left:
         for it in left:
@@ -49,7 +49,7 @@ def _layers(nodes):
 
 
 def _columns(nodes, layers):
-    """For each layer a dict from the names of the places in it to their heights; and the lines. Where a line passes a layer, it has a place there."""
+    """Returns, for each layer, the heights of its places by name (dict), and the lines. A line that crosses a layer has a place there."""
     readers = {it: node.name for node in nodes for it in node.inputs}
     columns = [{} for _ in range(max(layers.values()) + 2)]
     for it in nodes:
@@ -69,7 +69,7 @@ def _columns(nodes, layers):
 
 
 def _middles(columns, lines, high):
-    """How far down the middle of each place is: as near to those that it is joined to as the others of its layer let it be."""
+    """Returns the vertical middle of each place: as near to its neighbours as the others in its layer allow."""
     beside = {name: [] for name in high}
     for line in lines:
         for one, other in zip(line.path, line.path[1:]):
@@ -78,7 +78,7 @@ def _middles(columns, lines, high):
     middle = {}
     for column in columns:
         _spread(column, {name: at for at, name in enumerate(column)}, middle)
-    # There and back, by those before and those behind; then by both.
+    # Forth by the places before, back by those after; then by both.
     for turn in range(10):
         order = range(len(columns)) if turn % 2 == 0 else range(len(columns) - 1, -1, -1)
         for at in order:
@@ -96,7 +96,7 @@ def _middles(columns, lines, high):
 
 
 def _spread(column, wanted, middle):
-    """Places those of a layer in the order of what they want, no nearer than the gap, and on the whole where they want to be."""
+    """Places those of a layer in the order of their wanted positions, with at least the gap between them, and on average where they want to be."""
     end, moved = None, {}
     for name in sorted(column, key=wanted.get):
         moved[name] = wanted[name] if end is None else max(wanted[name], end + GAP_Y + column[name] / 2)

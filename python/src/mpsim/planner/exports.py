@@ -19,7 +19,7 @@ def found_encoding(data):
     """Returns the encoding (str) of bytes and a note about it (str or None). Raises ValueError if it can't be detected.
 
     >>> found_encoding("Büro\\n".encode("latin-1"))
-    ('cp1252', 'line 1 has the byte fc, which isn't UTF-8: the file is read as Windows-1252, a superset of printable Latin-1')
+    ('cp1252', "line 1 has the byte fc, which isn't UTF-8: the file is read as Windows-1252, a superset of printable Latin-1")
     """
     if data[:2] in (codecs.BOM_UTF16_LE, codecs.BOM_UTF16_BE):
         return "utf-16", "the encoding is UTF-16"
