@@ -1,12 +1,12 @@
-"""What growth.py makes of its numbers: the tables of docs/TIMES.md and the picture beside them. Both are made of the numbers alone.
+"""Makes the tables of docs/TIMES.md and the picture beside them from the numbers of growth.py, and from nothing else.
 
-A point is an input at one size (`at`: rows, or servers in a row) by so many workers: the least time in seconds, and the peak of memory in MB.
+A point is an input at one size (`at`: rows, or servers in series) with a number of workers: the least time in seconds, and the peak memory in MB.
 """
 import math
 from collections import namedtuple
 
 Point = namedtuple("Point", "input at workers seconds megabytes")
-# How an input is told of and drawn: its mark is a path from its middle.
+# The name and the mark of each input; a mark is a path from its middle.
 Style = namedtuple("Style", "name colour mark")
 STYLES = {
     "server": Style("a source and a server", "#1f5fa8", "m-4 0a4 4 0 1 0 8 0a4 4 0 1 0 -8 0z"),
@@ -14,7 +14,7 @@ STYLES = {
     "twelve": Style("twelve stations in a row", "#1d6b34", "m0 -4.8l4.4 7.6h-8.8z"),
     "row": Style("servers in a row", "#6d3a8c", "m0 -5l5 5l-5 5l-5 -5z"),
 }
-# In the picture's units: its size, where the axes of a panel begin and end, how far from their ends the first and the last mark stand.
+# In the picture's units: its size, where the axes of a panel begin and end, and how far the first and the last mark are from their ends.
 WIDTH, HEIGHT = 760, 362
 TOP, BOTTOM, ACROSS, ASIDE = 40, 265, 290, 15
 DARK, PALE, GUIDE = "#333", "#ddd", "#555"
@@ -33,7 +33,7 @@ def cell(point):
 
 
 def table(points, heads, told):
-    """A row for each input and size, and a column for each number of workers."""
+    """A row per input and size, and a column per number of workers."""
     workers = workers_of(points)
     yield f"| {' | '.join([*heads, *map(by_workers, workers)])} |"
     yield f"|{'---|' * (len(heads) + len(workers))}"
@@ -44,7 +44,7 @@ def table(points, heads, told):
 
 
 def tables(numbers):
-    """The tables, as they stand in docs/TIMES.md, and what is to be known of the series."""
+    """Returns the tables, as in docs/TIMES.md, and a description of the series."""
     if not numbers["rows"] + numbers["nodes"]:
         return
     yield f"The least of {numbers['runs']} runs in seconds, and the greatest peak of memory, in form 2, with the script's settings of memory."
@@ -58,7 +58,7 @@ def tables(numbers):
 
 
 def steps(least, most):
-    """The numbers that are 1, 2 or 5 times a power of ten, between which these lie."""
+    """Returns the numbers that are 1, 2 or 5 times a power of ten, and those just outside."""
     every = [float(f"{digit}e{power}") for power in range(-9, 9) for digit in (1, 2, 5)]
     low = max(it for it in every if it <= least)
     high = min(it for it in every if it >= most and it > low)
@@ -106,7 +106,7 @@ class Panel:
         return BOTTOM - (BOTTOM - TOP) * math.log(seconds / low) / math.log(high / low)
 
     def axes(self):
-        """A line and a label for each step of the seconds, or for powers of ten where they are many; and for each size, where there is room."""
+        """Draws a line and a label for each step of the seconds, or only for powers of ten if they are many; and for each size, if there is room."""
         for it in self.seconds:
             if len(self.seconds) <= 12 or f"{it:e}".startswith("1."):
                 self.parts.append(f'<path d="M{self.left - 4} {self.y(it):.1f}h{ACROSS + 4}" stroke="{PALE}"/>')
@@ -120,7 +120,7 @@ class Panel:
                 end = x + 3.5 * len(label)
 
     def guide(self):
-        """From the least time at the least size on: what grows in proportion."""
+        """Draws proportional growth, from the least time at the least size."""
         low, high = self.sizes[0], self.sizes[-1]
         begin = min(it.seconds for it in self.points if it.at == low)
         last = min(high, low * self.seconds[-1] / begin)
@@ -128,7 +128,7 @@ class Panel:
         self.parts.append(f'<path d="{ends}" stroke="{GUIDE}" stroke-dasharray="2 4"/>')
 
     def series(self, name):
-        """An input by the fewest and the most workers."""
+        """Draws an input with the fewest and the most workers."""
         style, shown = STYLES[name], workers_of(self.points)
         for workers in dict.fromkeys([shown[0], shown[-1]]):
             more = workers > shown[0]
@@ -138,7 +138,7 @@ class Panel:
 
 
 def legend(points):
-    """Two rows below the panels: what the marks stand for, and how workers are told apart."""
+    """Draws two rows below the panels: what the marks mean, and how workers are told apart."""
     x, y = 50, BOTTOM + 64
     for style in [STYLES[it] for it in STYLES if it in {point.input for point in points}]:
         yield mark(style, x, y - 4, False)
@@ -157,7 +157,7 @@ def legend(points):
 
 
 def picture(numbers):
-    """The picture as SVG: the same numbers give the same bytes."""
+    """Returns the picture as SVG: the same numbers give the same bytes."""
     points = numbers["rows"] + numbers["nodes"]
     seconds = steps(min(it.seconds for it in points), max(it.seconds for it in points)) if points else []
     over = f"Seconds over servers, {numbers['over']:,} rows"

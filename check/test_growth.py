@@ -1,4 +1,4 @@
-"""How bench/growth.py draws made numbers, and what it runs: a stand-in that tells how it was called, and mpsim with few rows."""
+"""Checks how bench/growth.py draws made-up numbers, and what it runs: a stand-in that records its calls, and mpsim with few rows."""
 import json
 import os
 import re
@@ -10,7 +10,7 @@ from programs import ROOT, Check, executable, run
 GROWTH = ROOT / "bench" / "growth.py"
 NAMES = {"server": "a source and a server", "call-centre": "the call centre", "twelve": "twelve stations in a row", "row": "servers in a row"}
 SVG = "{http://www.w3.org/2000/svg}"
-# It tells the servers and rows of its input, and its other words, each call on a line of a file beside it; and fails where a file beside it says so.
+# Records the servers and rows of its input, and its other arguments, on a line per call in a file beside it; and fails if a file beside it says so.
 STAND_IN = """#!/bin/sh
 echo "$(grep -c '^server' "$1") $(grep -c '^[a-z]*,[0-9]' "$2") $3 $4 $5 $6" >>"$0.calls"
 [ "$6" != "$(cat "$0.fails" 2>&1)" ] || { echo "mpsim: no" >&2; exit 4; }
@@ -19,7 +19,7 @@ echo "$(grep -c '^server' "$1") $(grep -c '^[a-z]*,[0-9]' "$2") $3 $4 $5 $6" >>"
 
 
 def made(name, sizes):
-    """Points by 1, 2 and 4 workers, each of other numbers."""
+    """Points for 1, 2 and 4 workers, each with other numbers."""
     place = list(NAMES).index(name) + 1
     points = [(at, workers, (at + place) / (workers + 1) / sizes[-1], at / sizes[0] + place + workers) for at in sizes for workers in (1, 2, 4)]
     return [dict(zip(("input", "at", "workers", "seconds", "megabytes"), (name, *it))) for it in points]
@@ -38,14 +38,14 @@ NUMBERS = {
 
 class Growth(Check):
     def grows(self, *words):
-        """A run of growth.py, and the picture that it made."""
+        """Runs growth.py, and returns the run and its picture."""
         picture = self.folder / "picture.svg"
         picture.unlink(missing_ok=True)
         ran = run(sys.executable, "-B", GROWTH, *words, "--out", picture)
         return ran, picture.read_bytes() if picture.exists() else b""
 
     def drawn(self, numbers):
-        """What is printed of numbers, and their picture."""
+        """Returns what is printed for numbers, and their picture."""
         ran, picture = self.grows("--numbers", self.file("numbers.json", json.dumps(numbers)))
         self.same(f"{ran.command}: status and error output", (ran.status, ran.line), (0, b""))
         return ran.out.decode(), picture
@@ -56,11 +56,11 @@ class Growth(Check):
         return program
 
     def refused(self, ran, picture, status, line):
-        """No picture is made, nothing is printed, and the last line of the error output tells why."""
+        """No picture is made, nothing is printed, and the last line on stderr says why."""
         self.same(ran.command, (ran.status, ran.line.decode().splitlines()[-1:], ran.out, picture), (status, [line], b"", b""))
 
     def test_picture_of_made_numbers(self):
-        """Each input is there with a mark for each size by the fewest and the most workers, and all labels are."""
+        """Each input has a mark for each size with the fewest and the most workers, and all labels are there."""
         _, picture = self.drawn(NUMBERS)
         top = xml.fromstring(picture)
         series = {group.find(f"{SVG}title").text: len(group.findall(f"{SVG}path")) for group in top.iter(f"{SVG}g")}
@@ -78,7 +78,7 @@ class Growth(Check):
         self.same("the ground", (ground.tag, ground.get("fill"), ground.get("width")), (f"{SVG}rect", "#fff", top.get("viewBox").split()[2]))
 
     def test_marks_are_where_the_numbers_are(self):
-        """On logarithmic axes: equal ratios are equal distances, on both axes and in both panels."""
+        """The axes are logarithmic: equal ratios are equal distances, on both axes and in both panels."""
         numbers = {**NUMBERS, "rows": [], "nodes": []}
         for at, seconds in (10, 0.01), (100, 0.1), (1000, 1):
             numbers["rows"].append({"input": "server", "at": at, "workers": 1, "seconds": seconds, "megabytes": 1})
@@ -96,7 +96,7 @@ class Growth(Check):
         self.holds("other numbers have another picture", self.drawn(other)[1] != self.drawn(NUMBERS)[1])
 
     def test_tables(self):
-        """A row for each input and size, a column for each number of workers."""
+        """A row per input and size, a column per number of workers."""
         told = self.drawn(NUMBERS)[0]
         self.same("how many rows", sum(line.startswith("| ") for line in told.splitlines()), 1 + 9 + 1 + 3)
         head = "| Run | Rows | 1 worker | 2 workers | 4 workers |"
@@ -120,7 +120,7 @@ class Growth(Check):
         self.refused(*self.grows("--numbers", absent), 1, f"growth: {absent}: No such file or directory")
 
     def test_runs_of_a_series(self):
-        """Each size by each number of workers so often, in turn; what is kept gives the same tables and picture."""
+        """Each size runs this often with each number of workers, in turn; the kept numbers give the same tables and picture."""
         program, kept = self.stand_in(), self.folder / "kept.json"
         words = ["--runs", "2", "--rows", "100,200", "--servers", "1,63", "--over", "50", "--workers", "1,3"]
         ran, picture = self.grows(program, *words, "--keep", kept)
@@ -131,13 +131,13 @@ class Growth(Check):
         numbers = json.loads(kept.read_text())
         points = numbers["rows"] + numbers["nodes"]
         self.same("the points", [(it["at"], it["workers"]) for it in points], [(at, by) for at in [100, 200] * 3 + [1, 63] for by in (1, 3)])
-        # What stands in memory where a run begins isn't that of this interpreter.
+        # The memory of a run at its start isn't that of this interpreter.
         most = max(it["megabytes"] for it in points)
         self.holds(f"the stand-in has {most} MB", most < 8 and all(min(it["megabytes"], it["seconds"]) > 0 for it in points))
         self.same("of what is kept", self.drawn(numbers), (ran.out.decode(), picture))
 
     def test_runs_that_fail(self):
-        """A series ends with the first one, and makes no picture."""
+        """A series ends with the first failed run, and makes no picture."""
         few = ["--runs", "1", "--rows", "100", "--servers", "1", "--over", "100", "--workers", "1,2"]
         for file, told in ("fails", "status 4: mpsim: no"), ("differs", "another report"):
             program = self.stand_in()

@@ -1,5 +1,5 @@
-"""Options and statuses are the same wherever they stand: in the usage line that a program writes, the head of its script, its man page, its completions,
-docs/ERRORS.md, docs/REPORT.md and docs/EDITS.md; and the words of `planner` are those of its parsers."""
+"""Checks that options and statuses agree wherever they appear: in a program's usage line, its script, its man page, its completions, docs/ERRORS.md,
+docs/REPORT.md and docs/EDITS.md; and that those of `planner` are those of its parsers."""
 import re
 import shlex
 import shutil
@@ -14,17 +14,17 @@ def text_of(name):
 
 
 def forms_of(program):
-    """The forms of a program's words, from the usage line that it writes."""
+    """Returns the forms of a program's arguments, from its usage line."""
     return run(program).line.decode().rstrip("\n").removeprefix(f"{program}: usage: ").split(" or ")
 
 
 def options_of(text):
-    """The options that a text names, in order, each once."""
+    """Returns the options that a text names, in order, each once."""
     return sorted(set(re.findall(r"--[a-z]+", text)))
 
 
 def plain(line):
-    """A line of a man page as it is shown: words in two fonts by turns stand side by side without a space."""
+    """Returns a line of a man page as shown: words in alternating fonts are joined without a space."""
     macro, *words = shlex.split(line.replace("'", "\\'"))
     if not macro.startswith("."):
         return line
@@ -32,7 +32,7 @@ def plain(line):
 
 
 def rows_of(page, heading=""):
-    """The cells of the first table of a page below a heading."""
+    """Returns the cells of the first table of a page below a heading."""
     text = text_of(page)
     lines = text[text.index(f"\n{heading}\n") if heading else 0 :].splitlines()
     first = next(at for at, line in enumerate(lines) if line.startswith("| "))
@@ -48,7 +48,7 @@ def numbers_of(text):
     return set(re.findall(r"\d+", text.replace(",", "")))
 
 
-# The table of a program in docs/ERRORS.md stands below this heading.
+# The heading in docs/ERRORS.md above the table of each program.
 ERRORS = {"mpsim": "", "mpsweep": "## `mpsweep`", "mpedit": "## `mpedit`"}
 
 
@@ -76,7 +76,7 @@ class Options(Check):
         self.same("docs/REPORT.md", options_of("".join(words for words, _ in rows_of("docs/REPORT.md", "## Options"))), options_of(" ".join(forms_of("mpsim"))))
 
     def test_what_bash_completes(self):
-        """All options, but for those that stand there already; both forms of the report; else files."""
+        """All options that aren't given yet; both forms of the report; otherwise files."""
         if not shutil.which("bash"):
             self.skipTest("no bash here")
         options = options_of(" ".join(forms_of("mpsim")))
@@ -86,7 +86,7 @@ class Options(Check):
             self.same(f"bash behind {words}", sorted(run("bash", "-c", script).out.decode().split()), wanted)
 
     def test_ranges_of_numbers(self):
-        """The numbers of the line that refuses an option's value stand in its descriptions."""
+        """The numbers in the error line for an option's value also appear in its descriptions."""
         rows, page = rows_of("docs/REPORT.md", "## Options"), "\n".join(manual_section("mpsim", "OPTIONS"))
         described = {options_of(it)[0]: it for it in page.split(".TP")[1:]}
         for line, _, _ in rows_of("docs/ERRORS.md"):
@@ -108,7 +108,7 @@ class Options(Check):
 
 
 class Planner(Check):
-    """What its parsers say, in its man page and its completions, which check/planner_words.py writes; and what its help says."""
+    """The man page and the completions, which check/planner_words.py writes from the parsers; and the help."""
 
     def test_files(self):
         for file, made in (planner_words.BASH, planner_words.bash()), (planner_words.ZSH, planner_words.zsh()):
@@ -117,13 +117,13 @@ class Planner(Check):
         self.same("docs/planner.1: check/planner_words.py writes its commands", page, planner_words.with_commands(page))
 
     def helps(self):
-        """The options that the help of each command has, by its name."""
+        """Yields the options in the help of each command, by its name."""
         for name in planner_words.COMMANDS:
             told = run(ROOT / "tools" / "planner", name, "--help").out.decode()
             yield name, sorted(re.findall(r"^  (?:-h, )?(--[a-z-]+)", told, flags=re.MULTILINE))
 
     def completed(self, *before):
-        """What bash completes behind these words."""
+        """Returns what bash completes after these words."""
         words = " ".join(shlex.quote(it) for it in ["planner", *before])
         script = f"compopt() {{ :; }}; source completions/planner.bash; COMP_WORDS=({words}); COMP_CWORD={len(before)}; _planner; echo ${{COMPREPLY[@]}}"
         return sorted(run("bash", "-c", script).out.decode().split())
@@ -143,7 +143,7 @@ class Planner(Check):
         self.same("further commands in docs/planner.1", described, {})
 
     def test_what_bash_completes(self):
-        """Commands; all options, but for those that stand there already and may stand once; the choices of a value; else files."""
+        """Commands; all options that aren't given yet or may be repeated; the choices of a value; otherwise files."""
         if not shutil.which("bash"):
             self.skipTest("no bash here")
         for before, wanted in (

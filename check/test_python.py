@@ -1,6 +1,6 @@
-"""The Python package: each file of python/tests is run by unittest, in a process of its own, over the programs that the other checks run.
+"""Runs each file of python/tests with unittest, in a process of its own, with the programs of the other checks.
 
-A case is a test there; one that is left out, since pandas, a browser, hatchling, GNU parallel or Slurm isn't there, is told here.
+A case is a test there. Tests skipped because pandas, a browser, hatchling, GNU parallel or Slurm is missing are listed.
 """
 import re
 import sys

@@ -1,13 +1,13 @@
-"""Beside queueing theory (theory.py), with few jobs: figures of mpsim are where theory has them, and those of two wrong programs aren't.
+"""Compares few jobs with queueing theory (theory.py): the figures of mpsim agree with it, and those of two wrong programs don't.
 
-docs/VALIDATION.md has the figures of a million jobs; here its rows are compared with what is told now.
+docs/VALIDATION.md has the figures of a million jobs; its rows are compared with what is printed now.
 """
 import re
 import sys
 
 from programs import CHECKS, PROGRAMS, ROOT, Check, executable, run
 
-# A server that serves who came last first, in place of every model: its report is whole, and by its means alone nobody would see it.
+# A last-come-first-served server instead of every model: its report is complete, and its means alone look right.
 LAST_FIRST = """#!/usr/bin/env python3
 import sys
 rows = [line.split(",") for line in open(sys.argv[2]).read().splitlines()[1:]]
@@ -31,7 +31,7 @@ for job, (time, _) in enumerate(jobs):
 for job, (time, _) in enumerate(jobs):
     print(f"job {job + 1} desk arrive {time} wait {waits[job]} depart {ends[job]}")
 """
-# A loss station has a place more than its model says.
+# A loss station has one place more than its model says.
 PLACE_MORE = """#!/bin/sh
 places=$(sed -n 's/^loss desk \\([0-9]*\\).*/\\1/p' "$1")
 sed "s/^loss desk $places/loss desk $((places + 1))/" "$1" >"$0.model"
@@ -42,7 +42,7 @@ exec "$MPSIM" "$0.model" "$@"
 
 class Theory(Check):
     def figures(self, only, jobs, program=None):
-        """What theory.py tells of a section: its status, and of each figure whether it holds."""
+        """Returns the output of theory.py for a section: its status, and whether each figure holds."""
         folder = self.folder / f"programs {only} {bool(program)}".replace("/", "")
         folder.mkdir()
         for name in PROGRAMS:
@@ -62,7 +62,7 @@ class Theory(Check):
             self.same(f"{ran.command}\n{ran.out.decode()}", (ran.status, len(told), set(told.values())), (0, count, {True}))
 
     def test_who_came_last_is_served_first(self):
-        """Means are the same, and percentiles aren't."""
+        """The means are the same, but the percentiles aren't."""
         ran, told = self.figures("M/M/1", 31_000, LAST_FIRST)
         means = ["M/M/1: mean wait", "M/M/1: share that waits"]
         self.same(f"{ran.command}\n{ran.out.decode()}", (ran.status, [it for it in told if told[it]]), (1, means))
@@ -72,7 +72,7 @@ class Theory(Check):
         self.same(f"{ran.command}\n{ran.out.decode()}", (ran.status, told), (1, dict.fromkeys(told, False)))
 
     def test_rows_of_the_page(self):
-        """They are the figures that are told, in their order, and all hold."""
+        """They are the figures printed now, in the same order, and all hold."""
         ran, told = self.figures("", 3_100)
         page, title, rows = (ROOT / "docs" / "VALIDATION.md").read_text(), "", []
         for line in page.splitlines():

@@ -1,16 +1,16 @@
-"""The table that the planner's command makes of a sweep, and what it says to an older Python."""
+"""The table that `planner` makes from a sweep, and its message for an older Python."""
 import sys
 
 from programs import EXAMPLES, ROOT, Check, run
 
 PLANNER, DAY = ROOT / "tools" / "planner", EXAMPLES / "sweep"
-# Named from the top folder, since a table has the names.
+# Named relative to the root, since a table contains the names.
 MODELS = [str(file.relative_to(ROOT)) for file in sorted(DAY.glob("agents-*.txt"))] + ["examples/cases/unknown-kind/model.txt"]
 
 
 class Tools(Check):
     def test_table_of_a_sweep(self):
-        """It has a row for each scenario and node."""
+        """It has a row per scenario and node."""
         sweep = run("mpsweep", DAY / "trace.csv", *MODELS).out
         rows = run(PLANNER, "table", "/dev/stdin", "--labels", *MODELS, given=sweep).out.decode().splitlines()
         self.same("rows", len(rows), 26)
@@ -21,4 +21,4 @@ class Tools(Check):
 
     def test_an_older_python(self):
         script = f"import sys; sys.version_info = (3, 6, 8); exec(open({str(PLANNER)!r}).read())"
-        self.did(run(sys.executable, "-c", script), 1, "", "planner: it wants Python 3.9 or later, and this is 3.6\n")
+        self.did(run(sys.executable, "-c", script), 1, "", "planner: it needs Python 3.9 or later, and this is 3.6\n")

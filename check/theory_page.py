@@ -1,9 +1,9 @@
-"""What theory.py writes: docs/VALIDATION.md and its picture."""
+"""The output of theory.py: docs/VALIDATION.md and its picture."""
 import math
 
 from theory import ALLOWED, SECTIONS, erlang_b
 
-# Where the axes of a panel begin and end, in the picture's units; shares go from 1 down to LEAST.
+# The ends of a panel's axes, in the picture's units; shares go from 1 down to LEAST.
 TOP, BOTTOM, WIDTH, LEAST = 40, 265, 290, 1e-4
 LINE, MARK, DARK = "#1f5fa8", "#b3400a", "#333"
 
@@ -13,7 +13,7 @@ def number(value):
 
 
 def table(samples):
-    """The table of a section: the first seed's figures, and how far off those of each seed are."""
+    """Returns the table of a section: the first seed's figures, and how far off those of each seed are."""
     seeds = len(samples)
     yield f"| What | Formula | Theory | mpsim | Standard error | {' | '.join(['Off', *[''] * (seeds - 1)])} |"
     yield f"|{'---|' * (5 + seeds)}"
@@ -24,7 +24,7 @@ def table(samples):
 
 
 def page(found, words):
-    """The page, of samples by the titles of their sections, one for each seed."""
+    """Returns the page, from samples by the titles of their sections, one per seed."""
     figures = [it for samples in found.values() for sample in samples for it in sample.figures]
     samples = [it for samples in found.values() for it in samples]
     nodes, visits = sum(it.nodes for it in samples), sum(it.visits for it in samples)
@@ -98,7 +98,7 @@ class Panel:
 
 
 def picture(found):
-    """Two panels, where their sections are there: the share of M/M/1 that waits longer, and the share lost over the number of lines."""
+    """Draws two panels, if their sections exist: the share of M/M/1 that waits longer, and the share lost over the number of lines."""
     panels = []
     if "M/M/1" in found:
         panel = Panel(50, "M/M/1, load 0.8: share that waits longer", 0, 50, (0, 10, 20, 30, 40, 50), "mean services")

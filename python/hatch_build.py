@@ -16,7 +16,7 @@ class ProgramsHook(BuildHookInterface):
         for name in PROGRAMS:
             file = os.path.join(folder, name) if folder else os.path.join(self.root, "..", "crates", name, "out", name)
             if not os.access(file, os.X_OK):
-                raise SystemExit(f"there is no program {file}: build it, or name a folder by MPSIM_PROGRAMS")
+                raise SystemExit(f"no program {file}: build it, or set MPSIM_PROGRAMS to a directory that has it")
             build_data["force_include"][os.path.realpath(file)] = f"mpsim/bin/{name}"
         build_data["force_include"][os.path.join(self.root, "..", "VERSION")] = "mpsim/VERSION"
         build_data["tag"], build_data["pure_python"] = TAG, False

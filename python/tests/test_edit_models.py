@@ -116,7 +116,7 @@ class Models(Changing):
             path.write_bytes(data)
             self.refuses(f"{path}{why}", "edit", self.file("t.csv", CALLS), path)
         size = (1 << 24) + 1
-        self.refused(f"{size} bytes, where mpedit takes {size - 1}", "add web 5 1 2".ljust(size), CALLS, *words, where=": ")
+        self.refused(f"{size} bytes; the limit of mpedit is {size - 1}", "add web 5 1 2".ljust(size), CALLS, *words, where=": ")
 
 
 if __name__ == "__main__":

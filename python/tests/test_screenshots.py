@@ -46,7 +46,7 @@ class Screenshots(Test):
     def test_without_chromium(self):
         words = [sys.executable, "-B", ROOT / "tools" / "screenshots", "/nowhere"]
         ran = subprocess.run(words, env={**os.environ, "PATH": "/nowhere"}, stderr=subprocess.PIPE)
-        self.assertEqual((ran.returncode, ran.stderr), (1, b"screenshots: there is no chromium\n"))
+        self.assertEqual((ran.returncode, ran.stderr), (1, b"screenshots: c is missinghromium\n"))
 
 
 if __name__ == "__main__":

@@ -102,7 +102,7 @@ class Hook(Test):
             want = {**{f"{clone}/crates/{name}/out/{name}": f"mpsim/bin/{name}" for name in NAMES}, **version}
             self.assertEqual(self.hooked(clone / "python"), {"force_include": want, **tag})
             (clone / "crates" / "mpedit" / "out" / "mpedit").chmod(0o644)
-            with self.assertRaisesRegex(SystemExit, "there is no program .*/mpedit: build it, or name a folder by MPSIM_PROGRAMS"):
+            with self.assertRaisesRegex(SystemExit, "no program .*/mpedit: build it, or set MPSIM_PROGRAMS to a directory that has it"):
                 self.hooked(clone / "python")
 
 
