@@ -85,7 +85,7 @@ def below(name, uses):
     """Returns all crates of the repository that a crate depends on."""
     found, left = set(), [name]
     while left:
-        new = {it for it in uses[left.pop()] if it in uses} - found
+        new = {use for use in uses[left.pop()] if use in uses} - found
         found |= new
         left += new
     return found
@@ -94,7 +94,7 @@ def below(name, uses):
 def crates_of(program, uses):
     """Returns a program and all crates that it depends on, lowest first."""
     needed = below(program, uses)
-    return [it for it in uses if it in needed] + [program]
+    return [use for use in uses if use in needed] + [program]
 
 
 def executable(name):
@@ -107,26 +107,26 @@ def files_of(name, parts=("src", "specs", "proofs")):
     found = []
     for part in parts:
         for folder, _, files in os.walk(f"{ROOT}/crates/{name}/{part}"):
-            found += [f"{folder}/{it}" for it in files]
+            found += [f"{folder}/{file}" for file in files]
     return sorted(found)
 
 
 def looks_of(name):
     """Returns the size of each file of a crate and when it was last written. A file that is written again counts as changed, whatever its content."""
-    looks = [(it, os.stat(it)) for it in files_of(name)]
+    looks = [(file, os.stat(file)) for file in files_of(name)]
     return [(it, look.st_mtime_ns, look.st_size) for it, look in looks]
 
 
 def lines_of(name):
     """Returns the number of lines of code in a crate."""
-    return sum(text_of(it).count("\n") for it in files_of(name) if it.endswith(".rt"))
+    return sum(text_of(file).count("\n") for file in files_of(name) if file.endswith(".rt"))
 
 
 def chains(lines, uses):
     """Returns, for each crate, the most lines proved on a path from it up to the program. The crates are given lowest first."""
     chain = {}
     for name in reversed(lines):
-        above = [chain[it] for it in chain if name in uses[it]]
+        above = [chain[item] for item in chain if name in uses[item]]
         chain[name] = lines[name] + max(above, default=0)
     return chain
 
@@ -135,7 +135,7 @@ def jobs_for(name, left, running, lines, uses, most, room):
     """Returns how many jobs a crate gets, with this many processors, memory for this many jobs, and those in `running` being proved, each with its
     own number. It gets enough that each job has fewer lines than each of the other processors, among what can be proved beside it. Crates being
     proved count as half done."""
-    beside = sum(lines[it] for it in left if it != name and name not in below(it, uses)) + sum(lines[it] // 2 for it in running)
+    beside = sum(lines[item] for item in left if item != name and name not in below(item, uses)) + sum(lines[item] // 2 for item in running)
     jobs = 1
     while jobs < min(most, room - sum(running.values())) and lines[name] * (most - jobs) > beside * jobs:
         jobs += 1
@@ -147,8 +147,8 @@ def stamps(names, uses):
     version, made = said("version"), {}
     for name in names:
         total = hashlib.sha256(version.encode())
-        for it in uses[name]:
-            total.update(made.get(it, it).encode())
+        for use in uses[name]:
+            total.update(made.get(use, use).encode())
         for file in files_of(name):
             with open(file, "rb") as text:
                 total.update(repr((os.path.relpath(file, ROOT), text.read())).encode())
@@ -193,8 +193,8 @@ def is_current(program, uses):
     made, words = made_of(program, uses), text_of(f"{executable(program)}.made").split()
     if len(words) == 2 and words[0] == sum_of(executable(program)):
         return words[1] == made
-    files = [f"{ROOT}/crates.txt", *(it for name in crates_of(program, uses) for it in files_of(name, ["src", "specs"]))]
-    if any(os.stat(it).st_mtime_ns > os.stat(executable(program)).st_mtime_ns for it in files):
+    files = [f"{ROOT}/crates.txt", *(file for name in crates_of(program, uses) for file in files_of(name, ["src", "specs"]))]
+    if any(os.stat(file).st_mtime_ns > os.stat(executable(program)).st_mtime_ns for file in files):
         return False
     with contextlib.suppress(OSError):
         record(program, made)
@@ -227,8 +227,8 @@ def lanes():
 def made_by(name, uses, kit, jobs):
     """Returns the command that proves a library with this many jobs and writes its statements, or a program and writes its code."""
     words = [f"{kit}/bin/rattle", "build", "--crate-name", name, "src/main.rt" if is_program(name) else "src/lib.rt"]
-    for it in ["std", *uses[name]]:
-        words += ["--extern", f"{it}={PROVED if it in uses else f'{kit}/rlibs'}/{it}.rlib"]
+    for use in ["std", *uses[name]]:
+        words += ["--extern", f"{use}={PROVED if use in uses else f'{kit}/rlibs'}/{use}.rlib"]
     words += ["-L", f"dependency={kit}/rlibs", "-L", f"dependency={PROVED}", "--links", f"{name}="]
     words += ["--antt-project", f"{kit}/rattle/logic/antt-project.json", "--logic-built", f"{kit}/logic_built", "--jobs", str(jobs)]
     if is_program(name):
@@ -261,9 +261,9 @@ def set_aside(name):
     remove(f"{states}/{stamp}")
     os.rename(result_of(name), f"{states}/{stamp}")
     os.utime(f"{states}/{stamp}")
-    whole = [it for it in os.listdir(states) if not it.endswith(".gone")]
-    for it in sorted(whole, key=lambda it: -os.stat(f"{states}/{it}").st_mtime_ns)[STATES:]:
-        remove(f"{states}/{it}")
+    whole = [item for item in os.listdir(states) if not item.endswith(".gone")]
+    for each in sorted(whole, key=lambda item: -os.stat(f"{states}/{item}").st_mtime_ns)[STATES:]:
+        remove(f"{states}/{each}")
 
 
 def take_back(name, stamp):
@@ -319,10 +319,10 @@ def wait_for_one(checks):
 def prove_all(program, uses, kit):
     """Proves all crates below the program and then the program. Returns whether all are proved."""
     names = crates_of(program, uses)
-    lines, looks = {it: lines_of(it) for it in names}, {it: looks_of(it) for it in names}
+    lines, looks = {name: lines_of(name) for name in names}, {name: looks_of(name) for name in names}
     made, chain, (most, room) = stamps(names, uses), chains(lines, uses), lanes()
-    done = {it for it in names if take_back(it, made[it])}
-    left, running, jobs = sorted([it for it in names if it not in done], key=lambda it: -chain[it]), {}, {}
+    done = {name for name in names if take_back(name, made[name])}
+    left, running, jobs = sorted([name for name in names if name not in done], key=lambda item: -chain[item]), {}, {}
     failed = False
     if left:
         time = ", about nine to fourteen minutes on four processors" if 2 * len(left) > len(names) else ""
@@ -331,14 +331,14 @@ def prove_all(program, uses, kit):
         tell(program, f"all {len(names)} crates are proved; linking")
     try:
         while running or (left and not failed):
-            ready = [] if failed else [it for it in left if done >= below(it, uses)]
+            ready = [] if failed else [item for item in left if done >= below(item, uses)]
             for name in ready:
                 # One crate more than there are processors, so that none is idle while a check reads, writes, or has work for only one job.
-                if len(running) > most or sum(jobs[it] for it in running) >= room:
+                if len(running) > most or sum(jobs[item] for item in running) >= room:
                     break
                 # Crates further from the program go first.
-                others = [it for it in [*left, *running] if chain[it] > chain[name]]
-                jobs[name] = jobs_for(name, left, {it: jobs[it] for it in running}, lines, uses, most, room)
+                others = [item for item in [*left, *running] if chain[item] > chain[name]]
+                jobs[name] = jobs_for(name, left, {item: jobs[item] for item in running}, lines, uses, most, room)
                 with unstopped():
                     running[name] = begin(name, uses, kit, jobs[name], min(len(others), 10))
                 left.remove(name)
@@ -350,7 +350,7 @@ def prove_all(program, uses, kit):
                     tell(program, f"{text_of(f'{PROVED}/{name}.log')}{why}")
                     failed = True
                     continue
-                if any(looks_of(it) != looks[it] for it in [name, *below(name, uses)]):
+                if any(looks_of(item) != looks[item] for item in [name, *below(name, uses)]):
                     tell(program, f"{name} was changed during the build")
                     failed = True
                     continue
@@ -384,7 +384,7 @@ def build(program, uses):
     """Proves and builds the program. Returns whether it exists."""
     kit = os.path.dirname(said("doc"))
     names = crates_of(program, uses)
-    looks, made = [looks_of(it) for it in names], made_of(program, uses)
+    looks, made = [looks_of(name) for name in names], made_of(program, uses)
     if not prove_all(program, uses, kit):
         return False
     if not link(program, kit) or not does_as_stored(program):
@@ -393,7 +393,7 @@ def build(program, uses):
     os.makedirs(os.path.dirname(executable(program)), exist_ok=True)
     os.replace(f"{PROVED}/{program}", executable(program))
     # Changes made in the meantime aren't in the program.
-    if [looks_of(it) for it in names] == looks:
+    if [looks_of(name) for name in names] == looks:
         record(program, made)
     return True
 
@@ -410,19 +410,19 @@ def build_alone(program, uses):
                 tell(program, "waiting for another build")
                 fcntl.flock(lock, fcntl.LOCK_EX)
             return build(program, uses)
-    except OSError as fault:
-        raise Unable(f"{os.path.relpath(fault.filename or PROVED, ROOT)}: {fault.strerror}") from None
+    except OSError as error:
+        raise Unable(f"{os.path.relpath(error.filename or PROVED, ROOT)}: {error.strerror}") from None
 
 
 def stop(number, _):
     """Ends this build, once: a second signal doesn't interrupt how the first ends the checks."""
-    for it in STOPS:
-        signal.signal(it, signal.SIG_IGN)
+    for item in STOPS:
+        signal.signal(item, signal.SIG_IGN)
     raise Stopped(number)
 
 
 def main(words):
-    needed, program = words[:1] == ["--needed"], ([it for it in words if it != "--needed"] or ["mpsim"])[0]
+    needed, program = words[:1] == ["--needed"], ([word for word in words if word != "--needed"] or ["mpsim"])[0]
     if len(words) > 1 + needed or not is_program(program):
         print("usage: build.py [--needed] [PROGRAM]", file=sys.stderr)
         return 2

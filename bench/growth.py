@@ -37,7 +37,7 @@ def count(word):
 
 def counts(words):
     """Numbers separated by commas, in rising order."""
-    return sorted(count(it) for it in words.split(","))
+    return sorted(count(part) for part in words.split(","))
 
 
 def in_a_row(servers):
@@ -55,8 +55,8 @@ def points_of(args, setting, name, at, model, trace):
         if run.status or run.out != runs[args.workers[0]][0].out:
             told = f"status {run.status}: {run.err.decode(errors='replace').strip()}" if run.status else "another report"
             sys.exit(f"growth: {STYLES[name].name}, {at:,}, --workers {workers}: {told}")
-    points = [Point(name, at, workers, round(least(done), 6), round(max(it.megabytes for it in done), 2)) for workers, done in runs.items()]
-    print(f"{STYLES[name].name}, {at:,}:", *(f"{it.seconds:.4f}" for it in points), file=sys.stderr, flush=True)
+    points = [Point(name, at, workers, round(least(done), 6), round(max(item.megabytes for item in done), 2)) for workers, done in runs.items()]
+    print(f"{STYLES[name].name}, {at:,}:", *(f"{point.seconds:.4f}" for point in points), file=sys.stderr, flush=True)
     return points
 
 
@@ -85,7 +85,7 @@ def kept(numbers):
     """Returns the text of the numbers, a line per point."""
     parts = []
     for name, value in numbers.items():
-        points = ",\n  ".join(json.dumps(it._asdict()) for it in value) if name in ("rows", "nodes") else None
+        points = ",\n  ".join(json.dumps(item._asdict()) for item in value) if name in ("rows", "nodes") else None
         parts.append(f'"{name}": ' + (json.dumps(value) if points is None else f"[\n  {points}\n ]"))
     return "{\n " + ",\n ".join(parts) + "\n}\n"
 
@@ -96,12 +96,12 @@ def read(path):
         with open(path) as file:
             numbers = {**NUMBERS, **json.load(file)}
         for name in "rows", "nodes":
-            numbers[name] = [Point(**it) for it in numbers[name]]
-            if not all(it.input in STYLES and min(it.at, it.workers, it.seconds) > 0 for it in numbers[name]):
+            numbers[name] = [Point(**number) for number in numbers[name]]
+            if not all(number.input in STYLES and min(number.at, number.workers, number.seconds) > 0 for number in numbers[name]):
                 raise ValueError
         return numbers
-    except (OSError, TypeError, ValueError) as fault:
-        sys.exit(f"growth: {path}: {fault.strerror if isinstance(fault, OSError) else 'not what --keep writes'}")
+    except (OSError, TypeError, ValueError) as error:
+        sys.exit(f"growth: {path}: {error.strerror if isinstance(error, OSError) else 'not what --keep writes'}")
 
 
 def main():

@@ -134,7 +134,7 @@ def measure_small(words, setting):
         ends = [os.wait4(-1, 0) for _ in ("the shell", "the run")]
         seconds = time.perf_counter() - began
         shell.returncode = 0
-    status, usage = next(it[1:] for it in ends if it[0] != shell.pid)
+    status, usage = next(end[1:] for end in ends if end[0] != shell.pid)
     return Measure(seconds, usage.ru_utime + usage.ru_stime, usage.ru_maxrss / 1024, os.waitstatus_to_exitcode(status), out, err)
 
 

@@ -38,11 +38,11 @@ MOST = 3        # differing cases, after which the run stops
 OF_NETWORKS = [f'a model of {LARGEST} nodes', *(f'visits to a {kind}' for kind in KINDS), 'jobs that come at one time by two ports',
                'a job that comes as another leaves', 'a job that overtakes', 'a lost job', 'a held visit', 'a job that comes twice to a join by one port',
                'a visit past the bound']
-OF_TEXTS = ['a fault in a model', 'a fault in a trace', 'a model that is cut', 'a trace that is cut']
+OF_TEXTS = ['an error in a model', 'an error in a trace', 'a model that is cut', 'a trace that is cut']
 EXPECTED = {
     'mpsim': ['status 0', 'status 2', 'status 3', 'status 4', 'status 5', 'lines of jobs', 'form 1', 'form 2',
               'several workers, and blocks of fewer jobs than there are', *OF_NETWORKS, *OF_TEXTS],
-    'mpedit': ['status 0', 'status 2', 'status 3', 'status 4', 'status 5', 'status 10', *OF_NETWORKS, *OF_TEXTS, 'a fault in edits',
+    'mpedit': ['status 0', 'status 2', 'status 3', 'status 4', 'status 5', 'status 10', *OF_NETWORKS, *OF_TEXTS, 'an error in edits',
                'a text of edits that is cut', 'a run that is refused before the edits', 'a run that is refused after the edits',
                'no block again', 'some blocks again and others not'],
     'mpsweep': ['status 0', 'status 2', 'status 11', 'scenarios of status 0', 'scenarios of status 3', 'scenarios of status 4',
@@ -188,10 +188,10 @@ def compare(comparison: Comparison, seed: int, count: int, threads: int, folder:
             following = next(indices, None)
             if following is not None:
                 running.append(pool.submit(comparison.result_of, seed, following))
-    return told(comparison.tool, ran, differing, occurred)
+    return summary(comparison.tool, ran, differing, occurred)
 
 
-def told(tool: str, ran: int, differing: int, occurred: Counter) -> int:
+def summary(tool: str, ran: int, differing: int, occurred: Counter) -> int:
     expected = EXPECTED[tool]
     for thing in [*expected, *sorted(set(occurred) - set(expected))]:
         print(f'{occurred[thing]:7} with {thing}')

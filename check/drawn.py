@@ -138,7 +138,7 @@ class Growing:
         return []
 
 
-def model_of(draw: Drawing, sources: Optional[list[str]] = None, faults: float = 0.1, nodes: int = 0) -> Model:
+def model_of(draw: Drawing, sources: Optional[list[str]] = None, errors: float = 0.1, nodes: int = 0) -> Model:
     version = 2 if draw.chance(0.7) else 1
     nodes = nodes or (LARGEST if draw.chance(0.4) else draw.randint(1, LARGEST))
     sources = sources or draw.some(SOURCES, 1, 2)
@@ -157,7 +157,7 @@ def model_of(draw: Drawing, sources: Optional[list[str]] = None, faults: float =
     if draw.chance(0.2):
         lines.insert(draw.randint(0, len(lines)), draw.choice(('# \xff\x00', '#', '', ' \t ', '\t# x')))
     text = ended(draw, [spaced(draw, line) for line in lines])
-    if draw.chance(faults, 'a fault in a model'):
+    if draw.chance(errors, 'an error in a model'):
         text = faulty_model(draw, text)
     return Model(text, sources, named)
 
@@ -223,7 +223,7 @@ def number(draw: Drawing, value: int) -> str:
     return f'{value:03}' if draw.random() < 0.01 else str(value)
 
 
-def trace_of(draw: Drawing, rows: Rows, faults: float = 0.1) -> str:
+def trace_of(draw: Drawing, rows: Rows, errors: float = 0.1) -> str:
     """A trace with the columns in random order, and perhaps one that no node reads."""
     order = list(range(2, 2 + len(rows.columns)))
     draw.shuffle(order)
@@ -233,7 +233,7 @@ def trace_of(draw: Drawing, rows: Rows, faults: float = 0.1) -> str:
         place = draw.randint(2, len(table[0]))
         for index, record in enumerate(table):
             record.insert(place, draw.choice(('', 'x', '"a, ""b"""', '"\r\n\n"', 'a"b', '"c"d', '-1')) if index else '"no\nte"')
-    if draw.chance(faults, 'a fault in a trace'):
+    if draw.chance(errors, 'an error in a trace'):
         faulty_records(draw, table)
     elif draw.chance(0.2):
         record = draw.choice(table)
@@ -275,7 +275,7 @@ def mpsim(draw: Drawing) -> Case:
 
 
 def faulty_words(draw: Drawing, words: list[str]) -> list[str]:
-    if draw.chance(0.05, 'a fault in the words'):
+    if draw.chance(0.05, 'an error in the words'):
         at = draw.randint(0, len(words))
         words[at:at + draw.randint(0, 1)] = [draw.choice(ODD_COMMANDS)] * draw.randint(0, 1)
     elif draw.chance(0.01):
@@ -286,7 +286,7 @@ def faulty_words(draw: Drawing, words: list[str]) -> list[str]:
 def mpedit(draw: Drawing) -> Case:
     """Some traces have exactly or nearly as many records as one block or two, and small models."""
     large = draw.chance(0.1)
-    model = model_of(draw, faults=0.05, nodes=draw.randint(1, 4) if large else 0)
+    model = model_of(draw, errors=0.05, nodes=draw.randint(1, 4) if large else 0)
     count = draw.choice((4_095, 4_096, 4_097, 4_097, 5_000, 8_192)) if large else draw.randint(0, 40)
     rows = rows_of(draw, model.sources, model.columns, count)
     files = {'model.txt': cut(draw, 0.04, 'model', model.text), 'trace.csv': cut(draw, 0.04, 'trace', trace_of(draw, rows, 0.05)),
@@ -312,7 +312,7 @@ def edits_of(draw: Drawing, rows: Rows) -> str:
     if draw.chance(0.1):
         lines.insert(draw.randint(0, len(lines)), draw.choice(('', ' ', '\t\r')))
     text = ended(draw, lines)
-    return faulty_model(draw, text) if text and draw.chance(0.1, 'a fault in edits') else text
+    return faulty_model(draw, text) if text and draw.chance(0.1, 'an error in edits') else text
 
 
 def mpsweep(draw: Drawing) -> Case:
@@ -320,6 +320,6 @@ def mpsweep(draw: Drawing) -> Case:
     count = draw.choice((1, 2, 3, 3, 4, 5, 6, 40 if draw.chance(0.1) else 2))
     files = {f'model-{number}.txt': cut(draw, 0.03, 'model', model_of(draw, sources, 0.05).text) for number in range(1, count + 1)}
     words = ['trace.csv', *files]
-    trace = trace_of(draw, rows_of(draw, sources, list(COLUMNS), draw.randint(0, 400 if draw.chance(0.05) else 40)), faults=0.05)
+    trace = trace_of(draw, rows_of(draw, sources, list(COLUMNS), draw.randint(0, 400 if draw.chance(0.05) else 40)), errors=0.05)
     files['trace.csv'] = cut(draw, 0.05, 'trace', trace)
     return Case('mpsweep', faulty_words(draw, words), files, draw.marks)

@@ -48,4 +48,4 @@ def manual_section(program, name):
     """Returns the lines of a section of a program's man page, with dashes as they are shown."""
     text = (ROOT / "docs" / f"{program}.1").read_text().replace("\\-", "-")
     sections = re.split(r"^\.SH ", text, flags=re.MULTILINE)
-    return next(it for it in sections if it.strip('"').startswith(name)).splitlines()[1:]
+    return next(section for section in sections if section.strip('"').startswith(name)).splitlines()[1:]

@@ -85,21 +85,21 @@ class Word:
         self.name = action.option_strings[-1] if self.option else action.metavar or action.dest
         self.count = 1 if action.nargs is None else action.nargs
         # A long list of choices has a name, and is in the help text.
-        self.choices, names = [str(it) for it in action.choices or ()], action.metavar if self.option else self.name
+        self.choices, names = [str(choice) for choice in action.choices or ()], action.metavar if self.option else self.name
         self.values = [] if self.count == 0 else list(names) if isinstance(names, tuple) else [names or "|".join(self.choices)]
         self.repeated, self.required = isinstance(action, REPEATED), action.required
-        self.files = not self.option or self.values[:1] in [[it] for it in FILES]
+        self.files = not self.option or self.values[:1] in [[file] for file in FILES]
 
 
 def words_of(name):
     """Returns the arguments (list of Word) of a command."""
     own = command._parser(name)._subparsers._group_actions[0].choices[name]
-    return [Word(it) for it in own._actions if it.dest != "help"]
+    return [Word(action) for action in own._actions if action.dest != "help"]
 
 
 def example_of(name):
     """Returns the lines of a command's example."""
-    return [it.strip() for it in sys.modules[f"mpsim.planner.{name}"].EXAMPLE.splitlines()]
+    return [line.strip() for line in sys.modules[f"mpsim.planner.{name}"].EXAMPLE.splitlines()]
 
 
 def roff(text):
@@ -124,12 +124,12 @@ def manual():
     for name, says in COMMANDS.items():
         words = words_of(name)
         yield from (f".SS {name}", f"{roff(says[0].upper() + says[1:])}.", ".PP", f".B planner {name}")
-        for it in words:
-            if not it.option or it.required:
-                yield term(it)
+        for word in words:
+            if not word.option or word.required:
+                yield term(word)
         yield ".RI [ options ]"
-        for it in words:
-            yield from (".TP", term(it), *([roff(it.help)] if it.help else ()))
+        for item in words:
+            yield from (".TP", term(item), *([roff(item.help)] if item.help else ()))
         yield from (".PP", "For example:", ".PP", ".nf", ".RS", *map(roff, example_of(name)), ".RE", ".fi")
 
 
@@ -141,17 +141,17 @@ def wrapped(text, indent, end=""):
 
 def bash():
     """Returns the completions for bash."""
-    options = {name: [it for it in words_of(name) if it.option] for name in COMMANDS}
+    options = {name: [word for word in words_of(name) if word.option] for name in COMMANDS}
     each, choices, plain, files = "", "", set(), set()
     for name, words in options.items():
-        repeated = "".join(f"{it.name} " for it in words if it.repeated)
-        each += f"        {name})\n" + wrapped(f"            options='{' '.join(it.name for it in words)} --help'", 16)
+        repeated = "".join(f"{word.name} " for word in words if word.repeated)
+        each += f"        {name})\n" + wrapped(f"            options='{' '.join(word.name for word in words)} --help'", 16)
         each += (f"            repeated=' {repeated}'\n" if repeated else "") + "            ;;\n"
-        for it in words:
-            if it.choices:
-                choices += f"        {name}.{it.name}) choices='{' '.join(it.choices)}' ;;\n"
-            elif it.values and it.count != "?":
-                (files if it.files else plain).add(f"*.{it.name}")
+        for item in words:
+            if item.choices:
+                choices += f"        {name}.{item.name}) choices='{' '.join(item.choices)}' ;;\n"
+            elif item.values and item.count != "?":
+                (files if item.files else plain).add(f"*.{item.name}")
     # An option takes files in all commands or in none.
     assert not plain & files, plain & files
     values = wrapped("        " + " | ".join(sorted(plain)) + ") return ;;", 12, " \\")
@@ -166,13 +166,13 @@ def quoted(text):
 def zsh_word(word, place):
     """Returns an argument in the form of zsh's _arguments; `place` is the position of a positional argument."""
     action = f"({' '.join(word.choices)})" if word.choices else "_files" if word.files else " "
-    values = [f"{word.name[2:] if word.choices else it.replace(':', chr(92) + ':')}:{action}" for it in word.values]
+    values = [f"{word.name[2:] if word.choices else value.replace(':', chr(92) + ':')}:{action}" for value in word.values]
     if not word.option:
         return quoted({"+": "*", "?": f"{place}:"}.get(word.count, str(place)) + ":" + values[0])
     # The completion shows the help up to its first semicolon. Zsh lists the choices itself.
     text = word.help.partition(";")[0].replace(", ".join(word.choices) or "\n", "these")
     text = re.sub(r"([\[\]\\])", r"\\\1", text)
-    shown = {"+": [f":*-*:{it}" for it in values], "?": [f"::{it}" for it in values]}.get(word.count, [f":{it}" for it in values])
+    shown = {"+": [f":*-*:{value}" for value in values], "?": [f"::{value}" for value in values]}.get(word.count, [f":{value}" for value in values])
     return quoted("*" * word.repeated + word.name + "=-" * (word.count == "?") + f"[{text}]" + "".join(shown))
 
 
@@ -181,9 +181,9 @@ def zsh():
     each = ""
     for name in COMMANDS:
         words = words_of(name)
-        places = [it.name for it in words if not it.option]
+        places = [word.name for word in words if not word.option]
         each += f"    {name})\n        _arguments \\\n"
-        each += "".join(f"            {zsh_word(it, 0 if it.option else places.index(it.name) + 1)} \\\n" for it in words)
+        each += "".join(f"            {zsh_word(word, 0 if word.option else places.index(word.name) + 1)} \\\n" for word in words)
         each += "            '--help[show help and exit]' ;;\n"
     commands = "".join(f"    {quoted(f'{name}:{says}')}\n" for name, says in COMMANDS.items())
     return ZSH_SCRIPT.format(commands=commands, own=" ".join(map(quoted, OWN)), each=each)
@@ -191,7 +191,7 @@ def zsh():
 
 def with_commands(page):
     """Returns a man page (str) with its section COMMANDS made from the parsers."""
-    made = "".join(f"{it}\n" for it in manual())
+    made = "".join(f"{item}\n" for item in manual())
     return re.sub(r"^\.SH COMMANDS\n.*?(?=^\.SH )", lambda _: made, page, flags=re.MULTILINE | re.DOTALL)
 
 

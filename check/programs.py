@@ -50,13 +50,13 @@ def run(*words, folder=ROOT, given=b"", out=None, line=None, settings=None, seco
     `out` and `line` name files for stdout and stderr; `settings` are environment variables."""
     words = [PROGRAMS.get(words[0], words[0]), *words[1:]]
     command = "".join(f"{name}={value} " for name, value in (settings or {}).items() if name not in os.environ)
-    command += shlex.join(os.fsencode(it).decode(errors="backslashreplace") for it in words)
+    command += shlex.join(os.fsencode(word).decode(errors="backslashreplace") for word in words)
     # With a colon, so that the line can be pasted into a shell.
     command = f"cd {shlex.quote(str(folder))}; {command}" + f" >{out}" * bool(out) + f" 2>{line}" * bool(line)
     outputs = [open(file, "wb") if file else subprocess.PIPE for file in (out, line)]
     try:
         ran = subprocess.run(
-            [os.fsencode(it) for it in words],
+            [os.fsencode(word) for word in words],
             cwd=folder,
             input=given,
             stdout=outputs[0],
@@ -121,22 +121,22 @@ class Check(unittest.TestCase):
         """Writes a file with this text, which may be given in parts, into the test's own directory."""
         path = self.folder / name
         with open(path, "wb") as file:
-            file.writelines(bytes_of(it) for it in parts)
+            file.writelines(bytes_of(part) for part in parts)
         return path
 
-    def fail(self, told):
+    def fail(self, differences):
         """Fails a case. The files of the test are kept, in the directory that the command line then names."""
         if any(self.folder.iterdir()):
             kept = tempfile.mkdtemp(prefix="check-differs-")
             shutil.copytree(self.folder, kept, symlinks=True, dirs_exist_ok=True)
-            told = told.replace(str(self.folder), kept)
-        super().fail(told)
+            differences = differences.replace(str(self.folder), kept)
+        super().fail(differences)
 
     def same(self, what, written, wanted):
         """A case: two texts or values are equal."""
         self.cases += 1
         if written != wanted:
-            texts = (bytes_of(it if isinstance(it, (bytes, str)) else pprint.pformat(it)) for it in (written, wanted))
+            texts = (bytes_of(item if isinstance(item, (bytes, str)) else pprint.pformat(item)) for item in (written, wanted))
             self.fail(f"{what}\n{difference(*texts)}")
 
     def holds(self, what, truth):
@@ -148,12 +148,12 @@ class Check(unittest.TestCase):
     def did(self, ran, status=0, out=b"", line=b""):
         """A case: a run ended with this status and wrote these texts, or the contents of these files, byte for byte."""
         self.cases += 1
-        out, line, told = bytes_of(out), bytes_of(line), []
+        out, line, differences = bytes_of(out), bytes_of(line), []
         for name, written, wanted in ("output", ran.out, out), ("error output", ran.line, line):
             if written != wanted:
-                told.append(f"{name}:\n{difference(written, wanted)}")
-        if told or ran.status != status:
-            self.fail("\n".join([ran.command, f"status {ran.status}" + f", wanted {status}" * (ran.status != status), *told]))
+                differences.append(f"{name}:\n{difference(written, wanted)}")
+        if differences or ran.status != status:
+            self.fail("\n".join([ran.command, f"status {ran.status}" + f", wanted {status}" * (ran.status != status), *differences]))
 
     def writes(self, report, *words, **more):
         """mpsim with these arguments, and those for the report's form, writes this report and nothing else."""

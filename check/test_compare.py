@@ -23,7 +23,7 @@ class Compare(Check):
             folder = model.parent
             if folder.name != LONG and not (folder / "words").is_file():
                 with self.subTest(folder.name):
-                    report, line = (it.read_text() if it.is_file() else "" for it in (folder / "report.txt", folder / "line.txt"))
+                    report, line = (item.read_text() if item.is_file() else "" for item in (folder / "report.txt", folder / "line.txt"))
                     answer = simulate([str(model), str(folder / "trace.csv"), *form_of(report)], read_file)
                     self.same(f"the reference on {folder}", answer.output, report)
                     self.same(f"the line of the reference on {folder}", answer.error, line)

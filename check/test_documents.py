@@ -92,17 +92,17 @@ class Documents(Check):
             (self.folder / "programs" / name).symlink_to(executable(name))
         self.settings = {"HOME": str(self.home), "PATH": f"{self.folder}:{os.environ['PATH']}", "MPSIM_PROGRAMS": str(self.folder / "programs")}
 
-    def told(self, command, folder):
+    def messages(self, command, folder):
         """Returns what a command writes to stdout and into new files."""
         before = {file: file.stat().st_mtime_ns for file in self.top.rglob("*") if file.is_file()}
         ran = run("sh", "-e", "-c", command, folder=folder, settings=self.settings)
         # The pages also show what `planner` prints on stderr.
-        told = b"".join(line for line in ran.line.splitlines(keepends=True) if line.startswith(b"planner: "))
-        self.did(ran._replace(out=b"", line=ran.line.replace(told, b"")))
+        messages = b"".join(line for line in ran.line.splitlines(keepends=True) if line.startswith(b"planner: "))
+        self.did(ran._replace(out=b"", line=ran.line.replace(messages, b"")))
         new = [file for file in sorted(self.top.rglob("*")) if file.is_file() and file.stat().st_mtime_ns != before.get(file)]
         for file in new:
             self.holds(f"{ran.command}\nwrites nothing into {file.name}", file.stat().st_size)
-        return ran, b"".join([told, ran.out, *(file.read_bytes() for file in new)]).decode()
+        return ran, b"".join([messages, ran.out, *(file.read_bytes() for file in new)]).decode()
 
     def shows(self, page, block, ran, text):
         """A case: the lines of a block occur in the output, in this order."""
@@ -119,19 +119,19 @@ class Documents(Check):
                 usage = run(usage_of(block)).line.decode()
                 self.same(f"{page} line {block.line}", usage, block.text.replace("./", f"{usage_of(block)}: usage: "))
             elif is_command(block):
-                last = self.told(block.text, self.top)
+                last = self.output_of(block.text, self.top)
             elif last:
                 self.shows(page, block, *last)
             elif wanted:
-                self.shows(page, block, *self.told(wanted.pop(0), self.top / "examples"))
+                self.shows(page, block, *self.output_of(wanted.pop(0), self.top / "examples"))
         self.same(f"{page}, {heading}: texts that are shown", wanted, [])
 
     def test_table_of_a_sweep(self):
         """Checks the numbers in the table of docs/SWEEPS.md."""
         page = (ROOT / "docs" / "SWEEPS.md").read_text()
         rows = re.findall(r"^\| (\d+) \| ([\d,]+) \| ([\d,]+) s \| ([\d,]+) s \|$", page, flags=re.MULTILINE)
-        command = next(it.text for it in blocks("docs/SWEEPS.md") if "planner table" in it.text)
-        _, text = self.told(command, self.top)
+        command = next(block.text for block in blocks("docs/SWEEPS.md") if "planner table" in block.text)
+        _, text = self.output_of(command, self.top)
         table = [line.split(",") for line in text.splitlines() if ",callback," in line]
         wanted = [(row[0], *(f"{int(row[at]):,}" for at in (5, 11, 12))) for row in table]
         self.same("the table of docs/SWEEPS.md", rows, wanted)
@@ -142,7 +142,7 @@ class Documents(Check):
         self.holds(f"{len(marked)} blocks are marked", len(marked) <= 3)
         commands = {block.heading for block in blocks("docs/MODEL.md") if is_command(block)}
         self.same("headings of docs/MODEL.md with commands", sorted(commands), RECIPES)
-        left = [it for it in SHOWN if it[1] not in headings(it[0])]
+        left = [item for item in SHOWN if item[1] not in headings(item[0])]
         self.same("headings whose texts are shown, and that aren't there", left, [])
 
     def test_files_that_are_named(self):
@@ -178,15 +178,15 @@ class Documents(Check):
         listed = ["git", "ls-files", "-z", "--cached", "--others", "--exclude-standard"]
         ran = run(*listed) if (ROOT / ".git").exists() and shutil.which("git") else None
         if ran and ran.status == 0:
-            found = [ROOT / os.fsdecode(it) for it in ran.out.split(b"\0") if it]
+            found = [ROOT / os.fsdecode(part) for part in ran.out.split(b"\0") if part]
         else:
-            found = [it for it in ROOT.rglob("*") if not {".git", "out", "out-incr", "__pycache__", "dist"} & {*it.relative_to(ROOT).parts}]
+            found = [path for path in ROOT.rglob("*") if not {".git", "out", "out-incr", "__pycache__", "dist"} & {*path.relative_to(ROOT).parts}]
         self.holds(f"only {len(found)} files were looked at", len(found) > 1000)
-        self.same("symbolic links", [str(it.relative_to(ROOT)) for it in found if it.is_symlink()], [])
+        self.same("symbolic links", [str(item.relative_to(ROOT)) for item in found if item.is_symlink()], [])
 
 
 for page in PAGES:
     for heading, found in headings(page).items():
-        if (page, heading) in SHOWN or page != "docs/MODEL.md" and any(it.is_marked or is_command(it) or usage_of(it) for it in found):
+        if (page, heading) in SHOWN or page != "docs/MODEL.md" and any(item.is_marked or is_command(item) or usage_of(item) for item in found):
             name = re.sub(r"\W+", "_", f"{page.rsplit('/')[-1][:-3]}_{heading}".lower())
             setattr(Documents, f"test_{name}", lambda self, of=(page, heading, found): self.runs_below(*of))

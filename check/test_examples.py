@@ -22,12 +22,12 @@ class Examples(Check):
         status = int((folder / "status").read_text()) if (folder / "status").is_file() else 0
         wanted = status, report if report.is_file() else b"", line if line.is_file() else b""
         form = form_of(wanted[1])
-        told = (folder / "words").is_file()
-        for words in (folder / "words").read_text().splitlines() if told else ["model.txt trace.csv"]:
+        has_words = (folder / "words").is_file()
+        for words in (folder / "words").read_text().splitlines() if has_words else ["model.txt trace.csv"]:
             self.did(run("mpsim", *shlex.split(words), *form, folder=folder), *wanted)
         if jobs.is_file():
             self.writes(jobs, "model.txt", "trace.csv", "--jobs", folder=folder)
-        if line.is_file() and told:
+        if line.is_file() and has_words:
             return
         for workers, block in SETTINGS:
             self.did(run("mpsim", "--workers", workers, "model.txt", "--block", block, "trace.csv", *form, folder=folder), *wanted)

@@ -22,7 +22,7 @@ def made(name, sizes):
     """Points for 1, 2 and 4 workers, each with other numbers."""
     place = list(NAMES).index(name) + 1
     points = [(at, workers, (at + place) / (workers + 1) / sizes[-1], at / sizes[0] + place + workers) for at in sizes for workers in (1, 2, 4)]
-    return [dict(zip(("input", "at", "workers", "seconds", "megabytes"), (name, *it))) for it in points]
+    return [dict(zip(("input", "at", "workers", "seconds", "megabytes"), (name, *point))) for point in points]
 
 
 NUMBERS = {
@@ -65,13 +65,13 @@ class Growth(Check):
         top = xml.fromstring(picture)
         series = {group.find(f"{SVG}title").text: len(group.findall(f"{SVG}path")) for group in top.iter(f"{SVG}g")}
         self.same("series and their marks", series, {f"{name}, {workers}": 3 for name in NAMES.values() for workers in ("1 worker", "4 workers")})
-        points = [len(it.get("points").split()) for group in top.iter(f"{SVG}g") for it in group.findall(f"{SVG}polyline")]
+        points = [len(found.get("points").split()) for group in top.iter(f"{SVG}g") for found in group.findall(f"{SVG}polyline")]
         self.same("points of the lines", points, [3] * 8)
-        texts = [it.text for it in top.iter(f"{SVG}text")]
+        texts = [item.text for item in top.iter(f"{SVG}text")]
         wanted = ["Seconds over rows", "Seconds over servers, 4,000 rows", "rows of the trace", "servers in a row behind a source"]
         wanted += ["1,000", "8,000", "64,000", "1", "4", "16", "0.1", "0.2", "0.5"]
         wanted += [*NAMES.values(), "1 worker", "4 workers", "what grows in proportion"]
-        self.same("labels that aren't there", [it for it in wanted if it not in texts], [])
+        self.same("labels that aren't there", [item for item in wanted if item not in texts], [])
         self.holds("the picture asks for something else", not re.search(rb"href|url\(|<style|<script|currentColor", picture))
         self.holds(f"the picture has {len(picture)} bytes", len(picture) < 30_000)
         ground = top[0]
@@ -85,34 +85,34 @@ class Growth(Check):
             numbers["nodes"].append({"input": "row", "at": at, "workers": 1, "seconds": seconds, "megabytes": 1})
         top = xml.fromstring(self.drawn(numbers)[1])
         for line in [group.find(f"{SVG}polyline") for group in top.iter(f"{SVG}g")]:
-            (left, low), (x, y), (right, high) = ([float(it) for it in point.split(",")] for point in line.get("points").split())
+            (left, low), (x, y), (right, high) = ([float(part) for part in point.split(",")] for point in line.get("points").split())
             self.same(f"the middle of {line.get('points')}", (x, y), ((left + right) / 2, (low + high) / 2))
             self.holds("more is further right, and higher", left < right and low > high)
             self.holds(f"{line.get('points')}: from the bottom to the top", (low, high) == (265, 40))
 
     def test_same_numbers_same_bytes(self):
         self.same("tables and picture", *(self.drawn(numbers) for numbers in (NUMBERS, json.loads(json.dumps(NUMBERS)))))
-        other = {**NUMBERS, "nodes": [{**it, "seconds": it["seconds"] * 1.1} for it in NUMBERS["nodes"]]}
+        other = {**NUMBERS, "nodes": [{**number, "seconds": number["seconds"] * 1.1} for number in NUMBERS["nodes"]]}
         self.holds("other numbers have another picture", self.drawn(other)[1] != self.drawn(NUMBERS)[1])
 
     def test_tables(self):
         """A row per input and size, a column per number of workers."""
-        told = self.drawn(NUMBERS)[0]
-        self.same("how many rows", sum(line.startswith("| ") for line in told.splitlines()), 1 + 9 + 1 + 3)
+        printed = self.drawn(NUMBERS)[0]
+        self.same("how many rows", sum(line.startswith("| ") for line in printed.splitlines()), 1 + 9 + 1 + 3)
         head = "| Run | Rows | 1 worker | 2 workers | 4 workers |"
         first = "| a source and a server | 1,000 | 0.0078, 3 MB | 0.0052, 4 MB | 0.0031, 6 MB |"
         for line in head, first, "| 16 | 0.625, 21 MB | 0.417, 22 MB | 0.250, 24 MB |":
-            self.holds(f"{line!r} isn't in\n{told}", line in told.splitlines())
+            self.holds(f"{line!r} isn't in\n{printed}", line in printed.splitlines())
 
     def test_nothing_measured(self):
-        told, picture = self.drawn({})
-        self.same("tables", told, "")
-        self.same("what both panels have", [it.text for it in xml.fromstring(picture).iter(f"{SVG}text")].count("not measured yet"), 2)
+        printed, picture = self.drawn({})
+        self.same("tables", printed, "")
+        self.same("what both panels have", [item.text for item in xml.fromstring(picture).iter(f"{SVG}text")].count("not measured yet"), 2)
 
     def test_numbers_that_are_none(self):
         point = NUMBERS["rows"][0]
         points = {}, [], {**point, "seconds": 0}, {**point, "at": "1"}, {**point, "input": "other"}, {**point, "more": 1}
-        for text in "", "[]", "{", *(json.dumps({"rows": [it]}) for it in points):
+        for text in "", "[]", "{", *(json.dumps({"rows": [point]}) for point in points):
             with self.subTest(text):
                 file = self.file("wrong.json", text)
                 self.refused(*self.grows("--numbers", file), 1, f"growth: {file}: not what --keep writes")
@@ -130,19 +130,19 @@ class Growth(Check):
         self.same("the calls", calls, [f"{size} --report 2 --workers {workers}" for size in sizes for _ in range(2) for workers in (1, 3)])
         numbers = json.loads(kept.read_text())
         points = numbers["rows"] + numbers["nodes"]
-        self.same("the points", [(it["at"], it["workers"]) for it in points], [(at, by) for at in [100, 200] * 3 + [1, 63] for by in (1, 3)])
+        self.same("the points", [(point["at"], point["workers"]) for point in points], [(at, by) for at in [100, 200] * 3 + [1, 63] for by in (1, 3)])
         # The memory of a run at its start isn't that of this interpreter.
-        most = max(it["megabytes"] for it in points)
-        self.holds(f"the stand-in has {most} MB", most < 8 and all(min(it["megabytes"], it["seconds"]) > 0 for it in points))
+        most = max(point["megabytes"] for point in points)
+        self.holds(f"the stand-in has {most} MB", most < 8 and all(min(point["megabytes"], point["seconds"]) > 0 for point in points))
         self.same("of what is kept", self.drawn(numbers), (ran.out.decode(), picture))
 
     def test_runs_that_fail(self):
         """A series ends with the first failed run, and makes no picture."""
         few = ["--runs", "1", "--rows", "100", "--servers", "1", "--over", "100", "--workers", "1,2"]
-        for file, told in ("fails", "status 4: mpsim: no"), ("differs", "another report"):
+        for file, printed in ("fails", "status 4: mpsim: no"), ("differs", "another report"):
             program = self.stand_in()
             self.file(f"program.{file}", "2")
-            self.refused(*self.grows(program, *few), 1, f"growth: a source and a server, 100, --workers 2: {told}")
+            self.refused(*self.grows(program, *few), 1, f"growth: a source and a server, 100, --workers 2: {printed}")
             (self.folder / f"program.{file}").unlink()
         absent = self.folder / "nothing"
         ran, picture = self.grows(absent, *few)
@@ -154,5 +154,5 @@ class Growth(Check):
             self.skipTest("mpsim isn't built")
         ran, picture = self.grows(program, "--runs", "1", "--rows", "100,200", "--servers", "1,2,63", "--over", "100", "--workers", "1,4")
         self.same(f"{ran.command}\n{ran.line.decode()}", ran.status, 0)
-        groups = [it.find(f"{SVG}title").text for it in xml.fromstring(picture).iter(f"{SVG}g")]
+        groups = [item.find(f"{SVG}title").text for item in xml.fromstring(picture).iter(f"{SVG}g")]
         self.same("the series", groups, [f"{name}, {workers}" for name in NAMES.values() for workers in ("1 worker", "4 workers")])

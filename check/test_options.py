@@ -61,14 +61,14 @@ class Options(Check):
                 self.same("docs/ERRORS.md", (line, status), (f"`{program}: usage: {' or '.join(forms)}`", "2"))
                 head = re.findall(r"^# (?:Runs the program:|or) \./(.*)$", text_of(program), flags=re.MULTILINE)
                 self.same(f"the head of the script {program}", head, forms)
-                synopsis = " ".join("\n" if it == ".br" else plain(it) for it in manual_section(program, "SYNOPSIS"))
-                self.same(f"docs/{program}.1", [it.strip() for it in synopsis.split("\n")], forms)
+                synopsis = " ".join("\n" if item == ".br" else plain(item) for item in manual_section(program, "SYNOPSIS"))
+                self.same(f"docs/{program}.1", [part.strip() for part in synopsis.split("\n")], forms)
 
     def test_names_of_options(self):
         for program in PROGRAMS:
             with self.subTest(program):
                 options = options_of(" ".join(forms_of(program)))
-                described = "\n".join(it for it in manual_section(program, "OPTIONS") if it.startswith(".B"))
+                described = "\n".join(item for item in manual_section(program, "OPTIONS") if item.startswith(".B"))
                 self.same(f"docs/{program}.1", options_of(described), options)
                 self.same(f"completions/_{program}", sorted(re.findall(r"^ *'(--[a-z]+)\[", text_of(f"completions/_{program}"), flags=re.MULTILINE)), options)
                 if (ROOT / "completions" / f"{program}.bash").is_file():
@@ -81,14 +81,14 @@ class Options(Check):
             self.skipTest("no bash here")
         options = options_of(" ".join(forms_of("mpsim")))
         for before, wanted in (["-"], options), (["--jobs", "-"], [it for it in options if it != "--jobs"]), (["--report", ""], ["1", "2"]), (["--block", ""], []):
-            words = " ".join(shlex.quote(it) for it in ["mpsim", *before])
+            words = " ".join(shlex.quote(item) for item in ["mpsim", *before])
             script = f"source completions/mpsim.bash; COMP_WORDS=({words}); COMP_CWORD={len(before)}; _mpsim; echo ${{COMPREPLY[@]}}"
             self.same(f"bash behind {words}", sorted(run("bash", "-c", script).out.decode().split()), wanted)
 
     def test_ranges_of_numbers(self):
         """The numbers in the error line for an option's value also appear in its descriptions."""
         rows, page = rows_of("docs/REPORT.md", "## Options"), "\n".join(manual_section("mpsim", "OPTIONS"))
-        described = {options_of(it)[0]: it for it in page.split(".TP")[1:]}
+        described = {options_of(part)[0]: part for part in page.split(".TP")[1:]}
         for line, _, _ in rows_of("docs/ERRORS.md"):
             for option in re.findall(r"`mpsim: (--[a-z]+) takes ", line):
                 numbers = numbers_of(line)
@@ -100,11 +100,11 @@ class Options(Check):
     def test_statuses(self):
         for program in PROGRAMS:
             with self.subTest(program):
-                told = {status for _, cell, _ in rows_of("docs/ERRORS.md", ERRORS[program]) for status in cell.split(", ")} | {"0"}
+                found = {status for _, cell, _ in rows_of("docs/ERRORS.md", ERRORS[program]) for status in cell.split(", ")} | {"0"}
                 page = re.findall(r"^\.B (\d+)$", "\n".join(manual_section(program, "EXIT STATUS")), flags=re.MULTILINE)
-                self.same(f"docs/{program}.1", page, sorted(told, key=int))
+                self.same(f"docs/{program}.1", page, sorted(found, key=int))
         cells = [cell for cell, _ in rows_of("docs/EDITS.md", "## How it ends")]
-        self.same("docs/EDITS.md", sorted(int(it) for cell in cells for it in cell.split(", ")), sorted(map(int, told)))
+        self.same("docs/EDITS.md", sorted(int(part) for cell in cells for part in cell.split(", ")), sorted(map(int, found)))
 
 
 class Planner(Check):
@@ -119,24 +119,24 @@ class Planner(Check):
     def helps(self):
         """Yields the options in the help of each command, by its name."""
         for name in planner_words.COMMANDS:
-            told = run(ROOT / "tools" / "planner", name, "--help").out.decode()
-            yield name, sorted(re.findall(r"^  (?:-h, )?(--[a-z-]+)", told, flags=re.MULTILINE))
+            found = run(ROOT / "tools" / "planner", name, "--help").out.decode()
+            yield name, sorted(re.findall(r"^  (?:-h, )?(--[a-z-]+)", found, flags=re.MULTILINE))
 
     def completed(self, *before):
         """Returns what bash completes after these words."""
-        words = " ".join(shlex.quote(it) for it in ["planner", *before])
+        words = " ".join(shlex.quote(item) for item in ["planner", *before])
         script = f"compopt() {{ :; }}; source completions/planner.bash; COMP_WORDS=({words}); COMP_CWORD={len(before)}; _planner; echo ${{COMPREPLY[@]}}"
         return sorted(run("bash", "-c", script).out.decode().split())
 
     def test_help(self):
         """All options of each command are in all three, and no others."""
-        commands = "".join(f"{it}\n" for it in manual_section("planner", "COMMANDS")).split(".SS ")[1:]
-        described = {it.split("\n", 1)[0]: re.findall(r"^\.TP\n\.BI? (--[a-z-]+)", it, flags=re.MULTILINE) for it in commands}
+        commands = "".join(f"{item}\n" for item in manual_section("planner", "COMMANDS")).split(".SS ")[1:]
+        described = {command.split("\n", 1)[0]: re.findall(r"^\.TP\n\.BI? (--[a-z-]+)", command, flags=re.MULTILINE) for command in commands}
         zsh = planner_words.ZSH.read_text().split(";;")
         for name, options in self.helps():
-            wanted = [it for it in options if it != "--help"]
+            wanted = [option for option in options if option != "--help"]
             self.same(f"docs/planner.1, {name}", sorted(described.pop(name)), wanted)
-            mine = next(it for it in zsh if f"\n    {name})\n" in it)
+            mine = next(item for item in zsh if f"\n    {name})\n" in item)
             self.same(f"completions/_planner, {name}", sorted(re.findall(r"^ *'\*?(--[a-z-]+)(?:=-)?\[", mine, flags=re.MULTILINE)), options)
             if shutil.which("bash"):
                 self.same(f"completions/planner.bash, {name}", self.completed(name, "-"), options)
@@ -163,9 +163,9 @@ class Planner(Check):
         self.did(run("zsh", "-n", planner_words.ZSH))
 
     def test_words_of_its_own(self):
-        described = "\n".join(it for it in manual_section("planner", "OPTIONS") if it.startswith(".B"))
+        described = "\n".join(item for item in manual_section("planner", "OPTIONS") if item.startswith(".B"))
         self.same("docs/planner.1", options_of(described), sorted(planner_words.OWN))
-        told = run(ROOT / "tools" / "planner", "--help").out.decode()
-        self.same("its help", re.findall(r"^  (?:-h, )?(--[a-z-]+)", told, flags=re.MULTILINE), list(planner_words.OWN))
+        found = run(ROOT / "tools" / "planner", "--help").out.decode()
+        self.same("its help", re.findall(r"^  (?:-h, )?(--[a-z-]+)", found, flags=re.MULTILINE), list(planner_words.OWN))
         page = re.findall(r"^\.B (\d+)$", "\n".join(manual_section("planner", "EXIT STATUS")), flags=re.MULTILINE)
         self.same("statuses", page, ["0", "1", "2", "11", "130", "141"])

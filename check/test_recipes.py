@@ -44,7 +44,7 @@ class Recipes(Check):
         for name, text in texts.items():
             self.file(name.replace("_", "."), text)
 
-    def told(self, command, shell="sh"):
+    def messages(self, command, shell="sh"):
         """Returns what a command writes in the directory."""
         ran = run(shell, "-c", command, folder=self.folder, settings={"MPSIM_PROGRAMS": str(self.folder / "programs")})
         self.assertEqual(ran.status, 0, f"{ran.command}\n{ran.line.decode()}")
@@ -53,12 +53,12 @@ class Recipes(Check):
     def served(self, commands):
         """Returns the output of the run of a pool, with job lines; messages about the pool are dropped."""
         pool, run_it = commands.splitlines()
-        return self.told(f"{pool} >/dev/null && {run_it} --jobs")
+        return self.output_of(f"{pool} >/dev/null && {run_it} --jobs")
 
     def report(self, model, trace):
         """Returns the report of two texts, with job lines."""
         self.kept(model_txt=model, trace_csv=trace)
-        return self.told("./mpsim model.txt trace.csv --jobs")
+        return self.output_of("./mpsim model.txt trace.csv --jobs")
 
     def shows(self, what, text, lines):
         """A case: each of these lines is in a text."""
@@ -158,11 +158,11 @@ class Recipes(Check):
     def test_feedback_and_rework(self):
         model, first, script, lines = MODEL["Feedback and rework"]
         self.kept(model_txt=model, first_csv=first, rework_py=script)
-        self.shows("rework", self.told("python3 rework.py"), lines)
+        self.shows("rework", self.output_of("python3 rework.py"), lines)
         for seed in range(TRACES):
             rows = [(*row[:3], max(0, row[3] - 4)) for row in drawn(seed, ["new"], (1, 6), (1, 9))]
             self.kept(first_csv=table("source,time,d,back", rows))
-            found = visits(self.told("python3 rework.py"), "desk")
+            found = visits(self.output_of("python3 rework.py"), "desk")
             ends = simulated(queued(rows, ["new"], back=lambda row: row[3]))
             firsts = {job: end for job, end in found.items() if job <= len(rows)}
             self.same("first visits", firsts, {job: end for job, end in sorted(ends.items()) if job > 0})
@@ -199,16 +199,16 @@ class Recipes(Check):
     def test_trace_from_a_log(self):
         log, model, by_awk, trace, by_python, commands = MODEL["A trace from a log"]
         self.kept(calls_log=log, model_txt=model, trace_py=by_python)
-        self.told(by_awk)
+        self.output_of(by_awk)
         self.same("a log by awk", (self.folder / "trace.csv").read_text(), trace)
-        self.same("a log by Python", self.told("python3 trace.py <calls.log"), trace)
-        self.told("gzip -c trace.csv >trace.csv.gz")
-        wanted = self.told("./mpsim model.txt trace.csv")
+        self.same("a log by Python", self.output_of("python3 trace.py <calls.log"), trace)
+        self.output_of("gzip -c trace.csv >trace.csv.gz")
+        wanted = self.output_of("./mpsim model.txt trace.csv")
         for command in commands.splitlines():
             # The last two need bash or zsh.
             shell = "bash" if "<(" in command else "sh"
             if shutil.which(shell):
-                self.same(command, self.told(command, shell), wanted)
+                self.same(command, self.output_of(command, shell), wanted)
         # The end of a run.
         self.kept(model_txt=model.replace("model 1", "model 1\nbound 200"))
         self.refuses(5, "mpsim: node desk position 1 passes the bound at time 220", "mpsim", "model.txt", "trace.csv", folder=self.folder)

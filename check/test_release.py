@@ -37,8 +37,8 @@ class Release(Check):
                 shutil.copy(ROOT / source, top / source)
         for program in SCRIPTS:
             shutil.copy(executable(program), top / "programs")
-        for it in top.rglob("*"):
-            it.chmod(it.stat().st_mode & ~mask)
+        for path in top.rglob("*"):
+            path.chmod(path.stat().st_mode & ~mask)
         return top
 
     def made(self, name="one", mask=0o022, **settings):
@@ -49,10 +49,10 @@ class Release(Check):
         words = ["sh", "-c", 'umask "$1"; exec "$2" "$3"', "sh", f"{mask:03o}", top / "tools" / "release", top / "to"]
         ran = run(*words, folder=self.folder, settings=settings)
         files = ran.out.decode().splitlines()
-        missing = [] if any(it.endswith(".whl") for it in files) else ["release: the wheel is left out: hatchling is missing"]
+        missing = [] if any(file.endswith(".whl") for file in files) else ["release: the wheel is left out: hatchling is missing"]
         missing = ["release: the Debian package is left out: dpkg-deb is missing"] * (not debian()) + missing
-        self.did(ran._replace(out=b""), 0, "", "".join(f"{it}\n" for it in missing))
-        self.same("the files that are told", sorted(files), sorted(str(it) for it in (top / "to").iterdir()))
+        self.did(ran._replace(out=b""), 0, "", "".join(f"{item}\n" for item in missing))
+        self.same("the files that are told", sorted(files), sorted(str(path) for path in (top / "to").iterdir()))
         return top / "to"
 
     def unpacked(self):
@@ -64,17 +64,17 @@ class Release(Check):
     def test_the_same_bytes_from_two_folders(self):
         """Other timestamps, umasks, time zones and encodings change nothing."""
         one, two = self.made(), self.made("another one", 0o077, TZ="Asia/Tokyo", LC_ALL="C", PYTHONUTF8="0", PYTHONCOERCECLOCALE="0")
-        names = sorted(it.name for it in one.iterdir())
-        self.same("files", sorted(it.name for it in two.iterdir()), names)
+        names = sorted(path.name for path in one.iterdir())
+        self.same("files", sorted(path.name for path in two.iterdir()), names)
         for name in names:
             self.same(name, hashlib.sha256((two / name).read_bytes()).hexdigest(), hashlib.sha256((one / name).read_bytes()).hexdigest())
-            self.same(f"the modes of {name}", [oct((it / name).stat().st_mode & 0o777) for it in (one, two)], ["0o644"] * 2)
+            self.same(f"the modes of {name}", [oct((item / name).stat().st_mode & 0o777) for item in (one, two)], ["0o644"] * 2)
         summed = [line.split()[1] for line in (one / "SHA256SUMS").read_text().splitlines()]
         self.same("files with a sum", sorted([*summed, "SHA256SUMS"]), names)
         self.did(run("sha256sum", "--quiet", "-c", "SHA256SUMS", folder=one))
         with tarfile.open(one / ARCHIVE) as archive:
-            self.same("owners", {(it.uid, it.gid, it.uname) for it in archive}, {(0, 0, "root")})
-            self.same("modes", {oct(it.mode) for it in archive if not it.issym()}, {"0o755", "0o644"})
+            self.same("owners", {(item.uid, item.gid, item.uname) for item in archive}, {(0, 0, "root")})
+            self.same("modes", {oct(item.mode) for item in archive if not item.issym()}, {"0o755", "0o644"})
 
     def runs(self, *words, out="", status=0, line="", settings=()):
         self.did(run(*NOTHING, *settings, *words, folder="/"), status, out, line)
@@ -105,10 +105,10 @@ class Release(Check):
         program.chmod(0o755)
         script = 'unset GLIBC_TUNABLES; "$@" -B -c "from mpsim.programs import surroundings as it; print(it().get(\'GLIBC_TUNABLES\', str()))"'
         words, settings = ["sh", sys.executable], {"PYTHONPATH": str(ROOT / "python" / "src")}
-        told = run("sh", "-c", script, *words, settings=settings).out
-        self.holds(f"settings: {told}", b"glibc.malloc.arena_max=1" in told)
+        output = run("sh", "-c", script, *words, settings=settings).out
+        self.holds(f"settings: {output}", b"glibc.malloc.arena_max=1" in output)
         self.did(run("sh", "-c", f"ulimit -v 4000000; {script}", *words, settings=settings), 0, "glibc.malloc.arena_max=1\n")
-        self.runs(tree / "bin" / "mpsim", out=told)
+        self.runs(tree / "bin" / "mpsim", out=output)
         self.runs(tree / "bin" / "mpsim", out="glibc.malloc.check=1\n", settings=["GLIBC_TUNABLES=glibc.malloc.check=1"])
         limited = ["sh", "-c", 'ulimit -v 60000 && exec "$@"', "sh"]
         self.runs(*limited, tree / "bin" / "mpsim", out="glibc.malloc.arena_max=1\n")
@@ -144,7 +144,7 @@ class Release(Check):
         for file in (ROOT / "completions").iterdir():
             there = file.name if file.name.startswith("_") else file.name.removesuffix(".bash")
             self.holds(f"{file.name} is there", sum(1 for it in tree.rglob(there) if it.is_file() and it.read_bytes() == file.read_bytes()) == 1)
-        self.same("nothing that Python compiled", [str(it) for it in tree.rglob("*.pyc")], [])
+        self.same("nothing that Python compiled", [str(path) for path in tree.rglob("*.pyc")], [])
 
     def test_the_debian_package_in_a_root_of_its_own(self):
         if not debian():

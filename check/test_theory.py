@@ -58,26 +58,26 @@ class Theory(Check):
 
     def test_figures_of_mpsim(self):
         for only, count in ("M/M/1", 4), ("M/M/1/K", 3), ("Saturated tandems", 3), ("M/G/∞", 4), ("Erlang C", 4):
-            ran, told = self.figures(only, 31_000)
-            self.same(f"{ran.command}\n{ran.out.decode()}", (ran.status, len(told), set(told.values())), (0, count, {True}))
+            ran, results = self.figures(only, 31_000)
+            self.same(f"{ran.command}\n{ran.out.decode()}", (ran.status, len(results), set(results.values())), (0, count, {True}))
 
     def test_who_came_last_is_served_first(self):
         """The means are the same, but the percentiles aren't."""
-        ran, told = self.figures("M/M/1", 31_000, LAST_FIRST)
+        ran, results = self.figures("M/M/1", 31_000, LAST_FIRST)
         means = ["M/M/1: mean wait", "M/M/1: share that waits"]
-        self.same(f"{ran.command}\n{ran.out.decode()}", (ran.status, [it for it in told if told[it]]), (1, means))
+        self.same(f"{ran.command}\n{ran.out.decode()}", (ran.status, [result for result in results if results[result]]), (1, means))
 
     def test_a_place_too_many(self):
-        ran, told = self.figures("M/M/1/K", 31_000, PLACE_MORE)
-        self.same(f"{ran.command}\n{ran.out.decode()}", (ran.status, told), (1, dict.fromkeys(told, False)))
+        ran, results = self.figures("M/M/1/K", 31_000, PLACE_MORE)
+        self.same(f"{ran.command}\n{ran.out.decode()}", (ran.status, results), (1, dict.fromkeys(results, False)))
 
     def test_rows_of_the_page(self):
         """They are the figures printed now, in the same order, and all hold."""
-        ran, told = self.figures("", 3_100)
+        ran, results = self.figures("", 3_100)
         page, title, rows = (ROOT / "docs" / "VALIDATION.md").read_text(), "", []
         for line in page.splitlines():
             title = line[3:] if line.startswith("## ") else title
             if line.startswith("| ") and not line.startswith("| What"):
                 rows.append(f"{title}: {line.split(' | ')[0][2:]}")
-        self.same("docs/VALIDATION.md", rows, list(told))
+        self.same("docs/VALIDATION.md", rows, list(results))
         self.holds("docs/VALIDATION.md: a figure that doesn't hold", "**no**" not in page and "fails" not in page)

@@ -15,7 +15,7 @@ class Tools(Check):
         rows = run(PLANNER, "table", "/dev/stdin", "--labels", *MODELS, given=sweep).out.decode().splitlines()
         self.same("rows", len(rows), 26)
         row = "examples/sweep/agents-15.txt,0,36335,callback,server,6,6,0,0,235,220,0,220,220,1413,1648,2,0.0388,"
-        self.same("the row of the last agents", [it for it in rows if "agents-15" in it and ",callback," in it], [row])
+        self.same("the row of the last agents", [row for row in rows if "agents-15" in row and ",callback," in row], [row])
         last = "examples/cases/unknown-kind/model.txt,3,,,,,,,,,,,,,,,,,mpsim: model line 3: word 1 not allowed"
         self.same("the row of a model that is refused", rows[-1], last)
 

@@ -117,7 +117,7 @@ def mean_of(values):
     size = len(values) // (BATCHES + 1)
     means = [sum(values[begin : begin + size]) / size for begin in range(size, (BATCHES + 1) * size, size)]
     mean = sum(means) / BATCHES
-    return mean, math.sqrt(sum((it - mean) ** 2 for it in means) / (BATCHES - 1) / BATCHES)
+    return mean, math.sqrt(sum((item - mean) ** 2 for item in means) / (BATCHES - 1) / BATCHES)
 
 
 def section(title, says):
@@ -346,7 +346,7 @@ def main():
                 print(f"{'ok' if it.holds else 'NO'} seed {seed}, {title}: {it.what}: {it.theory:.5g} by theory, {it.measured:.5g}, off {it.off:+.1f}", flush=True)
             for node in sample.off_little:
                 print(f"NO seed {seed}, {title}: Little's law at {node}", flush=True)
-            holds = holds and all(it.holds for it in sample.figures) and not sample.off_little
+            holds = holds and all(figure.holds for figure in sample.figures) and not sample.off_little
     if words.write:
         from theory_page import page, picture
 

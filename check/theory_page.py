@@ -17,18 +17,18 @@ def table(samples):
     seeds = len(samples)
     yield f"| What | Formula | Theory | mpsim | Standard error | {' | '.join(['Off', *[''] * (seeds - 1)])} |"
     yield f"|{'---|' * (5 + seeds)}"
-    for row in zip(*[it.figures for it in samples]):
+    for row in zip(*[sample.figures for sample in samples]):
         first = row[0]
-        offs = " | ".join(f"{it.off:+.1f}" + ("" if it.holds else " **no**") for it in row)
+        offs = " | ".join(f"{item.off:+.1f}" + ("" if item.holds else " **no**") for item in row)
         yield f"| {first.what} | {first.formula} | {number(first.theory)} | {number(first.measured)} | {first.error:.2g} | {offs} |"
 
 
 def page(found, words):
     """Returns the page, from samples by the titles of their sections, one per seed."""
-    figures = [it for samples in found.values() for sample in samples for it in sample.figures]
-    samples = [it for samples in found.values() for it in samples]
-    nodes, visits = sum(it.nodes for it in samples), sum(it.visits for it in samples)
-    off = [name for it in samples for name in it.off_little]
+    figures = [figure for samples in found.values() for sample in samples for figure in sample.figures]
+    samples = [sample for samples in found.values() for sample in samples]
+    nodes, visits = sum(sample.nodes for sample in samples), sum(sample.visits for sample in samples)
+    off = [name for sample in samples for name in sample.off_little]
     lines = [
         "# Beside theory",
         "",

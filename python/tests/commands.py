@@ -15,7 +15,7 @@ def planner(*words):
     out, err = io.StringIO(), io.StringIO()
     with contextlib.redirect_stdout(out), contextlib.redirect_stderr(err):
         try:
-            status = main([str(it) for it in words])
+            status = main([str(word) for word in words])
         except SystemExit as end:
             status = end.code
     return status, out.getvalue(), err.getvalue()

@@ -28,8 +28,8 @@ def text_of(*parts):
 
 def folders():
     """Returns the directories of examples and cases with a model and a trace, except those run with other arguments."""
-    found = [it for top in (EXAMPLES, CASES) for it in sorted(top.iterdir()) if (it / "model.txt").is_file() and (it / "trace.csv").is_file()]
-    return [it for it in found if not (it / "words").exists()]
+    found = [path for top in (EXAMPLES, CASES) for path in sorted(top.iterdir()) if (path / "model.txt").is_file() and (path / "trace.csv").is_file()]
+    return [item for item in found if not (item / "words").exists()]
 
 
 def reports():
@@ -37,7 +37,7 @@ def reports():
     paths = [EXAMPLES / "made-7.txt"]
     for name in "report.txt", "jobs.txt":
         paths += [*EXAMPLES.glob(f"*/{name}"), *CASES.glob(f"*/{name}")]
-    found = [it for it in sorted(paths) if text_of(it).startswith("mpsim report ")]
+    found = [path for path in sorted(paths) if text_of(path).startswith("mpsim report ")]
     assert len(found) > 100, len(found)
     return found
 
@@ -59,8 +59,8 @@ def waits_of(text, node):
 
 def hour_of(clock):
     """Returns the name of an hour of a day (given as a datetime with a zone): with the offset if any part of it occurs twice."""
-    shown = [clock.replace(minute=it, fold=0) for it in range(60)]
-    is_twice = any(it.utcoffset() > it.replace(fold=1).utcoffset() for it in shown)
+    shown = [clock.replace(minute=number, fold=0) for number in range(60)]
+    is_twice = any(item.utcoffset() > item.replace(fold=1).utcoffset() for item in shown)
     return clock.strftime("%Y-%m-%d %H:00") + clock.isoformat()[-6:] * is_twice
 
 
@@ -92,7 +92,7 @@ def heeds_signals():
 
 def children_of(process):
     """Returns the numbers of the running child processes of a process."""
-    return [int(it) for task in pathlib.Path(f"/proc/{process}/task").iterdir() for it in (task / "children").read_text().split()]
+    return [int(part) for task in pathlib.Path(f"/proc/{process}/task").iterdir() for part in (task / "children").read_text().split()]
 
 
 class Test(unittest.TestCase):

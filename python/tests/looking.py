@@ -51,16 +51,16 @@ class Tree(html.parser.HTMLParser):
 
 def elements(tree, name=None):
     """Yields the elements of a tree, or those of this name, in order."""
-    for it in tree[2]:
-        if isinstance(it, list):
-            if name in (None, it[0]):
-                yield it
-            yield from elements(it, name)
+    for item in tree[2]:
+        if isinstance(item, list):
+            if name in (None, item[0]):
+                yield item
+            yield from elements(item, name)
 
 
 def text_of(tree):
     """Returns the text of an element."""
-    return "".join(it if isinstance(it, str) else text_of(it) for it in tree[2])
+    return "".join(item if isinstance(item, str) else text_of(item) for item in tree[2])
 
 
 class StandIn:
@@ -81,7 +81,7 @@ class StandIn:
         return told["answer"]
 
     def all(self, selector):
-        return [(it["text"], it["attributes"]) for it in self._ask("all", selector)]
+        return [(item["text"], item["attributes"]) for item in self._ask("all", selector)]
 
     def click(self, selector, at=0):
         self._ask("click", selector, at)
@@ -106,8 +106,8 @@ class Browser:
 
     def __init__(self):
         options = webdriver.ChromeOptions()
-        for it in "--headless=new", "--no-sandbox", "--disable-gpu", "--disable-dev-shm-usage", "--window-size=1200,1000":
-            options.add_argument(it)
+        for item in "--headless=new", "--no-sandbox", "--disable-gpu", "--disable-dev-shm-usage", "--window-size=1200,1000":
+            options.add_argument(item)
         options.set_capability("goog:loggingPrefs", {"browser": "ALL"})
         self.driver = webdriver.Chrome(service=Service(DRIVER), options=options)
         self._folder = tempfile.TemporaryDirectory()
@@ -123,7 +123,7 @@ class Browser:
     def all(self, selector):
         script = """return [...document.querySelectorAll(arguments[0])].map(it =>
             [it.textContent, Object.fromEntries([...it.attributes].map(one => [one.name, one.value]))]);"""
-        return [tuple(it) for it in self.driver.execute_script(script, selector)]
+        return [tuple(item) for item in self.driver.execute_script(script, selector)]
 
     def click(self, selector, at=0):
         self._one(selector, at).click()

@@ -1,4 +1,4 @@
-"""A trace with changes in its records: each form of a change, each refusal, and which bytes stay as they were."""
+"""A trace with changed records: each form of a change, each error, and which bytes stay as they were."""
 
 import csv
 import os
@@ -18,20 +18,20 @@ class Steps(Test):
     def test_products_are_rounded_half_up(self):
         for old, by, made in (
             (5, "1.1", 6), (4, "1.1", 4), (15, "0.1", 2), (14, "0.1", 1), (1, "0.5", 1), (3, "0.5", 2), (5, "0.5", 3), (7, "0", 0), (7, "2", 14),
-            # Half by tenths, which floats miss; and more digits than floats have.
+            # Halves in tenths, which floats miss; and more digits than floats have.
             (1005, "0.001", 1), (35, "1.1", 39), (45, "1.1", 50), (TIME - 1, "1.0", TIME - 1), (VALUE - 1, "1.00000000000000000001", VALUE - 1),
         ):
             self.assertEqual(stepped(old, "*", by), made, (old, by))
         draw = random.Random(3)
         for _ in range(2000):
             old, whole, part = draw.randrange(10**6), draw.randrange(4), draw.randrange(100)
-            # By whole numbers alone: the product in hundredths, and half of one more.
+            # With whole numbers only: the product in hundredths, rounded half up.
             self.assertEqual(stepped(old, "*", f"{whole}.{part:02}"), (old * (100 * whole + part) + 50) // 100)
         self.assertEqual((stepped(3, "+", "007"), stepped(3, "-", "5")), (10, -2))
 
 
 class Forms(Changing):
-    """What a call writes."""
+    """The output of a call."""
 
     def test_each_form(self):
         a, b, c = CALLS.splitlines(keepends=True)[1:]
@@ -48,12 +48,12 @@ class Forms(Changing):
             ("record,note,time,g\n3,,+1,\n", "phone,10,2,0,z\n"),
             ("record,empty\n3,note\n", "phone,9,2,0,\n"),
             ("record,empty,g\n3,note,+1\n", "phone,9,3,0,\n"),
-            # In a column that has other texts than numbers a word stands as it is.
+            # In a column with texts other than numbers a value is taken literally.
             ("record,note\n3,+5\n", "phone,9,2,0,+5\n"),
             ("record,note\n3,*1.5\n", "phone,9,2,0,*1.5\n"),
             ("record,note\n3,-7\n3,+49 30 5555\n", "phone,9,2,0,+49 30 5555\n"),
             ("record,g,source,kind\n3,007,web,*0\n", "web,9,007,0,z\n"),
-            # One after another, the second from what the first made.
+            # In order: the second works on the result of the first.
             ("record,g\n3,+1\n3,*2\n", "phone,9,6,0,z\n"),
             ("record,g\n00000000000000000003,+0\n", c),
         ):
@@ -72,18 +72,18 @@ class Forms(Changing):
     def test_a_record_more(self):
         rows = self.rows("record,source,time,g,kind,note\n+,web,7,1,2,x\n", told="4 records (from 3): 0 changed, 1 added, 0 removed")
         self.assertEqual(rows[3:], ["web,7,1,2,x\n"])
-        # It has the next number, whatever is taken out, and is counted as added however often it is changed.
+        # It has the next number, whatever is removed, and counts as added however often it is changed.
         changes = "record,out,note,kind,g,time,source\n1,yes,,,,,\n+,,x,2,1,7,web\n4,,,,,+3,\n+,,y,2,1,7,web\n5,,y y,,*3,,\n"
         rows = self.rows(changes, told="4 records (from 3): 0 changed, 2 added, 1 removed")
         self.assertEqual(rows, [*CALLS.splitlines(keepends=True)[2:], "web,10,1,2,x\n", "web,7,3,2,y y\n"])
         rows = self.rows("record,source,time\n+,a,5\n+,a,6\n1-2,,+1\n", "source,time\n")
         self.assertEqual(rows, ["a,6\n", "a,7\n"])
-        # A text may be empty, as those of the trace.
+        # A text may be empty, like those of the trace.
         for names, values in ("", ""), (",note", ","), (",empty", ",note"):
             self.assertEqual(self.rows(f"record,source,time,g,kind{names}\n+,web,7,1,2{values}\n")[3:], ["web,7,1,2,\n"])
 
     def test_texts_and_numbers(self):
-        """Whether a column has texts the model tells, and without one the trace; a word means the same in a record more and in a change."""
+        """The model, or without one the trace, decides whether a column is text; a value means the same in an added and in a changed record."""
         model, changes = ("--model", self.file("m.txt", "model 1\nsource web\nserver s g from web\n")), self.folder / "c.csv"
         trace, second = "source,time,g,caller,n\nweb,5,20,030222,7\nweb,6,20,,8\n", "web,6,20,,8\n"
         counts, lacks = "2 records (from 2): 1 changed, 0 added, 0 removed", "because the model doesn't name this column"
@@ -99,7 +99,7 @@ class Forms(Changing):
         ):
             with self.subTest(name, word=word, words=words):
                 told = f'{changes}: row 2: "{name}" of record 1: "{word}" is stored as text, {why}\nplanner: ' if why else ""
-                # The last column has a number that begins with 0, as a code does.
+                # The last column has a number with a leading 0, as a code does.
                 given, behind = (trace.replace(",n\n", ",code\n").replace(",7\n", ",07\n"), second) if name == "code" else (trace, second)
                 self.assertEqual(self.rows(f"record,{name}\n1,{word}\n", given, *words, told=told + counts), [row, behind])
         # A time is a number, and so is 0.
@@ -108,7 +108,7 @@ class Forms(Changing):
         counts_of_one = "1 record (from 0): 0 changed, 1 added, 0 removed"
         changed = self.rows("record,source,time,n\n+,web,7,1\n1,,,+2\n", "source,time,n\n", told=f"{told}\nplanner: {counts_of_one}")
         self.assertEqual(changed, ["web,7,+2\n"])
-        # It is told once a column, of the first number in whose place a text stands.
+        # It is reported once per column, for the first number replaced by a text.
         told = f'{changes}: row 2: "caller" of record 1: "+1" is stored as text, {lacks}\nplanner: {counts.replace("1 changed", "2 changed")}'
         rows = self.rows("record,caller\n1-2,+1\n1,5\n1-2,*2\n", trace, *model, told=told)
         self.assertEqual(rows, ["web,5,20,*2,7\n", "web,6,20,*2,8\n"])
@@ -116,7 +116,7 @@ class Forms(Changing):
         self.assertEqual(rows[2], "web,7,1,+1,+2\n")
 
     def test_a_column_that_is_called_empty(self):
-        """It is changed as others, and nothing is emptied there."""
+        """It is changed like any other, and nothing is emptied there."""
         trace = "source,time,empty,note\na,0,1,x\n"
         self.assertEqual(self.rows("record,empty\n1,4\n", trace), ["a,0,4,x\n"])
         self.assertEqual(self.rows("record,empty,out\n1,+4,\n", trace), ["a,0,5,x\n"])
@@ -125,19 +125,19 @@ class Forms(Changing):
         self.assertEqual(self.rows("record,empty,Empty\n1,Empty,\n", trace.replace("empty", "Empty").replace(",1,", ",b,")), ["a,0,,x\n"])
 
     def test_a_record_out(self):
-        """Those behind it keep their numbers."""
+        """Later records keep their numbers."""
         a, b, c = CALLS.splitlines(keepends=True)[1:]
         self.assertEqual(self.rows("record,out\n2,yes\n", told="2 records (from 3): 0 changed, 0 added, 1 removed"), [a, c])
         self.assertEqual(self.rows("record,out\n1-3,yes\n", told="0 records (from 3): 0 changed, 0 added, 3 removed"), [])
         changes = "record,out,time\n1,yes,\n3,,+1\n2,yes,\n"
         self.assertEqual(self.rows(changes, told="1 record (from 3): 1 changed, 0 added, 2 removed"), ["phone,10,2,0,z\n"])
-        # What is changed and then taken out is taken out, and what is added and then taken out was never there.
+        # A record that is changed and then removed is removed; one that is added and then removed never existed.
         self.assertEqual(self.rows("record,g,out\n1,5,\n1,,yes\n", told="2 records (from 3): 0 changed, 0 added, 1 removed"), [b, c])
         changes = "record,source,time,out\n+,b,5,\n2,,,yes\n+,b,6,\n3,,+1,\n"
         self.assertEqual(self.rows(changes, "source,time\na,0\n", told="2 records (from 1): 0 changed, 1 added, 0 removed"), ["a,0\n", "b,7\n"])
 
     def test_bytes_that_stay(self):
-        """What no row changes stands as it was, quotes, ends of lines and a mark at the front too; what is changed ends as it did."""
+        """Unchanged rows stay as they were, including quotes, line ends and a byte order mark; changed ones keep their line end."""
         trace = '\ufeff"source",time,d,note\r\n"a","1",2,"x\r\ny"\na,"1"2,3,\udcff\ra,3,"4",n"o\r\n"a",4,5,z'
         texts = ['\ufeff"source",time,d,note\r\n', '"a","1",2,"x\r\ny"\n', 'a,"1"2,3,\udcff\r', 'a,3,"4",n"o\r\n', '"a",4,5,z']
         wanted = ['a,1,12,"x\r\ny"\n', "a,12,13,\udcff\r", 'a,3,14,"n""o"\r\n', "a,4,15,z\r\n"]
@@ -150,17 +150,17 @@ class Forms(Changing):
             self.assertEqual(self.made(f"record,out\r\n{at},yes\r\n", trace), "".join(made))
         more = "record,source,time,d,note\n+,a,5,6,\"p\rq\"\n"
         self.assertEqual(self.made(more, trace), trace + '\r\na,5,6,"p\rq"\r\n')
-        # Empty lines are none, and a header alone may lack its end of line.
+        # Empty lines are skipped, and a single header may lack its line end.
         self.assertEqual(self.made("record,time\n2,+1\n", "source,time\n\na,1\n\r\n\na,2\n\n"), "source,time\na,1\na,3\n")
         self.assertEqual(self.made("record,source,time\n+,a,1\n", "source,time"), "source,time\na,1\n")
-        # A quote that isn't closed goes on to the end of the file: nothing may stand in it that was added.
+        # An unclosed quote extends to the end of the file: nothing that is added may end up in it.
         cut = 'source,time,note\na,1,n\na,2,"x\n'
         self.assertEqual(self.made("record,time\n1,+1\n", cut), 'source,time,note\na,2,n\na,2,"x\n')
         text = self.made("record,source,time,note\n+,a,3,y\n", cut)
         self.assertEqual(text, 'source,time,note\na,1,n\na,2,"x\n"\na,3,y\n')
 
     def test_changes_as_they_are_written(self):
-        """With a mark, quotes, carriage returns, empty rows, and bytes that are no UTF-8; a row with line feeds counts once."""
+        """With a byte order mark, quotes, carriage returns, empty rows, and bytes that aren't UTF-8; a row with line feeds counts once."""
         changes = '\ufeff"record","note",time\r\n\r\n1,"p\nq",\r\n,,\r\n"2-3",\udce4,"+1"\r\n'
         self.assertEqual(self.rows(changes, CALLS.replace("z", "\udcfc"))[-1], "phone,10,2,0,\udce4\n")
         changes = self.file("c.csv", 'record,note,time\n\n1,"p\nq",\n1,,x5\n')
@@ -168,7 +168,7 @@ class Forms(Changing):
         self.refuses(line, "edit", self.file("t.csv", CALLS), changes)
 
     def test_long_fields_of_a_library(self):
-        """`edited` takes fields as long as the command does, and leaves the limit of Python's reader as it was."""
+        """`edited` takes fields as long as the command does, and leaves the limit of Python's reader unchanged."""
         limit, long = csv.field_size_limit(), "x" * 200000
         trace = self.file("t.csv", f"source,time,note\na,1,\na,2,{long}")
         changes = self.file("c.csv", f"record,source,time,note\n1,,,{long}\n+,a,3,y\n")
@@ -177,7 +177,7 @@ class Forms(Changing):
         self.assertEqual(csv.field_size_limit(), limit)
 
     def test_files(self):
-        """The output has its name when it is whole, and nothing that is read is written over."""
+        """The output appears once it is complete, and no input is overwritten."""
         trace, changes, out = self.file("t.csv", CALLS), self.file("c.csv", "record,out\n1,yes\n"), self.file("o.csv", "before\n")
         model, edits = self.file("m.txt", "model 1\nsource phone\nsource web\n"), self.folder / "e.txt"
         for path, what in (trace, "trace"), (changes, "file of changes"), (model, "model"):
@@ -188,7 +188,7 @@ class Forms(Changing):
         self.assertEqual((text_of(out), edits.exists()), ("before\n", False))
         counts = "planner: 2 records (from 3): 0 changed, 0 added, 1 removed\n"
         self.assertEqual(self.tells(*words, error=counts), "")
-        self.assertEqual(text_of(out), "".join(it for it in CALLS.splitlines(keepends=True) if '"b' not in it))
+        self.assertEqual(text_of(out), "".join(line for line in CALLS.splitlines(keepends=True) if '"b' not in line))
         self.refuses("/dev/full: No space left on device", "edit", trace, changes, "--out", "/dev/full")
 
     def test_a_trace_of_a_pool(self):
@@ -198,7 +198,7 @@ class Forms(Changing):
 
 
 class Refusals(Changing):
-    """Each names the row, the word and the reason."""
+    """Each error names the row, the text and the reason."""
 
     def test_names(self):
         names = "it has source, time, g, kind, note"
@@ -221,7 +221,7 @@ class Refusals(Changing):
         self.refused('"time" appears twice in the header of the trace', "record,time\n1,2\n", twice, where=": row 1: ")
         why = '"out" removes records, but the trace has a column of that name: rename that column'
         self.refused(why, "record,out\n1,yes\n", "source,time,out\na,0,1\n", where=": row 1: ")
-        # The trace may have a column record, whose name is that of the numbers then.
+        # The trace may have a column called record, whose name then means the numbers.
         words = "edit", self.file("t.csv", "source,time,record\na,0,7\n"), self.file("c.csv", "record,time\n1,5\n")
         self.assertEqual(planner(*words)[1], "source,time,record\na,5,7\n")
 
@@ -229,10 +229,10 @@ class Refusals(Changing):
         self.refused("4 fields, but the header has 3", "record,time,g\n1,2,3,4\n")
         self.refused("4 fields, but the header has 3", "record,time,g,,\n1,2,3,4\n")
         self.refused("2 fields, but the header has 1", "record\n1,5\n")
-        # A quote that isn't closed takes what is behind it for one field.
+        # An unclosed quote makes one field of what follows.
         self.refused("2 fields, but the header has 3", 'record,note,time\n1,"x,5\n2,y,6\n')
         self.refused("2 fields, but the header has 3", 'record,note,time\r1,"x,5\r2,y,6\r')
-        # Parted otherwise than the header.
+        # With another delimiter than the header.
         for row in "1;+5", "1|+5", "1 +5":
             self.refused(f'record "{row}": expected a number from 1 to 3, a range as 100-109, or +', f"record,time\n{row}\n")
         forms = "expected a number from 1 to 3, a range as 100-109, or +"
@@ -317,7 +317,7 @@ class Refusals(Changing):
         self.refused(f'"id" of record 1: "*10000000000" {why}', "record,id\n1,*10000000000\n", trace)
 
     def test_no_more_than_mpsim_takes(self):
-        """Of records, and of edits; here with small numbers in place of the limits."""
+        """For records and for edits; here with small numbers instead of the limits."""
         self.assertEqual((edit.RECORDS, edit.BYTES, edit.GREATEST_TIME, edit.GREATEST_VALUE), (1048576, 16777216, TIME, VALUE))
         trace, model = self.file("t.csv", "source,time\n" + "a,0\n" * 12), self.file("m.txt", "model 1\nsource a\n")
         with mock.patch.object(edit, "RECORDS", 12), mock.patch.object(edit, "BYTES", 166):
@@ -330,7 +330,7 @@ class Refusals(Changing):
             changes = self.file("c.csv", "record,time\n1-12,+1000\n1-10,*10\n")
             os.unlink(self.folder / "e.txt")
             self.refuses("--edits: 169 bytes; the limit of mpedit is 166", "edit", trace, changes, *words)
-        self.assertEqual(sorted(it.name for it in self.folder.iterdir()), ["c.csv", "m.txt", "t.csv"])
+        self.assertEqual(sorted(path.name for path in self.folder.iterdir()), ["c.csv", "m.txt", "t.csv"])
 
 
 if __name__ == "__main__":

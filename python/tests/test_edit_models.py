@@ -1,4 +1,4 @@
-"""A trace with changes in its records as the trace of a model: what the model says of its columns, and edits as mpedit has them."""
+"""Changes to the trace of a model: what the model says about its columns, and edits for mpedit."""
 
 import re
 import unittest
@@ -14,18 +14,18 @@ class Models(Changing):
         words = "--model", model
         self.refused(f'"source" of record 1: "web" is not a source of {model}', "record,source\n1,web\n", CALLS, *words)
         self.refused('"g" of record 1: "x" is not a number, +N, -N or *N', "record,g\n1,x\n", CALLS, *words)
-        # What it doesn't name may hold anything, though the trace has numbers there.
+        # Columns that it doesn't name may hold anything, although the trace has numbers there.
         out = planner("edit", self.file("t.csv", CALLS), self.file("c.csv", "record,source,kind\n3,branch,k\n"), *words)[1]
         self.assertTrue(out.endswith("branch,9,2,k,z\n"), out)
         trace = self.file("t.csv", "source,time,h\nphone,0,1\n")
         self.refuses(f"{trace}: no column 'g', which {model} names; it has h", "edit", trace, self.folder / "c.csv", *words)
         self.refuses("--edits requires --model, which has the order of their values", "edit", trace, self.folder / "c.csv", "--edits", "e.txt")
-        # An edit has values that no row changed, and that mpedit would refuse.
+        # An edit includes values that no row changed, which mpedit may reject.
         trace, changes = self.file("t.csv", "source,time,g\nphone,0,x\n"), self.file("c.csv", "record,time\n1,5\n")
         self.refuses('--edits: "g" of record 1: "x" is not a number', "edit", trace, changes, *words, "--edits", self.folder / "e.txt")
 
-    def test_the_model_is_judged(self):
-        """By mpsim, whose status it has; where there is no mpsim, a line says so."""
+    def test_the_model_is_checked(self):
+        """mpsim checks it, and its status is kept; without mpsim, a line says so."""
         trace, changes = self.file("t.csv", "source,time,talk\nweb,5,20\n"), self.file("c.csv", "record,time\n1,+60\n")
         for text, line in (
             ("model 1\nsource web\nsever desk talk from web\n", "model line 3: word 1 not allowed: sever desk talk from web"),
@@ -43,7 +43,7 @@ class Models(Changing):
             told = f"planner: warning: {model} isn't checked: {why}\nplanner: {counts}\n"
             self.assertEqual(self.tells("edit", trace, changes, "--model", model, error=told), "source,time,talk\nweb,65,20\n")
         self.assertFalse((self.folder / "e.txt").exists())
-        # What a sweep fills in isn't judged, but in a comment.
+        # Text that a sweep fills in isn't checked, except in a comment.
         told = f"planner: warning: {{}} isn't checked: {{}} gets its values from planner sweep --set\nplanner: {counts}\n"
         for text, name in (
             ("loss desk {agents} talk from web\n", "{agents}"),
@@ -57,7 +57,7 @@ class Models(Changing):
         line = f"--edits: {model} contains {{talk}}, but mpedit takes no model with names in braces"
         self.refuses(line, "edit", trace, changes, "--model", model, "--edits", edits)
         self.assertFalse(edits.exists())
-        # Nor by an mpsim that can't be run.
+        # Nor with an mpsim that can't be run.
         model, broken = self.file("m.txt", "model 1\nsource web\n"), self.folder / "mpsim"
         broken.write_text("#!/bin/sh\nexit 99\n")
         broken.chmod(0o700)
@@ -67,7 +67,7 @@ class Models(Changing):
             self.assertRegex(error, rf"^planner: warning: {model} isn't checked: mpsim ended with status 99.*\nplanner: {re.escape(counts)}\n$")
 
     def test_what_edits_do_not_have(self):
-        """A change of a column that the model doesn't name is told where edits are written."""
+        """A change to a column that the model doesn't name is reported when edits are written."""
         model, edits = self.file("m.txt", "model 1\nsource web\nserver s g from web\n"), self.folder / "e.txt"
         trace, counts = self.file("t.csv", "source,time,note,g,n\nweb,5,x,20,1\n"), "1 record (from 1): 1 changed, 0 added, 0 removed"
         for row, names, edit in (

@@ -1,4 +1,4 @@
-"""What `planner prepare` refuses: one line that says the file, the row, the column and the value, or names the option that says more."""
+"""The errors of `planner prepare`: one line with the file, the row, the column and the value, or with the option to set."""
 
 import unittest
 import unittest.mock
@@ -24,13 +24,13 @@ def table(*rows, header="when,who,long"):
 
 class Refusals(InFolder):
     def is_refused(self, line, data, *words):
-        """The line of a call over an export of these bytes; no file is made."""
+        """Checks the error line for an export of these bytes; no file is made."""
         export = self.folder / "export.csv"
         export.write_bytes(data)
         time = [] if "--time" in words else ["--time", "when"]
         status, out, err = planner("prepare", export, *time, *words, "--out", self.folder / "trace.csv", "--left-out", self.folder / "left.csv")
         self.assertEqual((status, out, err), (1, "", f"planner: {line.replace('EXPORT', str(export))}\n"))
-        self.assertEqual([it.name for it in self.folder.iterdir()], ["export.csv"])
+        self.assertEqual([path.name for path in self.folder.iterdir()], ["export.csv"])
 
     def test_files(self):
         for data, line in (
@@ -61,7 +61,7 @@ class Refusals(InFolder):
         self.assertEqual(planner("prepare", absent, "--time", "x"), (1, "", f"planner: {absent}: No such file or directory\n"))
         self.assertEqual(planner("prepare", self.folder, "--time", "x"), (1, "", f"planner: {self.folder}: Is a directory\n"))
 
-    def test_what_has_to_be_said(self):
+    def test_options_that_are_needed(self):
         for line, data, *words in (
             ("no column 'Zeit'; it has 'when', 'who', 'long'", table(ROW), "--time", "Zeit"),
             ("two columns are called 'when': rename one of them", b"when,when\n8:00,9:00\n"),
@@ -146,7 +146,7 @@ class Refusals(InFolder):
             ("--rename requires a column for --source", table(ROW), "--rename", "a=b"),
             ("--rename requires a column for --source", table(ROW), "--rename", "jobs=b", "--source", "calls"),
             ("no source 'B' for --rename; it has 'a', 'b'", table(ROW, "8:01,b,1", "8:02,a,1"), "--source", "who", "--rename", "B=c"),
-            # As the export has it, and not as it is called.
+            # As in the export, not under its new name.
             ("no source 'sales' for --rename; it has 'Sales'", table("8:00, Sales ,1"), "--source", "who", "--rename", "sales=c"),
             ("no source 'x' for --rename; it has none", table("8:00,,1", "8:01"), "--source", "who", "--rename", "x=c"),
             ("1 record before --begin 9:00, which is to be time 0", table(ROW), "--begin", "9:00"),
@@ -217,18 +217,18 @@ class Refusals(InFolder):
 
 class Limits(Test):
     def test_sources(self):
-        rows = [f"8:00,s{it},1" for it in range(64)]
+        rows = [f"8:00,s{number},1" for number in range(64)]
         with self.assertRaisesRegex(ValueError, "64 sources; the limit of a model is 63: give one name for all, or --rename several to one"):
             prepare(table(*rows), "when", source="who")
         self.assertEqual(len(prepare(table(*rows[1:]), "when", source="who").names), 63)
 
     def test_sources_that_are_listed(self):
-        rows = [f"8:00,s{it},1" for it in range(23)]
+        rows = [f"8:00,s{number},1" for number in range(23)]
         with self.assertRaisesRegex(ValueError, "no source 'S1' for --rename; it has 's0', .*'s19' and 3 more$"):
             prepare(table(*rows), "when", source="who", rename=["S1=x"])
 
     def test_columns(self):
-        constants = [f"c{it}=1s" for it in range(17)]
+        constants = [f"c{number}=1s" for number in range(17)]
         with self.assertRaisesRegex(ValueError, "17 columns; the limit of a trace is 16"):
             prepare(table(ROW), "when", constant=constants)
         self.assertEqual(len(prepare(table(ROW), "when", constant=constants[1:]).header), 18)
@@ -241,7 +241,7 @@ class Limits(Test):
         with unittest.mock.patch.object(module, "RECORDS", 3), unittest.mock.patch.object(prepared, "BYTES", 33):
             with self.assertRaisesRegex(ValueError, "more than 3 records, the limit of a trace: shorten the export"):
                 prepare(table(*[ROW] * 4), "when")
-            # Each record has `jobs,0` and a line feed, with the value two more; the header has 11 or 13.
+            # Each record has `jobs,0` and a line feed, with the value two more bytes; the header has 11 or 13.
             self.assertEqual(sum(map(len, prepare(table(*[ROW] * 3), "when").lines())), 12 + 21)
             made = prepare(table(*[ROW] * 3), "when", demand=["long=d"])
             with self.assertRaisesRegex(ValueError, "the trace is longer than 33 bytes, the limit of mpsim: shorten the export"):
@@ -261,13 +261,13 @@ class Limits(Test):
         self.assertEqual(made.warned, [day])
         made = prepare(table("8:00,8:10,x", "8:00,7:59,x", header="when,end,code"), "when", end=["end"])
         self.assertIn("end: 1 service longer than 12 hours", made.warned)
-        words = [f"2026-03-02 8:0{it},a,k{it}" for it in range(9)]
+        words = [f"2026-03-02 8:0{number},a,k{number}" for number in range(9)]
         values = "long has 9 values, but a split by remainder has at most 8 outputs"
         self.assertEqual(prepare(table(*words), "when", code=["long"]).warned, [values])
         open_quote = table("2026-03-02 8:00,a,1", '2026-03-02 8:01,a,"1', *["2026-03-02 8:02,a,1"] * 30)
         self.assertEqual(prepare(open_quote, "when").warned, ["a field has more than 20 lines: is a closing quote missing?"])
         for mark, whose in ("", "a clock that never changes"), ("T00Z", "UTC"):
-            told = prepare(table(f"2026-03-02{mark},a,1", f"2026-03-04{mark},a,1"), "when").told
+            told = prepare(table(f"2026-03-02{mark},a,1", f"2026-03-04{mark},a,1"), "when").notes
             self.assertIn(f"days are those of {whose}: give --zone for another", told)
 
 

@@ -6,10 +6,10 @@
 >>> report["desk"].wait, report["desk"].p90
 (6, 3)
 
-The programs mpsim, mpsweep and mpedit do the work, in processes of their own: nothing here simulates, and nothing here is proved. What a call
-takes and raises stands in its own text; `docs/PYTHON.md` begins with tasks.
+The programs mpsim, mpsweep and mpedit do the work, in separate processes: nothing in this package simulates, and nothing in it is proved. The help of
+each function says what it takes and raises; `docs/PYTHON.md` is organised by task.
 
-Times are whole ticks, from 0; what a tick is, is up to who writes the trace.
+Times are whole ticks, from 0. A tick is whatever unit the trace uses.
 """
 
 import os as _os

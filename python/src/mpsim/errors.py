@@ -19,8 +19,8 @@ class Error(Exception):
     >>> import mpsim
     >>> try:
     ...     mpsim.run("model 1\\nsource Door\\n", [])
-    ... except mpsim.ModelError as fault:
-    ...     print(fault.told, fault.line, fault.word, fault.source, sep="; ")
+    ... except mpsim.ModelError as error:
+    ...     print(error.told, error.line, error.word, error.source, sep="; ")
     mpsim: model line 2: word 2 not allowed; 2; 2; source Door
     """
 
@@ -47,16 +47,16 @@ class Error(Exception):
 
 
 def _again(kind, why, attributes):
-    fault = kind(why)
-    vars(fault).update(attributes)
-    return fault
+    error = kind(why)
+    vars(error).update(attributes)
+    return error
 
 
 def _mark(source, word):
     """Returns a line that marks this word of a line; a word past the last is marked after the end."""
     if word is None or not source.replace("\t", " ").isprintable():
         return []
-    spans = [it.span() for it in re.finditer(r"[^ \t]+", source)] + [(len(source) + 1, len(source) + 2)]
+    spans = [found.span() for found in re.finditer(r"[^ \t]+", source)] + [(len(source) + 1, len(source) + 2)]
     begin, end = spans[min(word, len(spans)) - 1]
     return [re.sub(r"[^\t]", " ", source[:begin]).ljust(begin) + "^" * (end - begin)]
 
@@ -123,8 +123,8 @@ def read_from(path):
     """Adds the path of the file to a ReportError raised in the block."""
     try:
         yield
-    except ReportError as fault:
-        raise ReportError(fault.line, fault.found, fault.why, path) from None
+    except ReportError as error:
+        raise ReportError(error.line, error.found, error.why, path) from None
 
 
 KINDS = {
@@ -179,9 +179,9 @@ def _numbers(why):
     """Returns the numbers and names in an error line."""
     found = {name: int(value) for name, value in re.findall(r"\b(line|word|record|field|input|position) (\d+)", why)}
     for name, pattern in ("time", r"\bat time (\d+)"), ("visits", r"^node \w+ has (\d+) visits"):
-        found.update({name: int(it) for it in re.findall(pattern, why)})
+        found.update({name: int(found) for found in re.findall(pattern, why)})
     for name, pattern in ("node", r"^node (\w+) (?:position|has) "), ("column", r"^trace header: column (\w+) missing"):
-        found.update({name: it for it in re.findall(pattern, why)})
+        found.update({name: text for text in re.findall(pattern, why)})
     return found
 
 

@@ -201,7 +201,7 @@ def edits_input(value):
         return _given(value)
     if isinstance(value, (Set, Add)) or not isinstance(value, Iterable):
         raise TypeError(f"edits are a path, a text, or a list of Set and Add, not {type(value).__name__}")
-    return Input(write=lambda file: file.writelines(f"{it}\n".encode() for it in map(_known_edit, value)))
+    return Input(write=lambda file: file.writelines(f"{item}\n".encode() for item in map(_known_edit, value)))
 
 
 def _known_edit(edit):
@@ -212,7 +212,7 @@ def _known_edit(edit):
 
 def _first(names):
     """Returns names of columns in the order that the program requires."""
-    return ["source", "time"] + [it for it in names if it not in ("source", "time")]
+    return ["source", "time"] + [name for name in names if name not in ("source", "time")]
 
 
 def _rows_of_frame(frame):
@@ -222,7 +222,7 @@ def _rows_of_frame(frame):
         if name not in names:
             raise ValueError(f"the frame has no column {name!r}: {names}")
     values = [frame[name] for name in _first(names)]
-    return itertools.chain([_first(names)], zip(*[it.tolist() if hasattr(it, "tolist") else it.to_list() for it in values]))
+    return itertools.chain([_first(names)], zip(*[value.tolist() if hasattr(value, "tolist") else value.to_list() for value in values]))
 
 
 def _rows(rows, model):
@@ -253,7 +253,7 @@ def _write_rows(file, rows):
     for number, row in enumerate(rows):
         if isinstance(row, (str, bytes)):
             raise TypeError(f"trace record {number} is a text, not a row: {row!r}")
-        text.write(line_of([_whole(it) for it in row]) + "\n")
+        text.write(line_of([_whole(item) for item in row]) + "\n")
     text.flush()
 
 

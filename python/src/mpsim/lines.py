@@ -65,7 +65,7 @@ class Node(NamedTuple):
 
 
 # The names of a node's numbers, as in the line and in data frames.
-NUMBERS = [it.rstrip("_") for it in Node._fields[2:]]
+NUMBERS = [field.rstrip("_") for field in Node._fields[2:]]
 # The names that `figure` takes.
 FIGURES = [*NUMBERS, "mean_wait", "mean_time", "share_lost"]
 

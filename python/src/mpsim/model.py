@@ -52,9 +52,9 @@ class Model:
     def __init__(self, bound=None):
         self._lines, self._version = [] if bound is None else [f"bound {bound}"], 1
 
-    def _add(self, kind, name, asked, inputs, version=1):
+    def _add(self, kind, name, arguments, inputs, version=1):
         self._version = max(self._version, version)
-        words = [kind, name, *asked, *(["from", *inputs] if inputs else [])]
+        words = [kind, name, *arguments, *(["from", *inputs] if inputs else [])]
         self._lines.append(" ".join(map(str, words)))
         return Output(name)
 
@@ -83,11 +83,11 @@ class Model:
         >>> str(model).splitlines()[-1]
         'tandem desk ask / 1 write / 4 =2 from door'
         """
-        stages = [it for it in stages_and_inputs if isinstance(it, tuple)]
-        asked = [_demand(first)]
+        stages = [stages_and_input for stages_and_input in stages_and_inputs if isinstance(stages_and_input, tuple)]
+        arguments = [_demand(first)]
         for places, demand in stages:
-            asked += ["/", places, _demand(demand)]
-        return self._add("tandem", name, asked, [it for it in stages_and_inputs if not isinstance(it, tuple)])
+            arguments += ["/", places, _demand(demand)]
+        return self._add("tandem", name, arguments, [item for item in stages_and_inputs if not isinstance(item, tuple)])
 
     def forkjoin(self, name, branches, *inputs):
         """Adds a fork-join station: a job goes through all branches at once; a branch is a list of service times.
@@ -98,8 +98,8 @@ class Model:
         >>> str(model).splitlines()[-1]
         'forkjoin both a | b =2 from parts'
         """
-        asked = [word for branch in branches for word in ["|", *map(_demand, branch)]]
-        return self._add("forkjoin", name, asked[1:], inputs)
+        arguments = [word for branch in branches for word in ["|", *map(_demand, branch)]]
+        return self._add("forkjoin", name, arguments[1:], inputs)
 
     def split(self, name, *inputs, turn=None, mod=None, cut=None):
         """Adds a split, which sends each job to one output: by `turn=outputs`, by `mod=(outputs, column)`, or by `cut=(column, threshold, ..)`.
@@ -111,10 +111,10 @@ class Model:
         >>> str(model).splitlines()[-1]
         'split menu cut kind 1 5 from calls'
         """
-        if sum(it is not None for it in (turn, mod, cut)) != 1:
+        if sum(item is not None for item in (turn, mod, cut)) != 1:
             raise TypeError("a split takes one of turn, mod and cut")
-        asked = [turn, "turn"] if turn is not None else ["cut", *cut] if cut is not None else [mod[0], "mod", mod[1]]
-        return self._add("split", name, asked, inputs)
+        arguments = [turn, "turn"] if turn is not None else ["cut", *cut] if cut is not None else [mod[0], "mod", mod[1]]
+        return self._add("split", name, arguments, inputs)
 
     def fork(self, name, outputs, *inputs):
         """Adds a fork: each job continues on each of this many outputs."""
@@ -165,12 +165,12 @@ def columns(text):
     found = {}
     for line in text.split("\n"):
         words = line.split()
-        asked = words[2 : words.index("from") if "from" in words else len(words)]
+        arguments = words[2 : words.index("from") if "from" in words else len(words)]
         if words[:1] == ["split"]:
-            asked = asked[1:2] if asked[:1] == ["cut"] else asked[2:]
+            arguments = arguments[1:2] if arguments[:1] == ["cut"] else arguments[2:]
         else:
-            asked = asked[_COLUMNS.get(words[0] if words else "", slice(0, 0))]
-        found.update({it: None for it in asked if it[0].isalpha()})
+            arguments = arguments[_COLUMNS.get(words[0] if words else "", slice(0, 0))]
+        found.update({argument: None for argument in arguments if argument[0].isalpha()})
     return list(found)
 
 
@@ -180,7 +180,7 @@ class ModelNode(NamedTuple):
 
     name: str
     kind: str
-    asked: str
+    arguments: str
     outputs: int
     inputs: Tuple[Tuple[str, int], ...]
 
@@ -196,17 +196,18 @@ def nodes_of(text):
         if len(words) == 1:
             raise ValueError(f"{line.strip()!r} is not a line of a model")
         begin = words.index("from") if "from" in words else len(words)
-        kind, asked = words[0], words[2:begin]
-        inputs = [it.partition(".") for it in words[begin + 1 :]]
-        nodes.append(ModelNode(words[1], kind, " ".join(asked), _outputs(kind, asked), tuple((it, int(number or 0)) for it, _, number in inputs)))
+        kind, arguments = words[0], words[2:begin]
+        inputs = [word.partition(".") for word in words[begin + 1 :]]
+        read = tuple((name, int(number or 0)) for name, _, number in inputs)
+        nodes.append(ModelNode(words[1], kind, " ".join(arguments), _outputs(kind, arguments), read))
     return nodes
 
 
-def _outputs(kind, asked):
+def _outputs(kind, arguments):
     if kind in ("loss", "trunk"):
         return 2
-    if kind in ("fork", "split") and asked:
-        return len(asked) - 1 if asked[0] == "cut" else int(asked[0])
+    if kind in ("fork", "split") and arguments:
+        return len(arguments) - 1 if arguments[0] == "cut" else int(arguments[0])
     return 1
 
 

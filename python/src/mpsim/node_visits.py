@@ -58,7 +58,7 @@ class NodeVisits:
 
     def waits(self):
         """Returns the waits of the visits that departed (sorted array of int, in ticks)."""
-        return array("q", sorted(it for it in self.wait if it >= 0))
+        return array("q", sorted(item for item in self.wait if item >= 0))
 
     def percentile(self, percent):
         """Returns the shortest wait (int, in ticks) that at least `percent` percent (0 to 100, int or float) of the departed visits don't exceed, as
@@ -81,8 +81,8 @@ class NodeVisits:
         >>> desk.share_within(3), desk.share_within(4), desk.share_within(4, departed=True)
         (0.5, 0.75, 1.0)
         """
-        count = sum(it >= 0 for it in self.wait) if departed else len(self)
-        return sum(0 <= it <= ticks for it in self.wait) / count if count else None
+        count = sum(item >= 0 for item in self.wait) if departed else len(self)
+        return sum(0 <= item <= ticks for item in self.wait) / count if count else None
 
     def to_pandas(self):
         """Returns a data frame with a row per visit, as Visits.to_pandas does. Raises ImportError if pandas is missing."""
@@ -127,18 +127,18 @@ def _frame(parts):
     import pandas
 
     def joined(name, kind):
-        return numpy.concatenate([numpy.frombuffer(getattr(it, name), kind) for it in parts if len(it)] or [numpy.empty(0, kind)])
+        return numpy.concatenate([numpy.frombuffer(getattr(part, name), kind) for part in parts if len(part)] or [numpy.empty(0, kind)])
 
     def with_gaps(name):
         return pandas.arrays.IntegerArray(numpy.where(gone, 0, joined(name, "i8")), gone.copy())
 
     gone = joined("wait", "i8") < 0
-    nodes = numpy.repeat(numpy.arange(len(parts)), [len(it) for it in parts])
+    nodes = numpy.repeat(numpy.arange(len(parts)), [len(part) for part in parts])
     ends = numpy.where(gone, -joined("wait", "i8"), 0)
     return pandas.DataFrame(
         {
             "job": joined("job", "i4"),
-            "node": pandas.Categorical.from_codes(nodes, [it.node for it in parts]),
+            "node": pandas.Categorical.from_codes(nodes, [part.node for part in parts]),
             "arrive": joined("arrive", "i8"),
             "wait": with_gaps("wait"),
             "depart": with_gaps("depart"),

@@ -28,7 +28,7 @@ class Running:
                 [file, *words],
                 stdout=subprocess.PIPE,
                 stderr=self._errors,
-                pass_fds=[handle for it in inputs for handle in it.handles],
+                pass_fds=[handle for item in inputs for handle in item.handles],
                 env=programs.surroundings(),
             )
             self.stream = self._process.stdout
@@ -36,9 +36,9 @@ class Running:
                 self._timer = threading.Timer(timeout, self._late)
                 self._timer.daemon = True
                 self._timer.start()
-        except OSError as fault:
+        except OSError as error:
             self._clear()
-            raise ProgramError(f"{file} can't be started: {fault.strerror}") from fault
+            raise ProgramError(f"{file} can't be started: {error.strerror}") from error
         except BaseException:
             self._clear()
             raise
@@ -47,14 +47,14 @@ class Running:
         return self
 
     def __exit__(self, kind, value, trace):
-        told = ""
+        message = ""
         try:
             self._settle(kind)
-            told = os.pread(self._errors, os.fstat(self._errors).st_size, 0).decode(errors="surrogateescape")
+            message = os.pread(self._errors, os.fstat(self._errors).st_size, 0).decode(errors="surrogateescape")
         finally:
             self._clear()
         if kind is None or issubclass(kind, ReportError):
-            self._judge(told)
+            self._judge(message)
 
     def _settle(self, kind):
         """Waits for the program if it is about to end, else kills it."""
@@ -68,18 +68,18 @@ class Running:
             with contextlib.suppress(subprocess.TimeoutExpired):
                 self._process.wait(1)
 
-    def _judge(self, told):
+    def _judge(self, message):
         """Raises the error that the program's end implies."""
         status = self._process.returncode
         if self._is_late and status == -signal.SIGKILL:
-            raise TimedOut(f"{self.name} was ended: its timeout has passed", told, status) from None
+            raise TimedOut(f"{self.name} was ended: its timeout has passed", message, status) from None
         if self._is_killed:
             return
         if status == -signal.SIGINT:
             # At a terminal Ctrl-C ends both, and the program's end may be noticed first.
             raise KeyboardInterrupt
         if status not in self.fine:
-            raise error_of(self.name, status, told, self.inputs) from None
+            raise error_of(self.name, status, message, self.inputs) from None
 
     def _late(self):
         self._is_late = True

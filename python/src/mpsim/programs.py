@@ -12,7 +12,7 @@ HERE = os.path.dirname(os.path.abspath(__file__))
 # for a million records. They don't change the report. If the address space is limited, of which they would take 64 MB at once, only the last one is
 # set: separate heaps for threads could take more memory than the run needs.
 TUNABLES = ":".join(
-    f"glibc.malloc.{it}" for it in ("hugetlb=1", "mmap_threshold=1073741824", "trim_threshold=1073741824", "top_pad=67108864", "arena_max=1")
+    f"glibc.malloc.{item}" for item in ("hugetlb=1", "mmap_threshold=1073741824", "trim_threshold=1073741824", "top_pad=67108864", "arena_max=1")
 )
 ONE_HEAP = "glibc.malloc.arena_max=1"
 
@@ -20,15 +20,15 @@ ONE_HEAP = "glibc.malloc.arena_max=1"
 def find(name):
     """Returns the path of a program (str): in the directory that MPSIM_PROGRAMS names; else in the wheel, in the clone around this file, or on the
     PATH. Raises ProgramError if it isn't found. A clone's programs are built by their scripts, such as ./mpsim, not here."""
-    asked = os.environ.get("MPSIM_PROGRAMS")
+    given = os.environ.get("MPSIM_PROGRAMS")
     clone = os.path.join(HERE, "..", "..", "..", "crates", name, "out")
-    for folder in [asked] if asked else [os.path.join(HERE, "bin"), clone]:
+    for folder in [given] if given else [os.path.join(HERE, "bin"), clone]:
         file = os.path.abspath(os.path.join(folder, name))
         if os.path.isfile(file) and os.access(file, os.X_OK):
             return file
-    found = None if asked else shutil.which(name)
+    found = None if given else shutil.which(name)
     if found is None:
-        where = asked or f"this package, in a clone around it (where ./{name} builds it), or on the PATH"
+        where = given or f"this package, in a clone around it (where ./{name} builds it), or on the PATH"
         raise ProgramError(f"no program {name} in {where}; set MPSIM_PROGRAMS to a directory that has it")
     return found
 
@@ -43,8 +43,8 @@ def _become(name):
     # The program replaces this process, so that signals, pipes and the status are its own.
     try:
         file = find(name)
-    except ProgramError as fault:
-        sys.exit(str(fault))
+    except ProgramError as error:
+        sys.exit(str(error))
     os.execve(file, [name, *map(os.fsencode, sys.argv[1:])], surroundings())
 
 

@@ -57,7 +57,7 @@ class Report:
     def __init__(self, form, jobs, span, nodes, exits, visits=None, again=None):
         self.form, self.jobs, self.span = form, jobs, span
         self.nodes, self.exits, self.visits, self.again = tuple(nodes), tuple(exits), visits, again
-        self._by_name = {it.name: it for it in self.nodes}
+        self._by_name = {node.name: node for node in self.nodes}
         self._model = None
 
     @property
@@ -66,7 +66,7 @@ class Report:
 
     @model.setter
     def model(self, text):
-        if text is not None and sorted((it.name, it.kind) for it in nodes_of(text)) != sorted((it.name, it.kind) for it in self.nodes):
+        if text is not None and sorted((node.name, node.kind) for node in nodes_of(text)) != sorted((node.name, node.kind) for node in self.nodes):
             raise ValueError("the model isn't that of the report: its nodes differ")
         self._model = text
 
@@ -89,10 +89,10 @@ class Report:
         """Yields the lines (str, each with its line feed), byte for byte as they were read; with `jobs`, including the job lines if the report has
         them."""
         yield f"mpsim report {self.form}\njobs {self.jobs} span {self.span}\n"
-        for it in self.nodes:
-            yield it.line() + "\n"
-        for it in self.exits:
-            yield f"exit {it.name}.{it.output} {it.jobs} sojourn {it.sojourn}\n"
+        for node in self.nodes:
+            yield node.line() + "\n"
+        for item in self.exits:
+            yield f"exit {item.name}.{item.output} {item.jobs} sojourn {item.sojourn}\n"
         for it in self.visits.each() if jobs and self.visits else ():
             yield f"job {it.job} {it.node} arrive {it.arrive} " + (f"wait {it.wait} depart {it.depart}\n" if it.end == "left" else f"{it.end}\n")
         if self.again:
@@ -102,8 +102,8 @@ class Report:
     def mean_sojourn(self):
         """The mean time of a job in the network (float, ticks), from the `exit` lines; after a fork, each part that leaves counts. None if none
         left."""
-        jobs = sum(it.jobs for it in self.exits)
-        return sum(it.sojourn for it in self.exits) / jobs if jobs else None
+        jobs = sum(item.jobs for item in self.exits)
+        return sum(item.sojourn for item in self.exits) / jobs if jobs else None
 
     def to_pandas(self):
         """Returns the nodes as a data frame, with a row per node, indexed by its name, and the fields of the lines as columns. Raises ImportError if
@@ -177,7 +177,7 @@ class Reading:
         self.again = None
         self._next()
         if re.fullmatch(rb"mpsim report ([03-9]|[1-9]\d+)\n", self._line):
-            raise self._fault(self._line, "begins a report of an unknown form: only 1 and 2 are known")
+            raise self._error(self._line, "begins a report of an unknown form: only 1 and 2 are known")
         self.form = int(self._line_of("form")[1])
         self.jobs, self.span = map(int, self._line_of("jobs").groups())
         self.nodes, self.exits, self._node_lines = [], [], self._number
@@ -187,7 +187,7 @@ class Reading:
             self.again = Again(*map(int, self._line_of("again").groups()))
         self._has_jobs = self._line.startswith(b"job ") and not self.again
         if not self._has_jobs and self._line and not (in_sweep and self._line.startswith(b"scenario ")):
-            raise self._fault(self._line)
+            raise self._error(self._line)
 
     @property
     def rest(self):
@@ -198,14 +198,14 @@ class Reading:
         self._number += 1
         self._line = self._stream.readline()
 
-    def _fault(self, line, why="is not a line of a report"):
+    def _error(self, line, why="is not a line of a report"):
         return ReportError(self._number, line.decode(errors="surrogateescape").rstrip("\n"), why)
 
     def _line_of(self, kind):
         """Returns the groups of the current line, and moves on to the next."""
         found = LINES[kind].fullmatch(self._line.decode("ascii", "surrogateescape"))
         if not found:
-            raise self._fault(self._line)
+            raise self._error(self._line)
         self._next()
         return found
 
@@ -214,7 +214,7 @@ class Reading:
         while self._line.startswith(b"node ") or not self.nodes:
             line = self._line
             name, kind, *values, util = self._line_of("node").groups()
-            node = Node(name, kind, *[None if it is None else int(it) for it in values], None if util == "-" else float(util))
+            node = Node(name, kind, *[None if value is None else int(value) for value in values], None if util == "-" else float(util))
             self.nodes.append(node)
             if (node.p50 is None) != (self.form == 1) or (node.held is None and self.form == 2):
                 raise ReportError(self._number - 1, line.decode().rstrip("\n"), f"isn't of form {self.form}")
@@ -239,10 +239,10 @@ class Reading:
 
     def _judge_jobs(self):
         """Checks the number of jobs: they arrive at the sources and, without forks and joins, each leaves once, so a missing line is noticed."""
-        if self.jobs != sum(it.in_ for it in self.nodes if it.kind == "source"):
+        if self.jobs != sum(node.in_ for node in self.nodes if node.kind == "source"):
             raise ReportError(self._node_lines - 1, f"jobs {self.jobs} span {self.span}", "contradicts the lines of the sources")
-        if not any(it.kind in ("fork", "join") for it in self.nodes) and self.jobs != sum(it.jobs for it in self.exits):
-            raise self._fault(self._line, f"follows exit lines by which not all of the {self.jobs} jobs leave")
+        if not any(node.kind in ("fork", "join") for node in self.nodes) and self.jobs != sum(item.jobs for item in self.exits):
+            raise self._error(self._line, f"follows exit lines by which not all of the {self.jobs} jobs leave")
 
     def _contradiction(self, node, why):
         return ReportError(self._node_lines + self.nodes.index(node), node.line(), f"contradicts the report: {why}")
@@ -250,7 +250,7 @@ class Reading:
     def pieces(self):
         """Yields the visits, as NodeVisits of one node each, in the order of the lines. At most half a megabyte of text is held at a time. Raises
         ReportError for an invalid line and, after the last piece, if a node's visits don't match its line."""
-        seen = {it.name: _Seen(self.span) for it in self.nodes}
+        seen = {node.name: _Seen(self.span) for node in self.nodes}
         # The names of the nodes from that of the last visit on.
         self._left = list(seen)
         for text in self._texts():
@@ -258,7 +258,7 @@ class Reading:
                 seen[piece.node].add(piece)
                 yield piece
         for node in self.nodes:
-            if seen[node.name].told() != (node.in_, node.out, node.lost, node.held or 0, node.wait, node.max, node.area):
+            if seen[node.name].totals() != (node.in_, node.out, node.lost, node.held or 0, node.wait, node.max, node.area):
                 raise self._contradiction(node, "its job lines differ, or some are missing")
 
     def _texts(self):
@@ -282,7 +282,7 @@ class Reading:
         # at once: those of one node are cut off, and its name is removed; without digits the rest must have that shape, and without letters it is
         # four numbers per line.
         if b"-" in text or not text.endswith(b"\n") or re.search(rb" 0\d", text):
-            raise self._first_fault(text)
+            raise self._first_error(text)
         for end, stand_in in STAND_INS:
             text = text.replace(end, stand_in)
         while text:
@@ -296,7 +296,7 @@ class Reading:
             if not shaped or not _fill(piece, lines.translate(None, LETTERS), count) or not self._is_next(piece):
                 for end, stand_in in STAND_INS:
                     mine = mine.replace(stand_in, end)
-                raise self._first_fault(mine)
+                raise self._first_error(mine)
             self._number += count
             yield piece
 
@@ -307,26 +307,26 @@ class Reading:
         del self._left[: self._left.index(piece.node)]
         return True
 
-    def _first_fault(self, text):
+    def _first_error(self, text):
         """Returns the error of the first invalid line, checked one by one."""
         *lines, cut = text.split(b"\n")
         for line in lines:
             found = JOB.fullmatch(line)
-            numbers = [int(it) for it in found.group(1, 3, 4, 5) if it] if found else []
+            numbers = [int(item) for item in found.group(1, 3, 4, 5) if item] if found else []
             if not found or not 1 <= numbers[0] <= self.jobs or max(numbers) >= 1 << 63:
-                return self._fault(line)
+                return self._error(line)
             name = found[2].decode()
             if name not in self._left:
-                return self._fault(line, "names no node, or follows the lines of a later one")
+                return self._error(line, "names no node, or follows the lines of a later one")
             del self._left[: self._left.index(name)]
             self._number += 1
-        return self._fault(cut, "is cut")
+        return self._error(cut, "is cut")
 
-    def report(self, asked=False):
-        """Returns the whole report. A report without jobs has no job lines; whether it gets (empty) visits depends on `asked`."""
+    def report(self, wanted=False):
+        """Returns the whole report. A report without jobs has no job lines; whether it gets (empty) visits depends on `wanted`."""
         visits = None
-        if self._has_jobs or asked:
-            visits = Visits((it.name, NodeVisits(it.name)) for it in self.nodes)
+        if self._has_jobs or wanted:
+            visits = Visits((node.name, NodeVisits(node.name)) for node in self.nodes)
             for piece in self.pieces():
                 visits[piece.node].extend(piece)
         return Report(self.form, self.jobs, self.span, self.nodes, self.exits, visits, self.again)
@@ -350,7 +350,7 @@ class _Seen:
             self.area += sum(arrive - LOST for arrive, wait in zip(visits.arrive, visits.wait) if wait == LOST)
             self.area += held * (self.span - HELD)
 
-    def told(self):
+    def totals(self):
         return self.count, self.count - self.lost - self.held, self.lost, self.held, self.wait, self.max, self.area
 
 

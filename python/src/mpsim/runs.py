@@ -69,7 +69,7 @@ def run(model, trace, *, jobs=False, workers=None, block=None, form=None, timeou
     (70, 0.6666666666666666)
     """
     with _model_and_trace(model, trace) as inputs:
-        words = [it.word for it in inputs] + _options(jobs, workers, block, form)
+        words = [item.word for item in inputs] + _options(jobs, workers, block, form)
         return _report("mpsim", words, inputs, jobs, timeout)
 
 
@@ -96,7 +96,7 @@ def visits(model, trace, *, workers=None, block=None, timeout=None):
     1
     """
     with _model_and_trace(model, trace) as inputs:
-        with Running("mpsim", [it.word for it in inputs] + _options(True, workers, block), inputs, timeout=timeout) as running:
+        with Running("mpsim", [item.word for item in inputs] + _options(True, workers, block), inputs, timeout=timeout) as running:
             yield Reading(running.stream)
 
 
@@ -111,7 +111,7 @@ def edit(model, trace, edits, *, timeout=None):
     (1, 2, 2)
     """
     with _inputs(lambda _: model_input(model), lambda made: trace_input(trace, made[0]), lambda _: edits_input(edits)) as inputs:
-        return _report("mpedit", [it.word for it in inputs], inputs, False, timeout)
+        return _report("mpedit", [item.word for item in inputs], inputs, False, timeout)
 
 
 def sweep(trace, models, *, jobs=False, timeout=None):
@@ -124,7 +124,7 @@ def sweep(trace, models, *, jobs=False, timeout=None):
     """
     # If Ctrl-C comes between two scenarios, the program mustn't live as long as the traceback.
     with contextlib.closing(scenarios(trace, models, jobs=jobs, timeout=timeout)) as coming:
-        return Sweep((it.label, it) for it in coming)
+        return Sweep((item.label, item) for item in coming)
 
 
 def scenarios(trace, models, *, jobs=False, timeout=None):
@@ -158,7 +158,7 @@ def _scenarios(trace, labelled, jobs, timeout):
     with _inputs(lambda _: model_input(labelled[0][1]), lambda made: trace_input(trace, made[0])) as (_, rows):
         for begin in range(0, len(labelled), step):
             some = labelled[begin : begin + step]
-            with _inputs(*[lambda _, it=it: model_input(it) for _, it in some]) as texts:
+            with _inputs(*[lambda _, item=it: model_input(item) for _, it in some]) as texts:
                 left = None if end is None else max(end - time.monotonic(), 0)
                 yield from run_some(rows, texts, [label for label, _ in some], left)
 
@@ -168,15 +168,15 @@ def sweep_text(trace, models):
     """Runs mpsweep on a trace and 1 to 64 models (list): a block with its output as an open file of bytes. Raises what `run` does, except for refused
     scenarios, at the latest at the end of the block; leaving the block early ends the program."""
     with _inputs(lambda _: model_input(models[0]), lambda made: trace_input(trace, made[0])) as (_, rows):
-        with _inputs(*[lambda _, it=it: model_input(it) for it in models]) as texts:
+        with _inputs(*[lambda _, item=model: model_input(item) for model in models]) as texts:
             inputs = [rows, *texts]
-            with Running("mpsweep", [it.word for it in inputs], inputs, fine=(0, 11)) as running:
+            with Running("mpsweep", [item.word for item in inputs], inputs, fine=(0, 11)) as running:
                 yield running.stream
 
 
 def _by_mpsweep(rows, models, labels, timeout):
     inputs = [rows, *models]
-    with Running("mpsweep", [it.word for it in inputs], inputs, fine=(0, 11), timeout=timeout) as running:
+    with Running("mpsweep", [item.word for item in inputs], inputs, fine=(0, 11), timeout=timeout) as running:
         yield from scenarios_of(running.stream, labels, inputs)
 
 
@@ -184,6 +184,6 @@ def _by_mpsim(rows, models, labels, timeout):
     (model,), (label,) = models, labels
     try:
         found = Scenario(label, 0, _report("mpsim", [model.word, rows.word, "--jobs"], [model, rows], True, timeout), None)
-    except (ModelError, TraceError, BoundError, VisitsError) as fault:
-        found = Scenario(label, fault.status, None, fault)
+    except (ModelError, TraceError, BoundError, VisitsError) as error:
+        found = Scenario(label, error.status, None, error)
     yield found

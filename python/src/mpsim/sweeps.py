@@ -124,10 +124,10 @@ def scenarios_of(text, labels=None, inputs=None):
             yield Scenario(label, 0, with_model(report, inputs[count]) if inputs else report, None)
             line, number = reading.rest
         else:
-            told = stream.readline().decode(errors="surrogateescape")
-            if status not in REFUSED or not told.startswith("mpsim: ") or not told.endswith("\n"):
-                raise ReportError(number + 1, told.rstrip("\n"), f"is not the line of a refusal with status {status}")
-            yield Scenario(label, status, None, error_of("mpsim", status, told, [inputs[count], inputs[0]] if inputs else ()))
+            message = stream.readline().decode(errors="surrogateescape")
+            if status not in REFUSED or not message.startswith("mpsim: ") or not message.endswith("\n"):
+                raise ReportError(number + 1, message.rstrip("\n"), f"is not the line of a refusal with status {status}")
+            yield Scenario(label, status, None, error_of("mpsim", status, message, [inputs[count], inputs[0]] if inputs else ()))
             line, number = stream.readline(), number + 2
     if count == 0 or (labels is not None and count < len(labels)):
         raise ReportError(number, "", f"is the end of a sweep, after {count} scenarios")

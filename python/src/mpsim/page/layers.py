@@ -28,7 +28,7 @@ class Layout:
         left = {name: AROUND + at * (WIDE + GAP_X) for at, column in enumerate(columns) for name in column}
         self.places = {name: (left[name], middle[name] - top) for name in middle}
         self.height = max(y + high[name] / 2 for name, (_, y) in self.places.items()) + AROUND
-        last = LEAVES if all(name not in {it.name for it in nodes} for name in columns[-1]) else WIDE
+        last = LEAVES if all(name not in {node.name for node in nodes} for name in columns[-1]) else WIDE
         self.width = 2 * AROUND + (len(columns) - 1) * (WIDE + GAP_X) + last
 
 
@@ -36,13 +36,13 @@ def _layers(nodes):
     """Returns the number of each node's layer: after everything it reads; a source comes just before its reader."""
     layers, left = {}, list(nodes)
     while left:
-        for it in left:
-            if all(name in layers for name, _ in it.inputs):
-                layers[it.name] = max((layers[name] + 1 for name, _ in it.inputs), default=0)
-        if len(before := left) == len(left := [it for it in left if it.name not in layers]):
+        for item in left:
+            if all(name in layers for name, _ in item.inputs):
+                layers[item.name] = max((layers[name] + 1 for name, _ in item.inputs), default=0)
+        if len(before := left) == len(left := [item for item in left if item.name not in layers]):
             raise ValueError(f"node {before[0].name} of the model reads what isn't there, or itself")
     for node in nodes:
-        near = [layers[it.name] for it in nodes if any(name == node.name for name, _ in it.inputs)]
+        near = [layers[item.name] for item in nodes if any(name == node.name for name, _ in item.inputs)]
         if not node.inputs and near:
             layers[node.name] = min(near) - 1
     return layers
@@ -50,10 +50,10 @@ def _layers(nodes):
 
 def _columns(nodes, layers):
     """Returns, for each layer, the heights of its places by name (dict), and the lines. A line that crosses a layer has a place there."""
-    readers = {it: node.name for node in nodes for it in node.inputs}
+    readers = {item: node.name for node in nodes for item in node.inputs}
     columns = [{} for _ in range(max(layers.values()) + 2)]
-    for it in nodes:
-        columns[layers[it.name]][it.name] = HIGH
+    for each in nodes:
+        columns[layers[each.name]][each.name] = HIGH
     lines = []
     for node in nodes:
         for number in range(node.outputs):
@@ -65,7 +65,7 @@ def _columns(nodes, layers):
             if not reader:
                 columns[last][name] = LEAVING
             lines.append(Line((node.name, number), (node.name, *(it for it, _ in passed), reader or name), reader is not None))
-    return [it for it in columns if it], lines
+    return [column for column in columns if column], lines
 
 
 def _middles(columns, lines, high):
@@ -89,7 +89,7 @@ def _middles(columns, lines, high):
                 near.update(*columns[at + 1 : at + 2])
             wanted = {}
             for name in columns[at]:
-                found = [middle[it] for it in beside[name] if it in near]
+                found = [middle[item] for item in beside[name] if item in near]
                 wanted[name] = sum(found) / len(found) if found else middle[name]
             _spread(columns[at], wanted, middle)
     return middle

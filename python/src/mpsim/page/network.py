@@ -29,9 +29,9 @@ def _shortened(text, most):
     return text if len(text) <= most else text[: most - 1] + "…"
 
 
-def asked_of(node):
+def arguments_of(node):
     """Returns the second line of a box: the kind and its arguments in the model."""
-    return _shortened(f"{node.kind} {node.asked}".strip(), 22)
+    return _shortened(f"{node.kind} {node.arguments}".strip(), 22)
 
 
 def figures_of(line):
@@ -54,16 +54,16 @@ def said_of(line):
 def network(report, lines, chosen=None, is_still=False):
     """Returns the SVG (str), with the figures of `lines` (list of Node) and the selected node marked; "" if the report's model isn't known. In a
     still one no node is a button."""
-    nodes, figures = nodes_that_are_drawn(report), {it.name: it for it in lines}
+    nodes, figures = nodes_that_are_drawn(report), {line.name: line for line in lines}
     if not nodes:
         return ""
-    layout, counts, outputs = Layout(nodes), flows(nodes, report), {it.name: it.outputs for it in nodes}
+    layout, counts, outputs = Layout(nodes), flows(nodes, report), {node.name: node.outputs for node in nodes}
     most = max([*counts.values(), 1])
     # A wide network shrinks to the page, as long as its text stays legible, and then scrolls.
     size = f'viewBox="0 0 {layout.width:.0f} {layout.height:.0f}" width="{layout.width:.0f}" style="min-width:{0.72 * layout.width:.0f}px"'
     parts = [f'<svg class="network" {size} role="group" aria-label="Network of {len(nodes)} nodes">']
     parts += [_line(it, [layout.places[name] for name in it.path], counts.get(it.output), most, outputs[it.output[0]]) for it in layout.lines]
-    parts += [_box(figures[it.name], it, layout.places[it.name], it.name == chosen, is_still) for it in nodes]
+    parts += [_box(figures[node.name], node, layout.places[node.name], node.name == chosen, is_still) for node in nodes]
     return "".join(parts) + "</svg>"
 
 
@@ -88,16 +88,16 @@ def _line(line, places, count, most, outputs):
     # The number of the output is near the next layer, where the lines of a split have separated.
     near_x, near_y = places[1]
     port = f'<text class="flow" x="{near_x - 12}" y="{near_y - 7:.1f}" text-anchor="end">.{number}</text>' if outputs > 1 and number else ""
-    told = f"<title>output {number}: {text} jobs</title>"
+    label = f"<title>output {number}: {text} jobs</title>"
     drawn = f'<path d="{path}" stroke-width="{1 + 5 * (count or 0) / most:.1f}"/>'
-    return f'<g class="edge{" none" if count == 0 else ""}" data-flow="{name}.{number}">{told}{drawn}{tip}{port}</g>'
+    return f'<g class="edge{" none" if count == 0 else ""}" data-flow="{name}.{number}">{label}{drawn}{tip}{port}</g>'
 
 
 def _box(line, node, place, is_chosen, is_still):
     x, middle = place
     top, said, left = middle - HIGH / 2, escape(said_of(line)), x + INDENT.get(node.kind, 10)
     parts = [f'<title>{said}</title><rect class="box" x="{x}" y="{top:.1f}" width="{WIDE}" height="{HIGH}" rx="{ROUND.get(node.kind, 8)}"/>']
-    rows = ("name", 18, _shortened(node.name, 14)), ("kind", 33, asked_of(node)), ("figures", 46, figures_of(line))
+    rows = ("name", 18, _shortened(node.name, 14)), ("kind", 33, arguments_of(node)), ("figures", 46, figures_of(line))
     parts += [f'<text class="{kind}" x="{left}" y="{top + down:.1f}">{escape(text)}</text>' for kind, down, text in rows]
     if line.util is not None:
         parts.append(f'<text class="load" x="{x + WIDE - 10}" y="{top + 18:.1f}" text-anchor="end">{int(100 * line.util + 0.5)} %</text>')

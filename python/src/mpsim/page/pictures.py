@@ -23,9 +23,9 @@ def nice(least, tick=None):
     hours or days."""
     if tick is None:
         power = 10 ** (len(str(least)) - 1)
-        return next(it * power for it in (1, 2, 5, 10) if it * power >= least)
+        return next(item * power for item in (1, 2, 5, 10) if item * power >= least)
     tick = Fraction(str(tick))
-    seconds = next((it for it in CLOCK if it >= least * tick), None) or DAY * nice(-(-least * tick // DAY))
+    seconds = next((item for item in CLOCK if item >= least * tick), None) or DAY * nice(-(-least * tick // DAY))
     return -(-seconds // tick)
 
 
@@ -38,17 +38,17 @@ def over_time(visits, span, pieces, tick=None):
     """Returns the visits to a node by time of arrival, in about this many intervals of equal width: the arrivals, how many of them were lost or held,
     and the p50, p90 and maximum of the waits of those that departed, None if none did."""
     width = width_of(span, pieces, tick)
-    told = {"width": width, "came": [], "lost": [], "p50": [], "p90": [], "max": []}
+    series = {"width": width, "came": [], "lost": [], "p50": [], "p90": [], "max": []}
     begin = 0
     for end_time in range(width, span + width + 1, width):
         end = bisect_left(visits.arrive, end_time, begin)
-        waits = sorted(it for it in visits.wait[begin:end] if it >= 0)
-        told["came"].append(end - begin)
-        told["lost"].append(end - begin - len(waits))
+        waits = sorted(item for item in visits.wait[begin:end] if item >= 0)
+        series["came"].append(end - begin)
+        series["lost"].append(end - begin - len(waits))
         for name, percent in ("p50", 50), ("p90", 90), ("max", 100):
-            told[name].append(percentile_of(waits, percent) if waits else None)
+            series[name].append(percentile_of(waits, percent) if waits else None)
         begin = end
-    return told
+    return series
 
 
 def number_over_time(visits, span, width):
@@ -63,15 +63,15 @@ def number_over_time(visits, span, width):
     """
     begins = array("q", (arrive for arrive, wait in zip(visits.arrive, visits.wait) if wait != LOST))
     ends = array("q", sorted(span if wait == HELD else depart for depart, wait in zip(visits.depart, visits.wait) if wait != LOST))
-    told, came, gone = {"width": width, "mean": [], "max": []}, 0, 0
+    series, came, gone = {"width": width, "mean": [], "max": []}, 0, 0
     for begin in range(0, span, width):
         end, first, before = min(begin + width, span), came, gone
         came, gone = bisect_left(begins, end, first), bisect_left(ends, end, before)
         # A visit present at the beginning counts for the whole interval, less the time after its departure; an arrival counts from its time on.
         within = (first - before) * (end - begin) + (came - first - gone + before) * end - sum(begins[first:came]) + sum(ends[before:gone])
-        told["mean"].append(round(within / (end - begin), 3))
-        told["max"].append(_greatest(begins, ends, begin, range(first, came), before))
-    return told
+        series["mean"].append(round(within / (end - begin), 3))
+        series["max"].append(_greatest(begins, ends, begin, range(first, came), before))
+    return series
 
 
 def _greatest(begins, ends, begin, numbers, gone):
@@ -91,10 +91,10 @@ def distribution(visits, most):
     waits are included if they are few; else those at equally spaced ranks, at common percentiles, and at ranks that close in on the longest."""
     waits = visits.waits()
     count = len(waits)
-    ranks = {1} | {-(-count * it // most) for it in range(1, most + 1)} | {-(-count * it // 100) for it in (50, 90, 95, 99)}
-    ranks |= {count - (count >> it) for it in range(1, count.bit_length() + 1)}
-    kept = sorted({waits[it - 1] for it in ranks if it > 0}) if count else []
-    return {"came": len(visits), "wait": kept, "count": [bisect_right(waits, it) for it in kept]}
+    ranks = {1} | {-(-count * number // most) for number in range(1, most + 1)} | {-(-count * item // 100) for item in (50, 90, 95, 99)}
+    ranks |= {count - (count >> number) for number in range(1, count.bit_length() + 1)}
+    kept = sorted({waits[rank - 1] for rank in ranks if rank > 0}) if count else []
+    return {"came": len(visits), "wait": kept, "count": [bisect_right(waits, item) for item in kept]}
 
 
 def pictures_of(report, nodes, numbers, tick=None):
@@ -102,16 +102,16 @@ def pictures_of(report, nodes, numbers, tick=None):
     `tick` is the seconds per tick, if known."""
     if report.visits is None:
         return {}
-    waited = {it.name: it.kind not in WITHOUT_WAITS for it in nodes if it.kind not in PASSED}
-    drawn = [it for it in visits_at(report, waited) if len(it)]
+    waited = {node.name: node.kind not in WITHOUT_WAITS for node in nodes if node.kind not in PASSED}
+    drawn = [visit for visit in visits_at(report, waited) if len(visit)]
     each = numbers // max(len(drawn), 1)
     pieces, waits = (min(max(each // share, LEAST), most) for share, most in ((10, PIECES), (7, WAITS)))
     found = {}
-    for it in drawn:
-        count, mine = max(min(pieces, len(it) // VISITS), 10), found.setdefault(it.node, {})
-        if waited[it.node]:
-            mine["time"] = over_time(it, report.span, count, tick)
-            mine["waits"] = distribution(it, waits)
+    for item in drawn:
+        count, mine = max(min(pieces, len(item) // VISITS), 10), found.setdefault(item.node, {})
+        if waited[item.node]:
+            mine["time"] = over_time(item, report.span, count, tick)
+            mine["waits"] = distribution(item, waits)
         if report.span:
-            mine["number"] = number_over_time(it, report.span, width_of(report.span, count, tick))
+            mine["number"] = number_over_time(item, report.span, width_of(report.span, count, tick))
     return found

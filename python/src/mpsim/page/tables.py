@@ -22,19 +22,19 @@ def _rounded(value, digits):
 
 
 COLUMNS = [
-    Column("in", "visits", lambda report, it: it.in_),
-    Column("out", "visits that departed", lambda report, it: it.out),
-    Column("lost", "visits that were turned away", lambda report, it: it.lost),
-    Column("held", "visits held by a join to the end", lambda report, it: it.held),
-    Column("share lost", "lost / in", lambda report, it: _rounded(it.share_lost, 4)),
-    Column("mean wait", "Wq: wait / out", lambda report, it: _rounded(it.mean_wait, 3)),
-    Column("p50", "half waited no longer", lambda report, it: it.p50),
-    Column("p90", "9 of 10 waited no longer", lambda report, it: it.p90),
-    Column("p99", "99 of 100 waited no longer", lambda report, it: it.p99),
-    Column("max", "the longest wait", lambda report, it: it.max),
-    Column("util", "busy / (servers × span)", lambda report, it: it.util),
-    Column("in node", "L: mean number of jobs, area / span", lambda report, it: _rounded(it.area / report.span, 3) if report.span else None),
-    Column("peak", "most jobs just after an arrival", lambda report, it: it.peak),
+    Column("in", "visits", lambda report, node: node.in_),
+    Column("out", "visits that departed", lambda report, node: node.out),
+    Column("lost", "visits that were turned away", lambda report, node: node.lost),
+    Column("held", "visits held by a join to the end", lambda report, node: node.held),
+    Column("share lost", "lost / in", lambda report, node: _rounded(node.share_lost, 4)),
+    Column("mean wait", "Wq: wait / out", lambda report, node: _rounded(node.mean_wait, 3)),
+    Column("p50", "half waited no longer", lambda report, node: node.p50),
+    Column("p90", "9 of 10 waited no longer", lambda report, node: node.p90),
+    Column("p99", "99 of 100 waited no longer", lambda report, node: node.p99),
+    Column("max", "the longest wait", lambda report, node: node.max),
+    Column("util", "busy / (servers × span)", lambda report, node: node.util),
+    Column("in node", "L: mean number of jobs, area / span", lambda report, node: _rounded(node.area / report.span, 3) if report.span else None),
+    Column("peak", "most jobs just after an arrival", lambda report, node: node.peak),
 ]
 
 
@@ -43,10 +43,10 @@ def columns_of(reports, within=None):
     that."""
     if within is None:
         return COLUMNS
-    if any(it.visits is None for it in reports):
+    if any(report.visits is None for report in reports):
         raise ValueError("the share within a time needs job lines: use jobs=True or --jobs")
     says = f"share of all arrivals served after at most {within} ticks"
-    return [Column(f"within {within}", says, lambda report, it: _rounded(_share(report, it, within), 4)), *COLUMNS]
+    return [Column(f"within {within}", says, lambda report, node: _rounded(_share(report, node, within), 4)), *COLUMNS]
 
 
 def _share(report, node, within):
@@ -86,19 +86,19 @@ def _table(name, caption, words, rows, is_still):
 def nodes_table(report, nodes, columns, is_still=False):
     """Returns the table of these nodes (list of Node) of a report."""
     rows = []
-    for it in nodes:
-        cells = "".join(_cell(column.of(report, it)) for column in columns)
-        rows.append(f'<tr data-node="{it.name}"><th scope="row">{it.name}</th><td>{it.kind}</td>{cells}</tr>')
-    words = [("node", "name"), ("kind", "kind"), *((it.name, it.says) for it in columns)]
+    for item in nodes:
+        cells = "".join(_cell(column.of(report, item)) for column in columns)
+        rows.append(f'<tr data-node="{item.name}"><th scope="row">{item.name}</th><td>{item.kind}</td>{cells}</tr>')
+    words = [("node", "name"), ("kind", "kind"), *((column.name, column.says) for column in columns)]
     return _table("nodes", "Nodes, times in ticks", words, rows, is_still)
 
 
 def exits_table(report, is_still=False):
     """Returns the table of the outputs that no node reads."""
     rows = []
-    for it in report.exits:
-        mean = _rounded(it.sojourn / it.jobs, 3) if it.jobs else None
-        rows.append(f'<tr><th scope="row">{it.name}.{it.output}</th>{_cell(it.jobs)}{_cell(mean)}</tr>')
+    for item in report.exits:
+        mean = _rounded(item.sojourn / item.jobs, 3) if item.jobs else None
+        rows.append(f'<tr><th scope="row">{item.name}.{item.output}</th>{_cell(item.jobs)}{_cell(mean)}</tr>')
     words = [("exit", "output that no node reads"), ("jobs", "jobs that left"), ("mean sojourn", "from arriving in the network to leaving it")]
     return _table("exits", "Where jobs left the network", words, rows, is_still)
 
@@ -111,5 +111,5 @@ def facts(report):
 
 def legend():
     """Returns the legend of the network's colours."""
-    steps = "".join(f'<span class="load{it}">{20 * it - 20}–{20 * it} %</span>' for it in range(1, 6))
+    steps = "".join(f'<span class="load{number}">{20 * number - 20}–{20 * number} %</span>' for number in range(1, 6))
     return f'<p class="legend">Utilisation: {steps}<span class="load0">no servers</span> The width of a line shows how many jobs took it.</p>'

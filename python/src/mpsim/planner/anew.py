@@ -39,8 +39,8 @@ def standing(model, trace):
     found, lost = [], {}
     # Models that this reader can't parse are left to the runs that reject them.
     with contextlib.suppress(ValueError):
-        nodes = {it.name: it for it in nodes_of(text)}
-        found = sorted(_named(nodes), key=lambda it: len(in_front(nodes, [queue_name(it[0])])))
+        nodes = {node.name: node for node in nodes_of(text)}
+        found = sorted(_named(nodes), key=lambda item: len(in_front(nodes, [queue_name(item[0])])))
     if groups := [name for name, *_, end in found if name == end]:
         with contextlib.suppress(ModelError, TraceError, BoundError, VisitsError):
             report = run(front(text, groups), trace.lines())
@@ -51,14 +51,14 @@ def standing(model, trace):
 def _named(nodes):
     """Yields the name, the number of agents, the service time and a serving node of each pool among `nodes` (dict of ModelNode by name). The serving
     node is the trunk group of the pool's name, or the first agent."""
-    for it in nodes.values():
-        name = it.name.removesuffix(queue_name(""))
-        if it.kind == "delay" and name in nodes and nodes[name].kind == "trunk":
-            agents, demand = nodes[name].asked.split()
-            end, lines = name, trunk_lines(name, int(agents), demand, inputs_of(it))
-        elif it.kind == "split" and (servers := agents_of(nodes, name)):
-            agents, demand, end = len(servers), nodes[servers[0]].asked, servers[0]
-            lines = agent_lines(name, agents, demand, inputs_of(it), is_read=False)
+    for node in nodes.values():
+        name = node.name.removesuffix(queue_name(""))
+        if node.kind == "delay" and name in nodes and nodes[name].kind == "trunk":
+            agents, demand = nodes[name].arguments.split()
+            end, lines = name, trunk_lines(name, int(agents), demand, inputs_of(node))
+        elif node.kind == "split" and (servers := agents_of(nodes, name)):
+            agents, demand, end = len(servers), nodes[servers[0]].arguments, servers[0]
+            lines = agent_lines(name, agents, demand, inputs_of(node), is_read=False)
         else:
             continue
         if all(nodes.get(made.name) == made for made in nodes_of("\n".join(lines))):
@@ -78,7 +78,7 @@ def anew(trace, pools):
     >>> [[row[-1] for row in it.rows] for it in (later, anew(later, standing(model, whole)))]
     [['7', '10'], ['0', '3']]
     """
-    for it in pools:
-        calls = calls_at(run(it.front, trace.lines(), jobs=True), queue_name(it.name), it.name, it.demand, trace)
-        trace = trace.with_values(**columns_of(it.name, it.agents, calls, len(trace.rows)))
+    for pool in pools:
+        calls = calls_at(run(pool.front, trace.lines(), jobs=True), queue_name(pool.name), pool.name, pool.demand, trace)
+        trace = trace.with_values(**columns_of(pool.name, pool.agents, calls, len(trace.rows)))
     return trace

@@ -14,23 +14,23 @@ def words(parser):
     parser.add_argument("--zone", metavar="NAME", help=says)
 
 
-def words_of(asked):
+def words_of(args):
     """Returns those options (list of str) declared by `words` that were given."""
-    return [f"--{name}" for name in ("tick", "start", "zone") if getattr(asked, name) is not None]
+    return [f"--{name}" for name in ("tick", "start", "zone") if getattr(args, name) is not None]
 
 
-def of(asked, model=None):
+def of(args, model=None):
     """Returns the Calendar defined by a command's arguments and a model's text (str or None). Raises ValueError if neither gives the length of a
     tick."""
-    tick, start, zone = told_in(model or "")
-    if not asked.tick and tick is None:
+    tick, start, zone = settings_in(model or "")
+    if not args.tick and tick is None:
         # A report doesn't contain its model.
-        is_report = "reports" in asked or "report" in asked and asked.trace is None
+        is_report = "reports" in args or "report" in args and args.trace is None
         where = "a --model" if is_report else "a model"
         raise ValueError(f"the length of a tick is unknown: give --tick and --start, or {where} whose first lines planner prepare wrote")
-    if asked.start:
-        given("--start", iso, asked.start)
-    return Calendar(given("--tick", tick_of, asked.tick) if asked.tick else tick, asked.start or start, asked.zone or zone)
+    if args.start:
+        given("--start", iso, args.start)
+    return Calendar(given("--tick", tick_of, args.tick) if args.tick else tick, args.start or start, args.zone or zone)
 
 
 def tick_of(text):
@@ -49,7 +49,7 @@ def length_text(micros):
 
 def first_lines(tick, start, zone, columns, sources, more=()):
     """Returns the first lines of a model: the tick (int, microseconds), time 0 (ISO 8601 text or None), its zone (str or None), the columns of the
-    trace after `time`, `more` comments, and the sources (lists of str). `told_in` reads them back.
+    trace after `time`, `more` comments, and the sources (lists of str). `settings_in` reads them back.
 
     >>> print(first_lines(100000, "2026-03-02T08:00:00+01:00", "Europe/Berlin", ["talk"], ["phone"]), end="")
     model 1
@@ -57,31 +57,31 @@ def first_lines(tick, start, zone, columns, sources, more=()):
     # columns: talk
     source phone
     """
-    lines = ["model 1", _told(tick, start, zone), *([f"# columns: {', '.join(columns)}"] if columns else []), *more]
-    return "".join(f"{line}\n" for line in [*lines, *(f"source {it}" for it in sources)])
+    lines = ["model 1", _settings(tick, start, zone), *([f"# columns: {', '.join(columns)}"] if columns else []), *more]
+    return "".join(f"{line}\n" for line in [*lines, *(f"source {source}" for source in sources)])
 
 
-def _told(tick, start, zone):
+def _settings(tick, start, zone):
     at = f", time 0 is {start}" + (f" in {zone}" if zone else "") if start else ""
     return f"# a tick is {length_text(tick)}{at}"
 
 
-_TOLD = rf"# a tick is (\d+(?:{'|'.join(UNITS)}))(?:, time 0 is (\S+)(?: in (\S+))?)?"
+_SETTINGS = rf"# a tick is (\d+(?:{'|'.join(UNITS)}))(?:, time 0 is (\S+)(?: in (\S+))?)?"
 
 
-def told_in(text):
+def settings_in(text):
     """Returns what the first lines of a model say: the tick in microseconds, time 0 as an ISO 8601 text, and the zone; each None if missing."""
-    found = re.search(rf"^{_TOLD}\r?$", text, re.M)
+    found = re.search(rf"^{_SETTINGS}\r?$", text, re.M)
     return (tick_of(found[1]), found[2], found[3]) if found else (None, None, None)
 
 
-def with_told(text, tick, start, zone):
+def with_settings(text, tick, start, zone):
     """Returns a model's text with these settings in its first lines.
 
-    >>> with_told("model 1\\nsource door\\n", 1000000, None, None)
+    >>> with_settings("model 1\\nsource door\\n", 1000000, None, None)
     'model 1\\n# a tick is 1s\\nsource door\\n'
     """
-    return with_line(text, _TOLD, _told(tick, start, zone))
+    return with_line(text, _SETTINGS, _settings(tick, start, zone))
 
 
 def with_line(text, pattern, line):
@@ -150,7 +150,7 @@ class Calendar:
     def _named(self, day, values, by):
         """Returns the names of the hours of a day that begin at these moments (list). Unless `by` is "hour", two hours of the same name get their
         offsets from UTC."""
-        hours = [f"{self.place.wall(it) % DAY // HOUR:02}:00" for it in values]
+        hours = [f"{self.place.wall(value) % DAY // HOUR:02}:00" for value in values]
         if by == "hour":
             return hours
         return [f"{self.name(day)} {hour}" + (self.place.offset(it) if hours.count(hour) > 1 else "") for hour, it in zip(hours, values)]

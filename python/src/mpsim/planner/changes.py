@@ -48,16 +48,16 @@ def recoded(path, data):
         encoding, why = "utf-8", "not valid UTF-8, although the file has a UTF-8 byte order mark"
     try:
         return data.decode(encoding)
-    except UnicodeDecodeError as fault:
-        line = data.count(b"\n", 0, fault.start) + 1
-        raise ValueError(f"{path}: line {line}: the byte {data[fault.start]:02x} is {why}") from None
+    except UnicodeDecodeError as error:
+        line = data.count(b"\n", 0, error.start) + 1
+        raise ValueError(f"{path}: line {line}: the byte {data[error.start]:02x} is {why}") from None
 
 
 def _parted(text):
     """Returns the delimiter of a CSV text and the number of rows before its header. The delimiter is taken from a spreadsheet's `sep=;` line, or else
     from the character after the word record."""
-    if told := re.match(r"sep=([;\t,|])\r?\n", text):
-        return told[1], 1
+    if mark := re.match(r"sep=([;\t,|])\r?\n", text):
+        return mark[1], 1
     found = re.match(r'\s*("?) *record *\1 *([;\t,|])', text, re.IGNORECASE)
     return found[2] if found else ",", 0
 
@@ -76,8 +76,8 @@ def by_names(path, text, header):
                 if any(fields[len(names) :]) or len(fields) < len(names) and re.search(r"[\r\n]", fields[-1]):
                     raise ValueError(f"{where}: {counted(len(fields), 'field')}, but the header has {len(names)}")
                 yield _by_names(where, dict(zip(names, fields)), header, delimiter != ",")
-    except csv.Error as fault:
-        raise ValueError(f"{path}: row {number + 1}: {fault}") from None
+    except csv.Error as error:
+        raise ValueError(f"{path}: row {number + 1}: {error}") from None
     if names is None:
         raise ValueError(f"{path}: it is empty: {EXPECTED}")
 
@@ -110,9 +110,9 @@ def _judge_name(where, name, header):
 def _judged_names(where, fields, header):
     """Returns the column names (list of str) in the header of changes. Empty names at its end are dropped unless the trace has one; the case of names
     that aren't the trace's doesn't matter. Raises ValueError for an unknown or ambiguous name."""
-    words = [it for it in WORDS if it != "empty" or it not in header]
-    names = [it if it in header else it.strip() for it in fields]
-    names = [it.casefold() if it not in header and it.casefold() in words else it for it in names]
+    words = [word for word in WORDS if word != "empty" or word not in header]
+    names = [field if field in header else field.strip() for field in fields]
+    names = [name.casefold() if name not in header and name.casefold() in words else name for name in names]
     names[0] = names[0].casefold() if names[0].casefold() == "record" else names[0]
     while len(names) > 1 and not names[-1] and "" not in header:
         names.pop()

@@ -20,7 +20,7 @@ def line_of(name, codes):
     '# kind: 0 is "Störung", 1 is "Bestellung"'
     """
     # Braces would be filled in by a sweep.
-    words = {it: json.dumps(it, ensure_ascii=False).replace("{", "\\u007b").replace("}", "\\u007d") for it in codes}
+    words = {code: json.dumps(code, ensure_ascii=False).replace("{", "\\u007b").replace("}", "\\u007d") for code in codes}
     line = f"# {name}: " + ", ".join(f"{number} is {words[word]}" for word, number in codes.items())
     return line if len(line.encode(errors="surrogateescape")) <= BYTES else None
 

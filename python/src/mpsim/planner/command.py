@@ -90,15 +90,15 @@ def _ended_by_signals():
             signal.signal(number, how)
 
 
-def line_of(fault):
+def line_of(error):
     """Returns an error as one printable line."""
-    if isinstance(fault, Error):
-        text = str(fault).split("\n", 1)[0] + (f": {fault.source}" if fault.source else "")
-    elif isinstance(fault, OSError):
-        text = f"{fault.filename or 'standard output'}: {fault.strerror or fault}"
+    if isinstance(error, Error):
+        text = str(error).split("\n", 1)[0] + (f": {error.source}" if error.source else "")
+    elif isinstance(error, OSError):
+        text = f"{error.filename or 'standard output'}: {error.strerror or error}"
     else:
-        text = str(fault) or type(fault).__name__
-    return "".join(it if it.isprintable() else it.encode("unicode_escape", "surrogatepass").decode() for it in text)
+        text = str(error) or type(error).__name__
+    return "".join(item if item.isprintable() else item.encode("unicode_escape", "surrogatepass").decode() for item in text)
 
 
 def _let_go():
@@ -115,9 +115,9 @@ def ended(argv):
     if sys.stdout is None or sys.stderr is None:
         _open_outputs()
     try:
-        asked = _parser(argv[0] if argv else None).parse_args(argv)
+        args = _parser(argv[0] if argv else None).parse_args(argv)
         with _ended_by_signals(), fields_up_to():
-            status = asked.main(asked) or 0
+            status = args.main(args) or 0
             sys.stdout.flush()
             return status
     except BrokenPipeError:
@@ -125,9 +125,9 @@ def ended(argv):
         line, status = None, 128 + signal.SIGPIPE
     except KeyboardInterrupt:
         line, status = "stopped", 128 + signal.SIGINT
-    except (Error, ReportError, OSError, ValueError) as fault:
+    except (Error, ReportError, OSError, ValueError) as error:
         # An error of a program keeps the program's status.
-        line, status = line_of(fault), getattr(fault, "status", None)
+        line, status = line_of(error), getattr(error, "status", None)
     except OverflowError:
         # Dates are limited to the years 1 to 9999.
         line, status = "a time is before the year 1 or after the year 9999", None

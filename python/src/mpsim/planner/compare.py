@@ -31,17 +31,17 @@ def compare(reports, figure="p90", nodes=()):
     >>> compare(runs, "max", ["desk"])
     [('desk', [3, 2])]
     """
-    held = [with_pools(it) for it in reports]
-    names = list(dict.fromkeys(name for it in held for name in it))
+    held = [with_pools(report) for report in reports]
+    names = list(dict.fromkeys(name for item in held for name in item))
     if nodes:
         # The queue of a pool can be requested by its own name.
-        held = [{**{it.name: it for it in report.nodes}, **mine} for report, mine in zip(reports, held)]
-        every = list(dict.fromkeys(name for it in held for name in it))
+        held = [{**{node.name: node for node in report.nodes}, **mine} for report, mine in zip(reports, held)]
+        every = list(dict.fromkeys(name for item in held for name in item))
         for name in nodes:
             if name not in every:
                 raise ValueError(f"no report has a node {name!r}; they have {', '.join(names)}")
         names = [name for name in every if name in nodes]
-    return [(name, [it[name].figure(figure) if name in it else None for it in held]) for name in names]
+    return [(name, [item[name].figure(figure) if name in item else None for item in held]) for name in names]
 
 
 def _number(value):
@@ -73,38 +73,38 @@ def _aligned(labels, found):
 
 def _table(labels, found):
     """Yields the header and the rows of a CSV table."""
-    yield ["node", *labels, *(f"{it} less {labels[0]}" for it in labels[1:])]
+    yield ["node", *labels, *(f"{label} less {labels[0]}" for label in labels[1:])]
     for name, values in found:
-        yield [name, *values, *(_difference(it, values[0]) for it in values[1:])]
+        yield [name, *values, *(_difference(value, values[0]) for value in values[1:])]
 
 
 def _labelled(paths):
     """Yields pairs of a label and a report. A report is labelled with its path, the scenarios of a single sweep with their numbers. For a refused
     scenario the report is its Error."""
     for path in paths:
-        told = load(path)
-        if isinstance(told, Sweep):
-            for label, it in told.items():
+        loaded = load(path)
+        if isinstance(loaded, Sweep):
+            for label, it in loaded.items():
                 yield f"{path} {label}" if len(paths) > 1 else str(label), it.refusal if it.report is None else it.report
         else:
-            yield path, told
+            yield path, loaded
 
 
-def main(asked):
-    labelled = list(_labelled(asked.reports))
+def main(args):
+    labelled = list(_labelled(args.reports))
     refused = [(label, it) for label, it in labelled if isinstance(it, Error)]
     if len(refused) == len(labelled):
-        raise ValueError(f"{asked.reports[0]}: every scenario was refused")
+        raise ValueError(f"{args.reports[0]}: every scenario was refused")
     for label, it in refused:
         say(f"{label} is left out, because it was refused: {it.told}")
-    labels, reports = zip(*(it for it in labelled if it not in refused))
-    found = compare(reports, asked.figure, asked.node)
-    for line in pool_lines(reports, asked.node):
+    labels, reports = zip(*(item for item in labelled if item not in refused))
+    found = compare(reports, args.figure, args.node)
+    for line in pool_lines(reports, args.node):
         say(line)
-    if asked.figure in ("max", "p50", "p90", "p99") and any(pools(it) and it.visits is None for it in reports):
-        say(f"a pool's {asked.figure} needs job lines: run mpsim with --jobs")
+    if args.figure in ("max", "p50", "p90", "p99") and any(pools(report) and report.visits is None for report in reports):
+        say(f"a pool's {args.figure} needs job lines: run mpsim with --jobs")
     with written() as file:
-        if asked.csv:
+        if args.csv:
             csv.writer(file, lineterminator="\n").writerows(_table(labels, found))
         else:
             file.writelines(_aligned(labels, found))

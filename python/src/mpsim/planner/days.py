@@ -15,7 +15,7 @@ from .pooled import pool_lines, pools
 from .progress import Progress
 from .table import table
 from .times import DAY, clock
-from .traces import Trace, told_of
+from .traces import Trace, locating_errors
 
 EXAMPLE = "planner days model.txt trace.csv --open 8:00 >days.csv"
 
@@ -57,8 +57,8 @@ def cut(times, begins, names, opens=None, closes=None):
         if is_in:
             found[piece].append(at)
     zeros = [opens[piece] if opens else min((times[at] for at in records), default=0) for piece, records in enumerate(found)]
-    days = [Day(*it[:3], tuple(it[3])) for it in zip(names, zeros, begins[1:], found) if it[3]]
-    return days, len(times) - sum(len(it.records) for it in days)
+    days = [Day(*name[:3], tuple(name[3])) for name in zip(names, zeros, begins[1:], found) if name[3]]
+    return days, len(times) - sum(len(day.records) for day in days)
 
 
 def by_calendar(times, days, opens=None, closes=None):
@@ -75,7 +75,7 @@ def by_calendar(times, days, opens=None, closes=None):
     last = max(times, default=0)
     days_until(days, last)
     found = [day for day, _, _ in days.midnights(last)]
-    clocks = [_clock(it) if it else None for it in (opens, closes)]
+    clocks = [_clock(item) if item else None for item in (opens, closes)]
     if clocks[0] == DAY:
         raise ValueError(f"--open {opens}: a day ends then")
     if clocks[1] == 0:
@@ -85,16 +85,16 @@ def by_calendar(times, days, opens=None, closes=None):
         # These days begin when they open, the first of them on the day before.
         found, changes, clocks[1] = [found[0] - 1, *found] if found else [], clocks[0], clocks[1] + DAY
     tick_of = lambda day, clock: days.tick_at(days.place.first(day * DAY + clock))
-    begins = [tick_of(day, changes) for day in [*found, *(it + 1 for it in found[-1:])]]
-    hours = [None if it is None else [tick_of(day, it) for day in found] for it in clocks]
+    begins = [tick_of(day, changes) for day in [*found, *(item + 1 for item in found[-1:])]]
+    hours = [None if clock is None else [tick_of(day, clock) for day in found] for clock in clocks]
     return cut(times, begins, [days.name(day) for day in found], *hours)
 
 
 def _clock(text):
     try:
         return clock(text)
-    except ValueError as fault:
-        raise ValueError(f"{text!r}: {fault}") from None
+    except ValueError as error:
+        raise ValueError(f"{text!r}: {error}") from None
 
 
 def by_ticks(times, every):
@@ -105,25 +105,25 @@ def by_ticks(times, every):
     return [Day(f"{it}..{it + every - 1}", it, it + every, tuple(records)) for it, records in sorted(found.items())], 0
 
 
-def days(model, trace, pieces, tell=lambda done: None, path=None):
+def days(model, trace, pieces, progress=lambda done: None, path=None):
     """Returns a Sweep with a run of each piece (Day) of a trace (Trace), by the pieces' names, each in a network that is empty at its time 0; and the
     number of pieces (int) in which jobs are still present when the next begins.
 
     Agents and waits at a pool are recomputed for the records of the piece (`anew`). The model is any that `mpsim.run` accepts, and is read for each
     piece. If a run is refused because of the bound or of a node with too many visits, its scenario has that error. Any other error is raised, with
-    the path of the model if given. `tell` is called with the number of pieces done."""
+    the path of the model if given. `progress` is called with the number of pieces done."""
     times, sweep, over, known = trace.times(), Sweep(), 0, standing(model, trace)
     for done, it in enumerate(pieces):
-        tell(done)
+        progress(done)
         piece = Trace(trace.path, trace.header, [[trace.rows[at][0], times[at] - it.zero, *trace.rows[at][2:]] for at in it.records])
         try:
-            with told_of(trace, it.records, path):
+            with locating_errors(trace, it.records, path):
                 piece = anew(piece, known)
                 report = run(model, piece.lines(), jobs=bool(known))
                 # The percentiles of a pool need its visits.
                 report = run(model, piece.lines(), jobs=True) if not known and pools(report) else report
-        except (BoundError, VisitsError) as fault:
-            sweep[it.name] = Scenario(it.name, fault.status, None, fault)
+        except (BoundError, VisitsError) as error:
+            sweep[it.name] = Scenario(it.name, error.status, None, error)
             continue
         sweep[it.name] = Scenario(it.name, 0, report, None)
         # A job that leaves at exactly that time leaves before the next arrives.
@@ -131,21 +131,21 @@ def days(model, trace, pieces, tell=lambda done: None, path=None):
     return sweep, over
 
 
-def main(asked):
-    text, trace = text_of(asked.model), Trace.read(asked.trace)
-    if asked.every is not None and (asked.every < 1 or asked.open or asked.close):
-        raise ValueError(f"--every {asked.every}: expected a positive number of ticks, without --open and --close")
+def main(args):
+    text, trace = text_of(args.model), Trace.read(args.trace)
+    if args.every is not None and (args.every < 1 or args.open or args.close):
+        raise ValueError(f"--every {args.every}: expected a positive number of ticks, without --open and --close")
     times = trace.times()
-    pieces, left = by_ticks(times, asked.every) if asked.every else by_calendar(times, calendar.of(asked, text), asked.open, asked.close)
-    with Progress(len(pieces), "days") as tell:
-        sweep, over = days(text.encode(errors="surrogateescape"), trace, pieces, tell, asked.model)
+    pieces, left = by_ticks(times, args.every) if args.every else by_calendar(times, calendar.of(args, text), args.open, args.close)
+    with Progress(len(pieces), "days") as progress:
+        sweep, over = days(text.encode(errors="surrogateescape"), trace, pieces, progress, args.model)
     with written() as file:
-        csv.writer(file, lineterminator="\n").writerows(table(sweep, nodes=asked.node, head="day"))
-    for line in pool_lines(sweep.reports().values(), asked.node):
+        csv.writer(file, lineterminator="\n").writerows(table(sweep, nodes=args.node, head="day"))
+    for line in pool_lines(sweep.reports().values(), args.node):
         say(line)
     if left:
         say(f"{counted(left, 'record')} left out: before a day opens or after it closes" + ("" if pieces else "; no day is left"))
     if over:
-        when = f"in {over} of {len(pieces)} pieces" if asked.every else f"on {over} of {len(pieces)} days"
+        when = f"in {over} of {len(pieces)} pieces" if args.every else f"on {over} of {len(pieces)} days"
         say(f"{when} jobs are still in the network when the next begins; its run starts without them")
-    return 11 if any(it.status for it in sweep.values()) else 0
+    return 11 if any(item.status for item in sweep.values()) else 0

@@ -67,8 +67,8 @@ def _why_no_number(text, may_step):
 
 def _why_doubtful(whole, part):
     """Returns why digits (str) before and after a mark could mean two numbers, and how to write each unambiguously."""
-    told = f"{whole}.{part}".rstrip("0").rstrip(".")
-    return f"could mean {told} or {whole}{part}: write *{told}{'0' * (part[-1] != '0')} or *{whole}{part}"
+    fraction = f"{whole}.{part}".rstrip("0").rstrip(".")
+    return f"could mean {fraction} or {whole}{part}: write *{fraction}{'0' * (part[-1] != '0')} or *{whole}{part}"
 
 
 def stepped(old, sign, by):
@@ -86,15 +86,15 @@ class Edited:
     """The trace in a file (a path), to which changes are applied one after another.
 
     `trace` (Trace) is the original, `rows` (list of lists of str) the current state. Records keep their numbers, from 1. `changed` (set of int) holds
-    the file's changed records, `out` (dict) the removed ones with the row that removed them, `told` (list of str) what to report. With a model (a
+    the file's changed records, `out` (dict) the removed ones with the row that removed them, `notes` (list of str) what to report. With a model (a
     path), values are checked against its sources and columns. Raises what `Trace.read` and `mpsim.run` do, and ValueError if the trace lacks a column
     of the model."""
 
     def __init__(self, path, model=None):
         self._texts = []
         self.trace = Trace.read(path, self._texts)
-        self.rows, self.changed, self.out, self.told = list(self.trace.rows), set(), {}, []
-        self.model, text = model, judged_text(model, self.told.append) if model else ""
+        self.rows, self.changed, self.out, self.notes = list(self.trace.rows), set(), {}, []
+        self.model, text = model, judged_text(model, self.notes.append) if model else ""
         self.columns, self._braces, header = columns(text), in_braces(text), self.trace.header
         for name in self.columns:
             if name not in header[2:]:
@@ -104,7 +104,7 @@ class Edited:
         self._sources = set(sources(text) if model else self.trace.sources())
         self._limits = {**dict.fromkeys(self.places, GREATEST_VALUE), 0: None, 1: GREATEST_TIME}
         # The text columns already reported, and the columns that have changes.
-        self._is_told, self._changed_places = set(), set()
+        self._is_noted, self._changed_places = set(), set()
 
     def make(self, change):
         """Applies a change. Raises ValueError with its row, the text and the reason if it isn't allowed."""
@@ -150,7 +150,7 @@ class Edited:
         """Applies one text of a change to a column of `rows`, the first of which has the number `first`."""
         step, limit = None if change.is_edit else STEP.fullmatch(text), self._limit(place)
         if step and limit is None and place:
-            self._tell_text(change, first, rows, place, text)
+            self._note_text(change, first, rows, place, text)
         if not step or limit is None or "," in text and not change.has_commas:
             text = self._judged(change, first, place, text)
             for row in rows:
@@ -169,15 +169,15 @@ class Edited:
                 raise self._refusal(change, number, place, text, why)
             row[place] = str(made)
 
-    def _tell_text(self, change, first, rows, place, text):
+    def _note_text(self, change, first, rows, place, text):
         """Reports, once per column, that a value is stored as text where it could have computed a number from another."""
-        if place in self._is_told:
+        if place in self._is_noted:
             return
         number = next((number for number, row in enumerate(rows, first) if row[place].isdigit()), None)
         if number is not None:
-            self._is_told.add(place)
+            self._is_noted.add(place)
             where = f'{change.where}: "{self.trace.header[place]}" of record {number}'
-            self.told.append(f'{where}: "{text}" is stored as text, because {self._why_text(place)}')
+            self.notes.append(f'{where}: "{text}" is stored as text, because {self._why_text(place)}')
 
     def _why_text(self, place):
         """Returns why a column is text (str)."""
@@ -221,7 +221,7 @@ class Edited:
 
     def lines(self):
         """Yields the header and the records (str): unchanged ones as in the file, others with their old end of line or the header's."""
-        kept = [it for it in range(len(self.rows) + 1) if it not in self.out]
+        kept = [number for number in range(len(self.rows) + 1) if number not in self.out]
         end = _end(self._texts[0]) or "\n"
         for number, behind in zip(kept, [*kept[1:], None]):
             text = self._text(number, end, is_last=behind is None)
@@ -257,7 +257,7 @@ class Edited:
 
     def counts(self):
         """Returns the number of records, and of those changed, added and removed (str)."""
-        before, now, out = len(self.trace.rows), len(self.rows) - len(self.out), sum(it < len(self._texts) for it in self.out)
+        before, now, out = len(self.trace.rows), len(self.rows) - len(self.out), sum(item < len(self._texts) for item in self.out)
         return f"{counted(now, 'record')} (from {before:,}): {len(self.changed):,} changed, {now - before + out:,} added, {out:,} removed"
 
 
@@ -282,7 +282,7 @@ def edited(path, changes, model=None):
     if text.split(None, 1)[:1] not in ([], ["set"], ["add"]):
         if not is_utf8(text) and made.is_utf8():
             text = recoded(changes, data)
-            made.told.append(f"{changes} is read as Windows-1252")
+            made.notes.append(f"{changes} is read as Windows-1252")
         found = by_names(changes, text, made.trace.header)
     elif model is None:
         why = "these are edits for mpedit: give --model for the order of their values" if text.strip() else f"it is empty: {EXPECTED}"
@@ -297,20 +297,20 @@ def edited(path, changes, model=None):
     return made
 
 
-def main(asked):
-    if asked.edits and not asked.model:
+def main(args):
+    if args.edits and not args.model:
         raise ValueError("--edits requires --model, which has the order of their values")
-    judge_outputs([asked.out, asked.edits], {"trace": [asked.trace], "file of changes": [asked.changes], "model": [asked.model]})
-    with uncollected(), all_written(asked.edits, asked.out) as (edits, out):
-        made = edited(asked.trace, asked.changes, asked.model)
+    judge_outputs([args.out, args.edits], {"trace": [args.trace], "file of changes": [args.changes], "model": [args.model]})
+    with uncollected(), all_written(args.edits, args.out) as (edits, out):
+        made = edited(args.trace, args.changes, args.model)
         if edits:
             edits.writelines(made.edits())
         with contextlib.nullcontext(out) if out else written() as file:
             file.writelines(made.lines())
-    if warning := pool_warning(asked.trace, made.trace.header):
+    if warning := pool_warning(args.trace, made.trace.header):
         say(warning)
-    for line in made.told:
+    for line in made.notes:
         say(line)
-    if asked.edits and (names := made.unnamed()):
-        say(f"{asked.edits} leaves out the changes of {', '.join(names)}, which {asked.model} doesn't name")
+    if args.edits and (names := made.unnamed()):
+        say(f"{args.edits} leaves out the changes of {', '.join(names)}, which {args.model} doesn't name")
     say(made.counts())

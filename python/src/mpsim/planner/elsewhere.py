@@ -13,7 +13,7 @@ def command(folder):
     """Returns the command line that runs a shard, without its number. It works on every machine that has the directory, the package and the programs
     at the same paths."""
     package = os.path.dirname(os.path.dirname(HERE))
-    settings = [f"PYTHONPATH={package}", *(f"{it}={os.path.abspath(os.environ[it])}" for it in ("MPSIM_PROGRAMS",) if it in os.environ)]
+    settings = [f"PYTHONPATH={package}", *(f"{item}={os.path.abspath(os.environ[item])}" for item in ("MPSIM_PROGRAMS",) if item in os.environ)]
     return ["env", *settings, sys.executable, "-m", "mpsim.planner", "sweep", "--folder", os.path.abspath(folder.path), "--shard"]
 
 
@@ -35,7 +35,7 @@ def _run(words, what, given=None):
 def by_parallel(folder, shards, options=()):
     """Runs shards with GNU parallel. Its options may name machines (--sshlogin a,b) and the number of jobs at a time (--jobs 4)."""
     # It gets whole command lines, in which it replaces nothing.
-    lines = "".join(f"{shlex.join([*command(folder), str(it)])}\n" for it in shards)
+    lines = "".join(f"{shlex.join([*command(folder), str(shard)])}\n" for shard in shards)
     _run(["parallel", "--no-notice", "--halt", "never", *options], "--parallel requires GNU parallel", lines)
 
 
@@ -60,17 +60,17 @@ exit $status
 def _most_tasks():
     """Returns the greatest number of tasks in an array of this Slurm."""
     try:
-        told = subprocess.run(["scontrol", "show", "config"], stdout=subprocess.PIPE, stderr=subprocess.DEVNULL, text=True, check=False).stdout
+        config = subprocess.run(["scontrol", "show", "config"], stdout=subprocess.PIPE, stderr=subprocess.DEVNULL, text=True, check=False).stdout
     except FileNotFoundError:
-        told = ""
-    found = re.search(r"^MaxArraySize\s*= (\d+)", told, flags=re.MULTILINE)
+        config = ""
+    found = re.search(r"^MaxArraySize\s*= (\d+)", config, flags=re.MULTILINE)
     return max(int(found[1]) - 1, 1) if found else 1000
 
 
 def by_slurm(folder, shards, options=()):
     """Runs shards as a Slurm array and waits for its end. The output of the tasks goes to `slurm.out` in the directory."""
     script, tasks = array(folder, shards, _most_tasks())
-    path, out = (os.path.join(os.path.abspath(folder.path), it) for it in ("array.sh", "slurm.out"))
+    path, out = (os.path.join(os.path.abspath(folder.path), item) for item in ("array.sh", "slurm.out"))
     with open(path, "w", encoding="utf-8", errors="surrogateescape") as file:
         file.write(script)
     # A single percent sign would begin a Slurm pattern.

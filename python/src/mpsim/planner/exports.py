@@ -27,11 +27,11 @@ def found_encoding(data):
         raise ValueError("it has NUL bytes: is it UTF-16 without a byte order mark? Give --encoding, e.g. utf-16-le")
     try:
         data.decode("utf-8")
-    except UnicodeDecodeError as fault:
+    except UnicodeDecodeError as error:
         if data.startswith(codecs.BOM_UTF8):
-            raise _undecoded(data, "UTF-8, although the file has a UTF-8 byte order mark", fault) from None
-        line = data.count(b"\n", 0, fault.start) + 1
-        what = f"line {line} has the byte {data[fault.start]:02x}, which isn't UTF-8"
+            raise _undecoded(data, "UTF-8, although the file has a UTF-8 byte order mark", error) from None
+        line = data.count(b"\n", 0, error.start) + 1
+        what = f"line {line} has the byte {data[error.start]:02x}, which isn't UTF-8"
         try:
             data.decode("cp1252")
         except UnicodeDecodeError as other:
@@ -40,9 +40,9 @@ def found_encoding(data):
     return "utf-8-sig", "the encoding is UTF-8 with a byte order mark" if data.startswith(codecs.BOM_UTF8) else None
 
 
-def _undecoded(data, encoding, fault):
-    line = data.count(b"\n", 0, fault.start) + 1
-    return ValueError(f"line {line}: the byte {data[fault.start]:02x} isn't valid {encoding} (--encoding)")
+def _undecoded(data, encoding, error):
+    line = data.count(b"\n", 0, error.start) + 1
+    return ValueError(f"line {line}: the byte {data[error.start]:02x} isn't valid {encoding} (--encoding)")
 
 
 def _given_encoding(data, name):
@@ -53,8 +53,8 @@ def _given_encoding(data, name):
         data.decode(name)
     except (LookupError, TypeError):
         raise ValueError(f"unknown encoding {name!r} (--encoding)") from None
-    except UnicodeDecodeError as fault:
-        raise _undecoded(data, name, fault) from None
+    except UnicodeDecodeError as error:
+        raise _undecoded(data, name, error) from None
     marks = {"utf-8": codecs.BOM_UTF8, "utf-16-le": codecs.BOM_UTF16_LE, "utf-16-be": codecs.BOM_UTF16_BE}
     if data.startswith(marks.get(name, b"\n")):
         return "utf-8-sig" if name == "utf-8" else "utf-16"
@@ -84,18 +84,18 @@ def found_delimiter(lines):
 
 
 class Export:
-    """An export: its `header` (list of str), its `rows()`, a `sample` of them, and `told`, the notes on what was detected (lists of str).
+    """An export: its `header` (list of str), its `rows()`, a `sample` of them, and `notes`, the notes on what was detected (lists of str).
 
     `data` is the bytes of the file; arguments that aren't given are detected. `header` (str) lists the column names, separated by commas, if the
     export has none. Raises ValueError if the export is empty or needs another option."""
 
     def __init__(self, data, encoding=None, delimiter=None, skip=0, header=None):
-        self.told, self._data, self._skip, self._has_header = [], data, skip, header is None
+        self.notes, self._data, self._skip, self._has_header = [], data, skip, header is None
         if encoding:
             self._encoding = _given_encoding(data, encoding)
         else:
             self._encoding, says = found_encoding(data)
-            self.told += [says] if says else []
+            self.notes += [says] if says else []
         first = next(self._lines(), "")
         if found := re.fullmatch(r"sep=(.)\r?\n?", first):
             # A spreadsheet's own line that names its delimiter.
@@ -105,7 +105,7 @@ class Export:
             raise ValueError(f"{delimiter!r} isn't a delimiter, which is one character (--delimiter)")
         self.header = self._header(skip)
         if header is not None:
-            self.header = [it.strip() for it in header.split(",")]
+            self.header = [part.strip() for part in header.split(",")]
         self.sample = self._sample()
 
     def _lines(self, skip=None):
@@ -115,24 +115,24 @@ class Export:
 
     def _found_delimiter(self):
         found = found_delimiter(list(itertools.islice(self._lines(), 200)))
-        self.told.append(f"the delimiter is {found!r}")
+        self.notes.append(f"the delimiter is {found!r}")
         return found
 
     def _header(self, skip):
         try:
             header = next(self._reader(self._lines()), [])
-        except csv.Error as fault:
-            raise ValueError(f"row {self._skip + 1}: {fault}: is a closing quote missing?") from None
-        if not any(it.strip() for it in header):
+        except csv.Error as error:
+            raise ValueError(f"row {self._skip + 1}: {error}: is a closing quote missing?") from None
+        if not any(item.strip() for item in header):
             raise ValueError(self._no_header(skip))
-        return [it.strip() for it in header]
+        return [item.strip() for item in header]
 
     def _no_header(self, skip):
         """Returns why there is no header."""
-        if any(it.strip() for it in self._lines()):
+        if any(line.strip() for line in self._lines()):
             return "it begins with an empty line: give the number of lines before its header with --skip"
         lines = list(self._lines(0))
-        is_empty = skip == 0 or not any(it.strip() for it in lines)
+        is_empty = skip == 0 or not any(line.strip() for line in lines)
         return "the file is empty" if is_empty else f"--skip {skip}: the file has {counted(len(lines), 'line')}, so no header is left"
 
     def _reader(self, lines):
@@ -161,7 +161,7 @@ class Export:
             with contextlib.suppress(csv.Error):
                 for row in part:
                     rows.append(row)
-        return [it for it in rows if len(it) >= len(self.header)]
+        return [row for row in rows if len(row) >= len(self.header)]
 
     def column(self, name):
         """Returns the index of a column by its name. Raises ValueError unless exactly one column has it."""
@@ -171,7 +171,7 @@ class Export:
             raise ValueError(f"no column {name!r}; it has {', '.join(map(repr, self.header))}")
         return self.header.index(name)
 
-    def asked(self, word, has_unit=False):
+    def parse(self, word, has_unit=False):
         """Splits COLUMN[=NAME][:UNIT] into the column's index, its name in the trace or None, and the unit or None. A column's name may contain these
         characters too. Raises ValueError as `column` does."""
         for column in sorted(self.header, key=len, reverse=True):

@@ -27,9 +27,9 @@ def _named(path):
         yield
     except BrokenPipeError:
         raise
-    except OSError as fault:
-        if fault.filename is None:
-            fault.filename = str(path)
+    except OSError as error:
+        if error.filename is None:
+            error.filename = str(path)
         raise
 
 
@@ -121,8 +121,8 @@ def _begun(part, path):
     """Opens a new file with the permissions of the file that it will replace."""
     try:
         handle = os.open(part, os.O_WRONLY | os.O_CREAT | os.O_EXCL, 0o666)
-    except OSError as fault:
-        fault.filename = path
+    except OSError as error:
+        error.filename = path
         raise
     with contextlib.suppress(OSError):
         os.fchmod(handle, stat.S_IMODE(os.stat(path).st_mode))

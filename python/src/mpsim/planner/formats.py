@@ -39,7 +39,7 @@ _DATES = {
 
 def _matches(pattern, texts):
     """Returns the matches of a pattern if at least nine in ten texts match, else an empty list."""
-    found = [it for it in map(re.compile(pattern, re.ASCII).fullmatch, texts) if it]
+    found = [text for text in map(re.compile(pattern, re.ASCII).fullmatch, texts) if text]
     return found if 10 * len(found) >= 9 * len(texts) else []
 
 
@@ -49,7 +49,7 @@ def found_format(texts):
     >>> found_format(["02.03.2026 08:00:17", "02.03.2026 08:00:05"])
     '%d.%m.%Y %H:%M:%S'
     """
-    texts = [it.strip() for it in texts if it.strip()]
+    texts = [text.strip() for text in texts if text.strip()]
     if not texts:
         raise ValueError("there is no time from which to detect the format")
     some = texts[:1000]
@@ -65,7 +65,7 @@ def found_format(texts):
         if _matches(pattern, some):
             return _found_date(texts, mark, rest, clock)
     for pattern in (*_PACKED, *_PLAIN.values(), *_DATES):
-        are = [bool(re.fullmatch(pattern, it, re.ASCII)) for it in some]
+        are = [bool(re.fullmatch(pattern, item, re.ASCII)) for item in some]
         if 2 * sum(are) > len(are):
             odd, like = some[are.index(False)], some[are.index(True)]
             raise ValueError(f"{odd!r} isn't written like {like!r}; if you give a format, such rows are left out")
@@ -80,7 +80,7 @@ def _found_date(texts, mark, rest, clock):
     if not (found := _matches(two + four + rest, texts)):
         raise ValueError(f"{texts[0]!r} has a two-digit year: the format may be {f'%d{mark}%m{mark}%y{clock}'!r}")
     day, month = f"%d{mark}%m{mark}%Y{clock}", f"%m{mark}%d{mark}%Y{clock}"
-    first, second = max(int(it[1]) for it in found), max(int(it[2]) for it in found)
+    first, second = max(int(item[1]) for item in found), max(int(item[2]) for item in found)
     if second <= 12 and (first > 12 or mark == "."):
         return day
     if first <= 12 < second:
@@ -100,8 +100,8 @@ def judged_format(form):
     try:
         text = datetime(2026, 3, 2, 13, 5, 9, tzinfo=timezone.utc).strftime(form)
         datetime.strptime(text, form)
-    except ValueError as fault:
-        raise ValueError(f"{form!r} isn't a valid strptime format: {fault}") from None
+    except ValueError as error:
+        raise ValueError(f"{form!r} isn't a valid strptime format: {error}") from None
     return form
 
 
@@ -119,15 +119,15 @@ def looks_like_clocks(values):
     values = list(values)
     if not values:
         return None
-    if all(re.fullmatch(rf"{_DATE}{_HOUR}(?:[0-5]\d)?", str(it)) for it in values):
+    if all(re.fullmatch(rf"{_DATE}{_HOUR}(?:[0-5]\d)?", str(value)) for value in values):
         return f"dates with a time, such as {values[0]}"
     for least, greatest, what in (10**9, 4 * 10**9, "seconds"), (10**12, 4 * 10**12, "milliseconds"):
-        if all(least <= it < greatest for it in values):
+        if all(least <= value < greatest for value in values):
             return f"{what} since 1970, such as {values[0]}"
     # Twenty random numbers hardly ever all end in at most 59.
-    if len(values) >= 20 and len({it % 100 for it in values}) > 5 and all(it % 100 < 60 for it in values):
+    if len(values) >= 20 and len({value % 100 for value in values}) > 5 and all(value % 100 < 60 for value in values):
         if 99 < max(values) < 2400:
             return f"times of day, such as {max(values)}"
-        if 59999 < max(values) < 240000 and all(it // 100 % 100 < 60 for it in values):
+        if 59999 < max(values) < 240000 and all(value // 100 % 100 < 60 for value in values):
             return f"times of day with seconds, such as {max(values)}"
     return None

@@ -60,13 +60,13 @@ def days_until(days, last):
     return count
 
 
-def main(asked):
-    report = reports.report_of(asked)
-    found = reports.visits_of(report, asked)
+def main(args):
+    report = reports.report_of(args)
+    found = reports.visits_of(report, args)
     if len(found) != 1:
         raise ValueError("hours takes one node or one pool: give --node NAME or --pool NAME")
-    told = asked.report if asked.trace is not None else asked.model
-    days = calendar.of(asked, text_of(told) if told else None)
-    rows = list(hours(found[0], days, asked.by, asked.within or (20,), asked.percentile or PERCENTS))
+    path = args.report if args.trace is not None else args.model
+    days = calendar.of(args, text_of(path) if path else None)
+    rows = list(hours(found[0], days, args.by, args.within or (20,), args.percentile or PERCENTS))
     with written() as file:
         csv.writer(file, lineterminator="\n").writerows(rows)

@@ -11,7 +11,7 @@ from .files import text_of
 
 def lines_of(text):
     """Returns the lines (list of str) of a model that aren't comments."""
-    return [it for it in text.removeprefix("\ufeff").split("\n") if not it.lstrip(" \t").startswith("#")]
+    return [part for part in text.removeprefix("\ufeff").split("\n") if not part.lstrip(" \t").startswith("#")]
 
 
 def in_braces(text):
@@ -20,19 +20,19 @@ def in_braces(text):
     return re.search(r"\{([A-Za-z_]\w*)[^{}]*\}", "\n".join(lines_of(text)), re.ASCII)
 
 
-def judged_text(path, tell):
+def judged_text(path, warn):
     """Returns the text (str) of a model that mpsim has checked by running it without records. If the program is missing or the model has names in
-    braces, it isn't checked, and `tell` is called with a warning. Raises what `text_of` does, and what `mpsim.run` does, with the path."""
+    braces, it isn't checked, and `warn` is called with that. Raises what `text_of` does, and what `mpsim.run` does, with the path."""
     text = text_of(path)
     if found := in_braces(text):
-        tell(f"warning: {path} isn't checked: {found[0]} gets its values from planner sweep --set")
+        warn(f"warning: {path} isn't checked: {found[0]} gets its values from planner sweep --set")
         return text
     try:
         programs.find("mpsim")
         run(text.encode(errors="surrogateescape"), [])
-    except ProgramError as fault:
-        tell(f"warning: {path} isn't checked: {fault.why}")
-    except Error as fault:
-        fault.file = os.fsdecode(path)
+    except ProgramError as error:
+        warn(f"warning: {path} isn't checked: {error.why}")
+    except Error as error:
+        error.file = os.fsdecode(path)
         raise
     return text

@@ -14,7 +14,7 @@ _PLAIN_CLOCKS = "%H:%M", "%H:%M:%S", "%H:%M:%S.%f", "%I:%M %p", "%I:%M:%S %p"
 
 def _width_of(form):
     """Returns the number of digits of a purely numeric format such as %H%M, None for another. strptime accepts fewer: it would read 135 as 13:05."""
-    return sum({"Y": 4, "j": 3}.get(it, 2) for it in form[1::2]) if re.fullmatch("(?:%[YyjmdHIMS]){2,}", form) else None
+    return sum({"Y": 4, "j": 3}.get(item, 2) for item in form[1::2]) if re.fullmatch("(?:%[YyjmdHIMS]){2,}", form) else None
 
 
 def _read_as(form):
@@ -45,8 +45,8 @@ def _half_day(text):
 
 
 def _clock_as(form):
-    as_told = _read_as(form)
-    read = (_half_day if "%p" in form else clock) if form in _PLAIN_CLOCKS else lambda text: micros(as_told(text)) - _MIDNIGHT
+    as_given = _read_as(form)
+    read = (_half_day if "%p" in form else clock) if form in _PLAIN_CLOCKS else lambda text: micros(as_given(text)) - _MIDNIGHT
     return lambda text: (read(text), None)
 
 
@@ -76,7 +76,7 @@ def _parts_of(form):
     if form == "%Y%m%d%H%M%S":
         return _packed_parts, _day_as("%Y%m%d"), _clock_as("%H%M%S")
     day, _, rest = form.partition(" ")
-    if not rest or is_of_day(day) or not is_of_day(rest) or any(it in form for it in ("%z", "%Z")) or re.search("%[HIMSfp]", day):
+    if not rest or is_of_day(day) or not is_of_day(rest) or any(item in form for item in ("%z", "%Z")) or re.search("%[HIMSfp]", day):
         return None
     return methodcaller("split", None, 1), _day_as(day), _clock_as(rest)
 
@@ -192,12 +192,12 @@ class Moments:
         return since - (offset or 0)
 
     def _of_whole(self, text, than=None):
-        told = _read_as(self.form)(_there(text))
-        if told.tzinfo is not None:
+        found = _read_as(self.form)(_there(text))
+        if found.tzinfo is not None:
             self.has_offsets = True
-            return at_utc(told)
+            return at_utc(found)
         self.has_none = True
-        return self.zone.utc(micros(told), self._seen, than)
+        return self.zone.utc(micros(found), self._seen, than)
 
     def _date(self, text):
         """Returns the wall-clock midnight of a date."""
@@ -208,7 +208,7 @@ class Moments:
             raise Asks(f"the format {self.form} has no day: give another --date-format")
         elif self._parts:
             day, *rest = self._parts[0](text)
-            value = self._parts[1](day) + sum(self._parts[2](it)[0] for it in rest)
+            value = self._parts[1](day) + sum(self._parts[2](item)[0] for item in rest)
         else:
             value = micros(_read_as(self.form)(text).replace(tzinfo=None))
         if value % DAY:

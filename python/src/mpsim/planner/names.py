@@ -20,7 +20,7 @@ def name_for(text, taken=()):
     >>> name_for("Verkauf & Büro"), name_for("24h"), name_for("Büro", ["buro"])
     ('verkauf_and_buro', 'x_24h', 'buro_2')
     """
-    plain = unicodedata.normalize("NFKD", "".join(_LETTERS.get(it, it) for it in text.lower())).encode("ascii", "ignore").decode()
+    plain = unicodedata.normalize("NFKD", "".join(_LETTERS.get(item, item) for item in text.lower())).encode("ascii", "ignore").decode()
     name = re.sub(r"[^a-z0-9]+", "_", plain).strip("_") or "x"
     if not name[0].isalpha() or name in TAKEN:
         name = "x_" + name

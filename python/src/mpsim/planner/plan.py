@@ -19,14 +19,14 @@ LISTED = 20
 
 
 class Plan:
-    """How to read the columns of an Export, in a Zone, with a tick (int, microseconds). `told` and `warned` (lists of str) are notes on what was
+    """How to read the columns of an Export, in a Zone, with a tick (int, microseconds). `notes` and `warned` (lists of str) are notes on what was
     detected. The texts are options of `planner prepare`; `model` is a model's text or None. Raises ValueError for an invalid option, and if another
     is needed."""
 
     def __init__(self, export, place, per, format, decimal, model):
         self.export, self.place, self.per, self.decimal, self.model = export, place, per, decimal, model
         self.format = judged_format(format) if format else None
-        self.told, self.warned, self.columns = list(export.told), [], []
+        self.notes, self.warned, self.columns = list(export.notes), [], []
 
     def _texts(self, column):
         return [row[column] for row in self.export.sample]
@@ -36,15 +36,15 @@ class Plan:
         if form is None:
             try:
                 form = found_format(self._texts(column))
-            except ValueError as fault:
-                raise ValueError(f"column {name!r}: {fault} ({option})") from None
-            self.told.append(f"column {name!r} is read as {form}")
+            except ValueError as error:
+                raise ValueError(f"column {name!r}: {error} ({option})") from None
+            self.notes.append(f"column {name!r} is read as {form}")
         return Moments(form, self.place)
 
     def _more_times(self, name):
         """Returns another column of times. It uses the given format if its texts have it."""
         column = self.export.column(name)
-        texts = [it for it in self._texts(column) if it.strip()][:100]
+        texts = [text for text in self._texts(column) if text.strip()][:100]
         form = self.format if self.format and 10 * sum(map(Moments(self.format, Zone()).is_one, texts)) >= 9 * len(texts) else None
         how = self._moments(column, form)
         if self.time.how.is_of_day and how.form == "excel":
@@ -86,12 +86,12 @@ class Plan:
 
     def readers(self):
         """Returns all columns of times."""
-        ends = [it.times for it in self.columns if isinstance(it, End)]
+        ends = [column.times for column in self.columns if isinstance(column, End)]
         return [self.time, *self.answered, *ends]
 
     def _named(self, name, column=None):
         """Returns the name of a column of the trace, by default made from its name in the export."""
-        taken = [it.name for it in self.columns]
+        taken = [column.name for column in self.columns]
         made = name or name_for(self.export.header[column], taken)
         if not is_name(made) or made in taken:
             why = "is already taken" if made in taken else "is reserved"
@@ -99,7 +99,7 @@ class Plan:
                 why = "is invalid: use a lower-case letter, then lower-case letters, digits and underscores, at most 32"
             raise ValueError(f"the column's name {made!r} {why}")
         if not name and made != self.export.header[column]:
-            self.told.append(f"column {self.export.header[column]!r} is called {made}")
+            self.notes.append(f"column {self.export.header[column]!r} is called {made}")
         return made
 
     def _ticks(self, option, text):
@@ -113,15 +113,15 @@ class Plan:
         empty = None if empty is None else self._ticks("--empty", empty)
         for word in demand:
             self._demand(word, empty)
-        for it in self.columns:
-            if isinstance(it, Sum):
-                self.told.append(f"{it.name} is the sum of {' and '.join(repr(self.export.header[part.column]) for part in it.parts)}")
+        for item in self.columns:
+            if isinstance(item, Sum):
+                self.notes.append(f"{item.name} is the sum of {' and '.join(repr(self.export.header[part.column]) for part in item.parts)}")
         if self.answered and not end:
             raise ValueError("--answered requires --end")
         if len(self.answered) not in (0, 1, len(end)):
             raise ValueError(f"--answered is given {len(self.answered)} times for {len(end)} of --end: give it once, or once per --end")
         for number, word in enumerate(end, 1):
-            column, name, _ = self.export.asked(word)
+            column, name, _ = self.export.parse(word)
             times = self._more_times(self.export.header[column])
             begin = min(number, len(self.answered))
             self.columns.append(End(self._named(name, column), times, 1 if self.is_ticks else self.per, empty, begin))
@@ -132,33 +132,33 @@ class Plan:
             self.columns.append(Constant(self._named(name), self._ticks(f"--constant {name}", value)))
         known = codes_in(self.model or "")
         for word in code:
-            column, name, _ = self.export.asked(word)
+            column, name, _ = self.export.parse(word)
             name = self._named(name, column)
             self.columns.append(Code(name, column, known.get(name)))
         if len(self.columns) > COLUMNS:
             raise ValueError(f"{len(self.columns)} columns; the limit of a trace is {COLUMNS}")
-        lacking = [it for it in columns(self.model or "") if it not in [column.name for column in self.columns]]
+        lacking = [item for item in columns(self.model or "") if item not in [column.name for column in self.columns]]
         if lacking:
             raise ValueError(f"the model names {', '.join(lacking)}, which no --demand, --end, --constant or --code provides")
 
     def _demand(self, word, empty):
         """Adds a column of service times, or adds it to a column of the same name."""
-        column, name, unit = self.export.asked(word, has_unit=True)
+        column, name, unit = self.export.parse(word, has_unit=True)
         how = Lengths(unit or "s", self._mark(column), self.per)
         at = next((at for at, it in enumerate(self.columns) if it.name == name), None)
         if at is None:
             self.columns.append(Demand(self._named(name, column), column, how, empty))
             return
         parts = [*getattr(self.columns[at], "parts", [self.columns[at]]), Demand(name, column, how, empty)]
-        if column in [it.column for it in parts[:-1]]:
+        if column in [part.column for part in parts[:-1]]:
             raise ValueError(f"--demand {word}: the column {self.export.header[column]!r} is already part of {name}")
         self.columns[at] = Sum(parts)
 
     def _mark(self, column):
         try:
             return self.decimal or found_decimal(set(self._texts(column)))
-        except ValueError as fault:
-            raise ValueError(f"column {self.export.header[column]!r}: {fault} (--decimal)") from None
+        except ValueError as error:
+            raise ValueError(f"column {self.export.header[column]!r}: {error} (--decimal)") from None
 
     def sources(self, source, rename):
         """Sets the sources, which completes the plan."""
@@ -175,7 +175,7 @@ class Plan:
         elif known is not None and only not in known:
             raise ValueError(f"the model has no source {only} (--source)")
         elif source:
-            self.told.append(f"all records get the source {source}")
+            self.notes.append(f"all records get the source {source}")
             if like := get_close_matches(source, header, 1, 0.8):
                 self.warned.append(f"no column is called {source!r}, but one is called {like[0]!r} (--source)")
         if renamed and column is None:
@@ -192,7 +192,7 @@ class Plan:
         lacking = [old for old in self.records.renamed if old not in found]
         if len(lacking) < len(self.records.renamed):
             return [f"no source {old!r} for --rename" for old in lacking]
-        listed = [repr(it) for it in found if it]
+        listed = [repr(item) for item in found if item]
         more = f" and {len(listed) - LISTED} more" if listed[LISTED:] else ""
         raise ValueError(f"no source {lacking[0]!r} for --rename; it has {', '.join(listed[:LISTED]) or 'none'}{more}")
 

@@ -21,7 +21,7 @@ from .lengths import GREATEST_VALUE
 from .pooled import INPUTS, agent_name, end_names, pooled, queue_name
 from .progress import Progress
 from .service import PERCENTS, figure_words, figures, heads
-from .traces import Trace, told_of
+from .traces import Trace, locating_errors
 
 EXAMPLE = """planner pool model.txt trace.csv --node desk --agents 8..15 --within 20
          planner pool model.txt trace.csv --node desk --agents 12 --out pooled.csv --out-model pooled.txt
@@ -56,7 +56,7 @@ def pool(arrivals, demands, agents):
     if agents < 1:
         raise ValueError(f"a pool has one agent or more, not {agents}")
     who, waits = array("i", bytes(4 * len(arrivals))), array("q", bytes(8 * len(arrivals)))
-    free = [(0, it) for it in range(1, agents + 1)]
+    free = [(0, number) for number in range(1, agents + 1)]
     for at in sorted(range(len(arrivals)), key=arrivals.__getitem__):
         begin = arrivals[at]
         moment, who[at] = free[0]
@@ -83,28 +83,28 @@ class Queue:
         self.path = model if isinstance(model, os.PathLike) or isinstance(model, str) and "\n" not in model else None
         report = self._with_one()
         self.nodes = nodes_of(self.text)
-        found = [it for it in self.nodes if it.name == node]
+        found = [item for item in self.nodes if item.name == node]
         if not found or found[0].kind != "server":
-            servers = ", ".join(it.name for it in self.nodes if it.kind == "server") or "none"
+            servers = ", ".join(node.name for node in self.nodes if node.kind == "server") or "none"
             raise ValueError(f"{node} isn't a server of the model, so no pool can replace it; its servers: {servers}")
         self._judge_order()
-        self.demand = found[0].asked
+        self.demand = found[0].arguments
         self.jobs, self.arrivals, self.demands = calls_at(report, node, node, self.demand, trace)
 
     def _judge_order(self):
         """Raises ValueError if a pool is already downstream: the arrivals there depend on who serves here."""
-        nodes = {it.name: it for it in self.nodes}
-        for it in self.nodes:
-            name, asked = it.name.removesuffix(queue_name("")), it.asked.split()
-            is_pool = it.kind == "delay" and asked == [f"{name}_wait"] or it.kind == "split" and asked[:2] == ["cut", f"{name}_agent"]
-            if is_pool and self.node in in_front(nodes, [it.name]):
+        nodes = {node.name: node for node in self.nodes}
+        for item in self.nodes:
+            name, arguments = item.name.removesuffix(queue_name("")), item.arguments.split()
+            is_pool = item.kind == "delay" and arguments == [f"{name}_wait"] or item.kind == "split" and arguments[:2] == ["cut", f"{name}_agent"]
+            if is_pool and self.node in in_front(nodes, [item.name]):
                 why = f"make the pool at {self.node} first, since it decides when calls arrive at {name}"
                 raise ValueError(f"the pool at {name} is downstream of {self.node}: {why}")
 
     def _with_one(self):
         """Returns the report of the model as it is, for the arrivals at the server, which don't depend on who serves. If a single server exceeds the
         bound of the model, it runs `front` instead; the bound is checked when the pool runs."""
-        with told_of(self.trace, model=self.path):
+        with locating_errors(self.trace, model=self.path):
             try:
                 return run(self.text.encode(errors="surrogateescape"), self.trace.lines(), jobs=True)
             except BoundError:
@@ -122,7 +122,7 @@ class Queue:
     def run(self, agents, by="trunk"):
         """Returns the report (Report), with visits, of a pool of this many agents (int)."""
         model, trace = self.with_pool(agents, by)
-        with told_of(trace, model=self.path):
+        with locating_errors(trace, model=self.path):
             return run(model, trace.lines(), jobs=True)
 
     def visits(self, agents, by="trunk"):
@@ -130,18 +130,18 @@ class Queue:
         return pooled(self.run(agents, by), self.node)
 
     def _model_of(self, agents, by):
-        this = next(it for it in self.nodes if it.name == self.node)
+        this = next(node for node in self.nodes if node.name == self.node)
         inputs = inputs_of(this)
-        is_read = any(name == self.node for it in self.nodes for name, _ in it.inputs)
+        is_read = any(name == self.node for node in self.nodes for name, _ in node.inputs)
         lines = trunk_lines(self.node, agents, self.demand, inputs) if by == "trunk" else agent_lines(self.node, agents, self.demand, inputs, is_read)
         self._judge(lines, None if by == "trunk" else agent_name(self.node, agents + 1))
         return "".join(self._with_lines(lines, version=2 if by == "trunk" else 1))
 
     def _judge(self, lines, one_more):
         """Checks the names of lines to be added to the model, and that no server has the name of a further agent, as which it would be counted."""
-        there = {it.name for it in self.nodes} - {self.node}
+        there = {node.name for node in self.nodes} - {self.node}
         made = [line.split()[1] for line in lines]
-        for name in (*made, queue_name(self.node), *(it.name for it in self.nodes if it.name == one_more and it.kind == "server")):
+        for name in (*made, queue_name(self.node), *(node.name for node in self.nodes if node.name == one_more and node.kind == "server")):
             if name in there:
                 raise ValueError(f"the model already has a node {name!r}, a name that the pool at {self.node} needs")
         for name in made:
@@ -155,7 +155,7 @@ class Queue:
         for line in self.text.split("\n"):
             words = line.split()
             if words[:2] == ["server", self.node]:
-                yield from (f"{it}\n" for it in lines)
+                yield from (f"{line}\n" for line in lines)
                 continue
             if not is_begun and words[:1] == ["model"]:
                 is_begun, line = True, f"model {max(int(words[1]), version)}"
@@ -196,14 +196,14 @@ def inputs_of(node):
 def front(text, names):
     """Returns the model (str) of the nodes with these names, everything upstream of them, and the sources, without a bound. Jobs arrive at the same
     times in it, and none is late. Lines keep their numbers."""
-    kept = in_front({it.name: it for it in nodes_of(text)}, names)
+    kept = in_front({node.name: node for node in nodes_of(text)}, names)
     lines = [(line, line.split()) for line in text.split("\n")]
     return "\n".join(line if words[:1] in (["model"], ["source"]) or kept.intersection(words[1:2]) else "" for line, words in lines)
 
 
 def in_front(nodes, names):
     """Returns the names (set of str) of nodes and of everything upstream of them; `nodes` are those of the model by name (dict of ModelNode)."""
-    found, left = set(), [it for it in names if it in nodes]
+    found, left = set(), [name for name in names if name in nodes]
     while left:
         name = left.pop()
         if name not in found:
@@ -224,7 +224,7 @@ def agent_lines(node, agents, demand, inputs, is_read):
     output is read, delays of 0 gather the agents' outputs; the last of them has the pool's name."""
     if not 1 <= agents <= OUTPUTS * OUTPUTS:
         raise ValueError(f"a pool with a server per agent has 1 to {OUTPUTS * OUTPUTS} agents, not {agents}")
-    names = [agent_name(node, it) for it in range(1, agents + 1)]
+    names = [agent_name(node, number) for number in range(1, agents + 1)]
     if agents == 1:
         lines, ends = [], {names[0]: inputs}
     else:
@@ -289,41 +289,41 @@ def staffing(queue, agents, within=(20,), percents=PERCENTS, by="trunk"):
         yield [count, f"{util / 10**4:.4f}", *figures(visits.wait, within, percents)]
 
 
-def main(asked):
-    within, percents = asked.within or (20,), asked.percentile or PERCENTS
-    if asked.report:
-        rows = _of_report(asked, within, percents)
+def main(args):
+    within, percents = args.within or (20,), args.percentile or PERCENTS
+    if args.report:
+        rows = _of_report(args, within, percents)
     else:
-        rows = _of_agents(asked, within, percents)
+        rows = _of_agents(args, within, percents)
     with written() as file:
         csv.writer(file, lineterminator="\n").writerows(rows)
 
 
-def _of_report(asked, within, percents):
-    if asked.model or asked.agents or asked.out or asked.out_model:
+def _of_report(args, within, percents):
+    if args.model or args.agents or args.out or args.out_model:
         raise ValueError("--report reads a pool that has been run: give no model, trace, --agents, --out or --out-model with it")
-    report = Report.read(asked.report)
+    report = Report.read(args.report)
     if report.visits is None:
-        raise ValueError(f"{asked.report}: the report has no job lines: run mpsim with --jobs")
-    return [["node", *heads(within, percents)], [asked.node, *figures(pooled(report, asked.node).wait, within, percents)]]
+        raise ValueError(f"{args.report}: the report has no job lines: run mpsim with --jobs")
+    return [["node", *heads(within, percents)], [args.node, *figures(pooled(report, args.node).wait, within, percents)]]
 
 
-def _of_agents(asked, within, percents):
-    if not asked.model or not asked.trace or not asked.agents:
+def _of_agents(args, within, percents):
+    if not args.model or not args.trace or not args.agents:
         raise ValueError("give a model, a trace and --agents, or --report")
-    agents = numbers_of(asked.agents)
-    if (asked.out or asked.out_model) and len(agents) > 1:
-        raise ValueError(f"--agents {asked.agents}: --out and --out-model need one number of agents")
-    judge_outputs([asked.out, asked.out_model], {"model": [asked.model], "trace": [asked.trace]})
-    queue = Queue(asked.model, Trace.read(asked.trace), asked.node)
+    agents = numbers_of(args.agents)
+    if (args.out or args.out_model) and len(agents) > 1:
+        raise ValueError(f"--agents {args.agents}: --out and --out-model need one number of agents")
+    judge_outputs([args.out, args.out_model], {"model": [args.model], "trace": [args.trace]})
+    queue = Queue(args.model, Trace.read(args.trace), args.node)
     rows = []
-    with Progress(len(agents) + 1, "runs") as tell:
-        for row in staffing(queue, agents, within, percents, asked.by):
+    with Progress(len(agents) + 1, "runs") as progress:
+        for row in staffing(queue, agents, within, percents, args.by):
             rows.append(row)
-            tell(len(rows))
-    if asked.out or asked.out_model:
-        model, trace = queue.with_pool(agents[0], asked.by)
-        with all_written(asked.out, asked.out_model) as (out, out_model):
+            progress(len(rows))
+    if args.out or args.out_model:
+        model, trace = queue.with_pool(agents[0], args.by)
+        with all_written(args.out, args.out_model) as (out, out_model):
             if out:
                 out.writelines(trace.texts())
             if out_model:

@@ -24,7 +24,7 @@ def agent_name(pool, number):
 def end_names(pool, agents):
     """Returns the delays of 0 (list of str) that gather the outputs of this many agents, eight at a time, before the delay that has the pool's
     name."""
-    return [f"{pool}_end{it}" for it in range(1, -(-max(agents - INPUTS, 0) // (INPUTS - 1)) + 1)]
+    return [f"{pool}_end{number}" for number in range(1, -(-max(agents - INPUTS, 0) // (INPUTS - 1)) + 1)]
 
 
 def pooled(report, pool):
@@ -41,9 +41,9 @@ def pooled(report, pool):
     """
     if _kind(report, pool) == "trunk" and _kind(report, queue_name(pool)) == "delay":
         return _of_trunk_group(report, pool)
-    agents = [report.visits[it] for it in agents_of(report, pool)]
+    agents = [report.visits[agent] for agent in agents_of(report, pool)]
     if not agents:
-        names = ", ".join(it.name for it in report.nodes)
+        names = ", ".join(node.name for node in report.nodes)
         raise ValueError(f"the report has no pool {pool!r}, neither as a trunk group nor as a server per agent; its nodes are {names}")
     if len(agents) > 1 and queue_name(pool) not in report:
         more = f"which planner pool would have put upstream of the servers {agent_name(pool, 1)} to {agent_name(pool, len(agents))}"
@@ -67,20 +67,20 @@ def agents_of(report, pool):
 def _named_as_pools(report):
     """Yields the names that a queue shows to be pools: its output goes to a trunk group or to servers. If the model is known, the delay before a
     trunk group must use the column of waits."""
-    for it in report.nodes:
-        if not it.name.endswith(queue_name("")):
+    for item in report.nodes:
+        if not item.name.endswith(queue_name("")):
             continue
-        pool = it.name.removesuffix(queue_name(""))
-        if it.kind == "delay" and _kind(report, pool) == "trunk":
-            asked = [node.asked for node in nodes_of(report.model) if node.name == it.name] if report.model else []
-            if asked not in ([], [f"{pool}_wait"]):
+        pool = item.name.removesuffix(queue_name(""))
+        if item.kind == "delay" and _kind(report, pool) == "trunk":
+            arguments = [node.arguments for node in nodes_of(report.model) if node.name == item.name] if report.model else []
+            if arguments not in ([], [f"{pool}_wait"]):
                 continue
             agents = [pool]
-        elif it.kind == "split":
+        elif item.kind == "split":
             agents = agents_of(report, pool)
         else:
             continue
-        if agents and it.out == sum(report[name].in_ for name in agents):
+        if agents and item.out == sum(report[name].in_ for name in agents):
             yield pool
 
 
@@ -94,7 +94,7 @@ def pools(report):
     >>> pools(mpsim.run(model, [("source", "time", "talk", "desk_wait"), ("door", 0, 9, 0), ("door", 2, 4, 7)]))
     ['desk']
     """
-    return [it for it in _named_as_pools(report) if not _lost(report, it)]
+    return [named_as_pool for named_as_pool in _named_as_pools(report) if not _lost(report, named_as_pool)]
 
 
 def know_model(report, text):
@@ -144,12 +144,12 @@ class PoolLines:
 def pool_lines(reports, names=(), lacks=False):
     """Yields the lines (str) to print about the pools of reports, only about those in `names` if there are any; with `lacks` (bool), also about
     missing figures."""
-    told = PoolLines(names)
+    found = PoolLines(names)
     for report in reports:
-        told.see(report)
-    yield from told.lines()
+        found.see(report)
+    yield from found.lines()
     if lacks:
-        yield from told.lacks()
+        yield from found.lacks()
 
 
 def parts(report, pool):
@@ -171,13 +171,13 @@ def names_of(report, nodes=()):
     (['door', 'desk'], ['desk_queue'])
     """
     place = {part: pool for pool in pools(report) for part in parts(report, pool)}
-    names = list(dict.fromkeys(place.get(it.name, it.name) for it in report.nodes))
+    names = list(dict.fromkeys(place.get(node.name, node.name) for node in report.nodes))
     if not nodes:
         return names
-    every = dict.fromkeys([*(it.name for it in report.nodes), *names])
+    every = dict.fromkeys([*(node.name for node in report.nodes), *names])
     for name in nodes:
         if name not in every:
-            raise ValueError(f"no node {name!r}; the report has {', '.join(it.name for it in report.nodes)}")
+            raise ValueError(f"no node {name!r}; the report has {', '.join(node.name for node in report.nodes)}")
     return [name for name in every if name in nodes]
 
 
@@ -191,28 +191,28 @@ def with_pools(report, nodes=()):
 def beside_pools(report):
     """Returns all nodes of a report (list of Node), in its order, with each pool in place of the node of its name, or before its queue if there is
     none. The pool's other nodes stay, because the network shows them."""
-    made = {it: _node(report, it) for it in pools(report)}
+    made = {pool: _node(report, pool) for pool in pools(report)}
     before = {queue_name(name): it for name, it in made.items() if name not in report}
-    return [node for it in report.nodes for node in (before.get(it.name), made.get(it.name, it)) if node is not None]
+    return [node for item in report.nodes for node in (before.get(item.name), made.get(item.name, item)) if node is not None]
 
 
 def visits_at(report, names):
     """Returns the visits (list of NodeVisits) to nodes or pools of a report with visits, by name."""
     known = pools(report)
-    return [pooled(report, it) if it in known else report.visits[it] for it in names]
+    return [pooled(report, name) if name in known else report.visits[name] for name in names]
 
 
 def _node(report, pool):
     """Returns a pool as a Node."""
     queue, is_trunk = report[queue_name(pool)], _kind(report, pool) == "trunk"
-    agents = [report[it] for it in ([pool] if is_trunk else agents_of(report, pool))]
+    agents = [report[agent] for agent in ([pool] if is_trunk else agents_of(report, pool))]
     # Jobs in the delay are waiting.
-    wait = queue.area if is_trunk else sum(it.wait for it in agents)
-    busy, area = sum(it.busy for it in agents), sum(it.area for it in [queue, *agents])
+    wait = queue.area if is_trunk else sum(agent.wait for agent in agents)
+    busy, area = sum(agent.busy for agent in agents), sum(agent.area for agent in [queue, *agents])
     util = agents[0].util if is_trunk else 10**4 * busy // (len(agents) * report.span) / 10**4 if report.span else None
     waits = None if report.visits is None else pooled(report, pool).waits()
-    tail = [None] * 4 if waits is None else [percentile_of(waits, it) for it in (100, 50, 90, 99)]
-    return Node(pool, "pool", queue.in_, sum(it.out for it in agents), 0, agents[0].held, wait, *tail, busy, area, None, util)
+    tail = [None] * 4 if waits is None else [percentile_of(waits, item) for item in (100, 50, 90, 99)]
+    return Node(pool, "pool", queue.in_, sum(agent.out for agent in agents), 0, agents[0].held, wait, *tail, busy, area, None, util)
 
 
 def _of_trunk_group(report, pool):
@@ -225,8 +225,8 @@ def _of_trunk_group(report, pool):
 
 
 def _of_agents(pool, queue, agents):
-    waits = {job: wait for it in agents for job, wait in zip(it.job, it.wait)}
-    ends = {job: depart for it in agents for job, depart in zip(it.job, it.depart)}
+    waits = {job: wait for agent in agents for job, wait in zip(agent.job, agent.wait)}
+    ends = {job: depart for agent in agents for job, depart in zip(agent.job, agent.depart)}
     return _together(pool, queue, map(waits.__getitem__, queue.job), ends)
 
 

@@ -6,7 +6,7 @@ import os
 from array import array
 from itertools import islice
 
-from .calendar import Calendar, length_text, tick_of, told_in
+from .calendar import Calendar, length_text, tick_of, settings_in
 from .exports import Export
 from .files import all_written, bytes_of, counted, judge_outputs, say, written
 from .formats import NUMBERS, looks_like_clocks
@@ -44,7 +44,7 @@ def words(parser):
     add("--zone", metavar="NAME", help="time zone of times without an offset, e.g. Europe/Berlin; without it every day has 24 hours")
     add("--twice", choices=list(TWICE), help="which hour is meant when clocks are set back; order: the second from where times in the file go back")
     add("--tick", metavar="LENGTH", help="length of a tick, e.g. 1s, 100ms or 1min; default: from the comments of --model, or 1s")
-    begins = "time 0: hour (the last full hour before the first job; default), day, first, a time of day such as 8:00, or an ISO 8601 time"
+    begins = "time 0: hour (the last full hour before the first job, the default), day, first, a time of day such as 8:00, or an ISO 8601 time"
     add("--begin", default="hour", metavar="WHEN", help=begins)
     add("--source", metavar="COLUMN", help="column with the source of a job, or one name for all jobs")
     units = f"UNIT is one of {', '.join(Lengths.NAMES)}, by default s"
@@ -123,18 +123,18 @@ def prepare(
             plan.values(demand, end, constant, code, empty)
             plan.sources(source, rename)
             return _finished(plan, _read(plan, left_out), begin)
-    except ValueError as fault:
-        raise ValueError(f"{name}: {fault}") from None
+    except ValueError as error:
+        raise ValueError(f"{name}: {error}") from None
     except OverflowError:
         raise ValueError(f"{name}: times are before the year 1 or after the year 9999: is --format right?") from None
 
 
 def _tick(tick, model):
     """Returns the microseconds of a tick: the one given, else the model's, else a second."""
-    told, _, _ = told_in(model or "")
-    per = given("--tick", tick_of, tick) if tick else told or SECOND
-    if told not in (None, per):
-        raise ValueError(f"--tick {tick}: in the model a tick is {length_text(told)}")
+    known, _, _ = settings_in(model or "")
+    per = given("--tick", tick_of, tick) if tick else known or SECOND
+    if known not in (None, per):
+        raise ValueError(f"--tick {tick}: in the model a tick is {length_text(known)}")
     return per
 
 
@@ -151,12 +151,12 @@ class _Rows:
         if len(self.stamps) > RECORDS:
             raise ValueError(f"more than {RECORDS:,} records, the limit of a trace: shorten the export")
 
-    def leave(self, number, header, fault, row):
+    def leave(self, number, header, error, row):
         """Counts a row that is left out and returns the reason."""
-        why, first = fault.why, f"row {number}"
-        if fault.column is not None:
-            why = f"{header[fault.column]} is empty" if why == "empty" else f"{header[fault.column]}: {why}"
-            first += f", {row[fault.column]!r}" if row[fault.column].strip() else ""
+        why, first = error.why, f"row {number}"
+        if error.column is not None:
+            why = f"{header[error.column]} is empty" if why == "empty" else f"{header[error.column]}: {why}"
+            first += f", {row[error.column]!r}" if row[error.column].strip() else ""
         self.left.setdefault(why, [0, first])[0] += 1
         return why
 
@@ -168,18 +168,18 @@ def _read(plan, left_out):
     writer = csv.writer(left_out, lineterminator="\n") if left_out is not None else None
     if writer:
         writer.writerow(["row", "reason", *plan.export.header])
-    with uncollected(), Progress(plan.export.size, "rows") as tell:
+    with uncollected(), Progress(plan.export.size, "rows") as progress:
         try:
             while some := list(islice(rows, CHUNK)):
                 for at, why in _read_some(plan, some, number, made):
                     if writer:
                         writer.writerow([at, why, *some[at - number]])
                 if rows.line_num - lines > len(some) + LINES:
-                    made.long += any(it.count("\n") > LINES for row in some for it in row)
+                    made.long += any(item.count("\n") > LINES for row in some for item in row)
                 number, lines = number + len(some), rows.line_num
-                tell(number)
-        except csv.Error as fault:
-            raise ValueError(f"after row {number - 1}: {fault}: is a closing quote missing?") from None
+                progress(number)
+        except csv.Error as error:
+            raise ValueError(f"after row {number - 1}: {error}: is a closing quote missing?") from None
     return made
 
 
@@ -196,11 +196,11 @@ def _read_some(plan, rows, number, made):
             continue
         try:
             records.append(read(row))
-        except Left as fault:
-            yield number, made.leave(number, header, fault, row)
+        except Left as error:
+            yield number, made.leave(number, header, error, row)
             continue
-        except Asks as fault:
-            raise ValueError(f"row {number}, column {header[fault.column]!r}: {row[fault.column]!r}: {fault}") from None
+        except Asks as error:
+            raise ValueError(f"row {number}, column {header[error.column]!r}: {row[error.column]!r}: {error}") from None
     made.extend(zip(*records))
 
 
@@ -209,24 +209,24 @@ def _finished(plan, rows, begin):
     unnamed = plan.judge_renames()
     left = [
         f"{counted(count, 'row')}: {why}" + (f" ({where})" if count == 1 else f"; the first is {where}")
-        for why, (count, where) in sorted(rows.left.items(), key=lambda it: -it[1][0])
+        for why, (count, where) in sorted(rows.left.items(), key=lambda item: -item[1][0])
     ]
     if not rows.stamps:
         raise ValueError("; ".join(["no rows are left", *left[:3]]))
-    made = Prepared(["source", "time", *(it.name for it in plan.columns)], _order(plan, rows.sources), plan.per, plan.place.name)
-    made.told += plan.told
+    made = Prepared(["source", "time", *(column.name for column in plan.columns)], _order(plan, rows.sources), plan.per, plan.place.name)
+    made.notes += plan.notes
     made.warned += [*plan.warned, *unnamed]
     ticks = _ticks(plan, rows.stamps, begin, made)
-    made.told += plan.place.told()
+    made.notes += plan.place.notes()
     _judge_zero(plan, made)
-    _tell_values(plan, rows, made)
-    made.told += [f"source {old!r} is called {new}" for old, new in plan.records.names.items() if old != new and new in made.names]
+    _note_values(plan, rows, made)
+    made.notes += [f"source {old!r} is called {new}" for old, new in plan.records.names.items() if old != new and new in made.names]
     made.warned += _alike(plan.records, made.names)
     _sort(made, rows, ticks)
     if rows.left:
         made.left = {why: count for why, (count, _) in rows.left.items()}
-        made.told += [counted(sum(made.left.values()), "row") + f" {'is' if sum(made.left.values()) == 1 else 'are'} left out", *left[:LINES]]
-        made.told += [f"and for {len(left) - LINES} other reasons"] if left[LINES:] else []
+        made.notes += [counted(sum(made.left.values()), "row") + f" {'is' if sum(made.left.values()) == 1 else 'are'} left out", *left[:LINES]]
+        made.notes += [f"and for {len(left) - LINES} other reasons"] if left[LINES:] else []
     if rows.long:
         made.warned.append(f"a field has more than {LINES} lines: is a closing quote missing?")
     return made
@@ -238,7 +238,7 @@ def _order(plan, used):
     if len(found) > SOURCES:
         raise ValueError(f"{len(found)} sources; the limit of a model is {SOURCES}: give one name for all, or --rename several to one")
     known = plan.records.known
-    return list(found) if known is None else [it for it in known if it in found]
+    return list(found) if known is None else [item for item in known if item in found]
 
 
 def _alike(records, names):
@@ -252,10 +252,10 @@ def _alike(records, names):
 
 def _ticks(plan, stamps, begin, made):
     """Returns the times of the trace (array), in ticks from time 0."""
-    readers = [it.how for it in plan.readers()]
-    if any(it.has_none for it in readers) and any(it.has_offsets for it in readers) and not plan.place.name:
+    readers = [reader.how for reader in plan.readers()]
+    if any(reader.has_none for reader in readers) and any(reader.has_offsets for reader in readers) and not plan.place.name:
         raise ValueError("some times have an offset from UTC and others have none: give --zone for those")
-    if any(len(it.halves) > 1 for it in readers):
+    if any(len(reader.halves) > 1 for reader in readers):
         raise ValueError("some times have AM or PM, but others from 1:00 to 12:59 don't: --format '%I:%M %p' leaves those out")
     if plan.is_ticks:
         if begin != "hour":
@@ -264,24 +264,24 @@ def _ticks(plan, stamps, begin, made):
         if looks:
             made.warned.append(f"times look like {looks}, but are read as ticks: give their --format")
         return _judged(stamps)
-    first, is_utc = min(stamps), any(it.has_offsets for it in readers)
+    first, is_utc = min(stamps), any(reader.has_offsets for reader in readers)
     zero = _zero(plan, begin, first, is_utc)
     if zero > first:
-        raise ValueError(f"{counted(sum(it < zero for it in stamps), 'record')} before --begin {begin}, which is to be time 0")
+        raise ValueError(f"{counted(sum(stamp < zero for stamp in stamps), 'record')} before --begin {begin}, which is to be time 0")
     if plan.has_day:
         made.zero = plan.place.shown(zero) + ("+00:00" if is_utc and not plan.place.name else "")
-    ticks = _judged(array("q", ((it - zero) // plan.per for it in stamps)))
+    ticks = _judged(array("q", ((stamp - zero) // plan.per for stamp in stamps)))
     shown = made.zero or f"{zero // HOUR}:{zero // (60 * SECOND) % 60:02}:{zero // SECOND % 60:02}"
-    made.told.append(f"time 0 is {shown}, a tick is {length_text(plan.per)}, the last record is at {max(ticks)}")
-    uneven = sum((it - zero) % plan.per > 0 for it in stamps)
+    made.notes.append(f"time 0 is {shown}, a tick is {length_text(plan.per)}, the last record is at {max(ticks)}")
+    uneven = sum((stamp - zero) % plan.per > 0 for stamp in stamps)
     if uneven:
-        made.told.append(f"{counted(uneven, 'time')} between two ticks, rounded down")
+        made.notes.append(f"{counted(uneven, 'time')} between two ticks, rounded down")
     if not plan.has_day:
         back = sum(later < earlier - 12 * HOUR for earlier, later in zip(stamps, islice(stamps, 1, None)))
         more = f", although they go back by more than half a day {counted(back, 'time')}" if back else ""
         made.warned.append(f"times have no day, so all are put on one day{more} (--date)")
     elif not plan.place.name and max(stamps) - first > DAY:
-        made.told.append(f"days are those of {'UTC' if is_utc else 'a clock that never changes'}: give --zone for another")
+        made.notes.append(f"days are those of {'UTC' if is_utc else 'a clock that never changes'}: give --zone for another")
     return ticks
 
 
@@ -312,7 +312,7 @@ def _zero(plan, begin, first, is_utc):
 
 def _judge_zero(plan, made):
     """Notes if the model gives another time 0 than that of the trace."""
-    _, start, zone = told_in(plan.model or "")
+    _, start, zone = settings_in(plan.model or "")
     if plan.is_ticks or not start:
         return
     said, this = ((at and Calendar(plan.per, at, name).begin, name) for at, name in ((start, zone), (made.zero, made.zone)))
@@ -321,13 +321,13 @@ def _judge_zero(plan, made):
         made.unlike.append(f"time 0 is {first}, but in the model, which hours, days and pages use, it is {second}")
 
 
-def _tell_values(plan, rows, made):
+def _note_values(plan, rows, made):
     for it, values in zip(plan.columns, rows.values):
         if isinstance(it, (Demand, Sum)) and it.rounded:
-            made.told.append(f"{it.name}: {counted(it.rounded, 'different value')} between two ticks, rounded to the nearest")
+            made.notes.append(f"{it.name}: {counted(it.rounded, 'different value')} between two ticks, rounded to the nearest")
         elif isinstance(it, Code):
             made.codes[it.name] = it.codes
-            made.told.append(f"{it.name}: " + _codes_text(it.codes.items()))
+            made.notes.append(f"{it.name}: " + _codes_text(it.codes.items()))
             made.warned += _code_warnings(it)
             if plan.model is not None and it.known is None:
                 made.unlike.append(f"{it.name}: the model doesn't say which word has which number, so another export may number them differently")
@@ -344,7 +344,7 @@ def _codes_text(codes):
 
 def _code_warnings(column):
     """Yields warnings about a column of words (Code)."""
-    new = [it for it in column.codes.items() if column.known is not None and it[0] not in column.known]
+    new = [item for item in column.codes.items() if column.known is not None and item[0] not in column.known]
     if new:
         yield f"{column.name}: the model has no number for {counted(len(new), 'word')}: {_codes_text(new)}"
     count = len(set(column.codes.values()))
@@ -360,23 +360,23 @@ def _sort(made, rows, ticks):
     if all(map(int.__eq__, order, range(len(keys)))):
         made.sources, made.times, made.values = rows.sources, ticks, rows.values
         return
-    made.told.append("records are sorted by time, and at equal times by the order of the sources")
-    made.sources = [rows.sources[it] for it in order]
+    made.notes.append("records are sorted by time, and at equal times by the order of the sources")
+    made.sources = [rows.sources[item] for item in order]
     made.times, *made.values = (array("q", map(column.__getitem__, order)) for column in (ticks, *rows.values))
 
 
-def main(asked):
+def main(args):
     """Runs `planner prepare`."""
-    options = {name: value for name, value in vars(asked).items() if name not in ("command", "main", "export", "first_lines", "out_model", "out")}
-    judge_outputs([asked.out, asked.left_out, asked.first_lines, asked.out_model], {"export": [asked.export], "model": [asked.model]})
-    if asked.out_model and not asked.model:
+    options = {name: value for name, value in vars(args).items() if name not in ("command", "main", "export", "first_lines", "out_model", "out")}
+    judge_outputs([args.out, args.left_out, args.first_lines, args.out_model], {"export": [args.export], "model": [args.model]})
+    if args.out_model and not args.model:
         raise ValueError("--out-model requires --model")
-    model = judged_text(asked.model, say) if asked.model else None
-    with all_written(asked.left_out, asked.first_lines, asked.out_model, asked.out) as (left_out, lines, out_model, out):
-        made = prepare(**{**options, "export": asked.export, "model": model, "left_out": left_out})
-        unlike = [] if asked.out_model else [f"{it} (--out-model writes a model for this trace)" for it in made.unlike]
-        warned = [f"warning: {it}" for it in [*made.warned, *unlike]]
-        for line in [*made.told, *warned, f"{counted(len(made), 'record')}, {counted(len(made.names), 'source')}"]:
+    model = judged_text(args.model, say) if args.model else None
+    with all_written(args.left_out, args.first_lines, args.out_model, args.out) as (left_out, lines, out_model, out):
+        made = prepare(**{**options, "export": args.export, "model": model, "left_out": left_out})
+        unlike = [] if args.out_model else [f"{item} (--out-model writes a model for this trace)" for item in made.unlike]
+        warned = [f"warning: {item}" for item in [*made.warned, *unlike]]
+        for line in [*made.notes, *warned, f"{counted(len(made), 'record')}, {counted(len(made.names), 'source')}"]:
             say(line)
         if lines:
             lines.write(made.first_lines())

@@ -2,7 +2,7 @@
 
 from array import array
 
-from .calendar import first_lines, with_told
+from .calendar import first_lines, with_settings
 from .codes import line_of, with_codes
 
 # The most bytes of a trace.
@@ -15,7 +15,7 @@ class Prepared:
     """A trace made from an export.
 
     `header` (list of str) has the column names; `sources` (list of str), `times` (array of int, ticks) and `values` (list of arrays of int) are the
-    records in output order; `names` are the sources in the order of the model. `told` and `warned` (lists of str) say what was done, `unlike` (list
+    records in output order; `names` are the sources in the order of the model. `notes` and `warned` (lists of str) say what was done, `unlike` (list
     of str) where the first lines of the model differ from those of this trace, and `left` (dict) how many rows were left out, by reason. `tick` (int,
     microseconds), `zero` (ISO 8601 text or None) and `zone` (str or None) define the ticks; `codes` has the number of each word by column (dict of
     dicts)."""
@@ -23,7 +23,7 @@ class Prepared:
     def __init__(self, header, names, tick, zone):
         self.header, self.names, self.tick, self.zone, self.codes = header, names, tick, zone, {}
         self.sources, self.times, self.values = [], array("q"), [array("q") for _ in header[2:]]
-        self.told, self.warned, self.unlike, self.left, self.zero = [], [], [], {}, None
+        self.notes, self.warned, self.unlike, self.left, self.zero = [], [], [], {}, None
 
     def __len__(self):
         return len(self.times)
@@ -37,7 +37,7 @@ class Prepared:
         yield (header := ",".join(self.header) + "\n")
         size = len(header)
         for at in range(0, len(self), CHUNK):
-            numbers = [map(str, it[at : at + CHUNK]) for it in (self.times, *self.values)]
+            numbers = [map(str, value[at : at + CHUNK]) for value in (self.times, *self.values)]
             text = "\n".join(map(",".join, zip(self.sources[at : at + CHUNK], *numbers))) + "\n"
             size += len(text)
             if size > BYTES:
@@ -47,12 +47,12 @@ class Prepared:
     def first_lines(self):
         """Returns the first lines of a model for this trace. `planner days`, `hours` and others take the tick and time 0 from them, the next
         `prepare` the codes."""
-        codes = [line_of(*it) for it in self.codes.items()]
+        codes = [line_of(*item) for item in self.codes.items()]
         return first_lines(self.tick, self.zero, self.zone, self.header[2:], self.names, filter(None, codes))
 
     def model(self, text):
         """Returns a model's text with the tick, time 0 and codes of this trace in its first lines."""
-        text = with_told(text, self.tick, self.zero, self.zone)
+        text = with_settings(text, self.tick, self.zero, self.zone)
         for name, codes in self.codes.items():
             text = with_codes(text, name, codes)
         return text

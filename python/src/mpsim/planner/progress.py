@@ -22,9 +22,9 @@ class Progress:
     """Shows progress on a terminal. Call the object with the amount done of `whole` (int) `what` (str, plural). It writes at most five times a
     second, and clears its line at the end.
 
-    >>> with Progress(1000, "rows") as tell:
+    >>> with Progress(1000, "rows") as progress:
     ...     for done in range(1000):
-    ...         tell(done)
+    ...         progress(done)
     """
 
     def __init__(self, whole, what, stream=None):

@@ -20,8 +20,8 @@ class Dates:
         """Returns the wall-clock midnight of a row's day (int, microseconds since 1970). Raises Unread or Asks, with the `column`."""
         try:
             return self.how.dates[row[self.column]]
-        except ValueError as fault:
-            fault.column = self.column
+        except ValueError as error:
+            error.column = self.column
             raise
 
 
@@ -48,18 +48,18 @@ class Numbers:
         try:
             return day_of(year, month, day)
         except Unread:
-            raise self._fault(2, "not a day of its month") from None
+            raise self._error(2, "not a day of its month") from None
 
     def _number(self, at, texts, pattern, why):
         text = texts[at].strip()
         if not re.fullmatch(pattern, text, re.ASCII):
-            raise self._fault(at, why if text else "empty")
+            raise self._error(at, why if text else "empty")
         return int(text)
 
-    def _fault(self, at, why):
-        fault = Unread(why)
-        fault.column = self.columns[at]
-        return fault
+    def _error(self, at, why):
+        error = Unread(why)
+        error.column = self.columns[at]
+        return error
 
 
 class Times:
@@ -122,25 +122,25 @@ class Sum:
 
     def of(self, row, begun):
         total = 0
-        for it in self.parts:
+        for part in self.parts:
             try:
-                total += it.of(row, begun)
-            except (Unread, Asks) as fault:
-                fault.column = it.column
+                total += part.of(row, begun)
+            except (Unread, Asks) as error:
+                error.column = part.column
                 raise
         if total > GREATEST_VALUE:
             raise Unread("above 2^36 ticks")
         return total
 
     def many(self, columns):
-        totals = list(map(sum, zip(*(it.many(columns) for it in self.parts))))
+        totals = list(map(sum, zip(*(part.many(columns) for part in self.parts))))
         if max(totals) > GREATEST_VALUE:
             raise Unread("one by one")
         return totals
 
     @property
     def rounded(self):
-        return sum(it.rounded for it in self.parts)
+        return sum(part.rounded for part in self.parts)
 
 
 class End:
@@ -248,7 +248,7 @@ class Records:
         stamps = self.time.how.many(columns[self.time.column])
         if not -MOST < min(stamps) <= max(stamps) < MOST:
             raise Unread("one by one")
-        values = [it.many(columns) for it in self.values]
+        values = [value.many(columns) for value in self.values]
         named = [self.only] * len(rows) if self.source is None else list(map(self._named.__getitem__, columns[self.source]))
         for at in self._codes:
             values[at] = list(map(self.values[at].code, rows))
@@ -264,23 +264,23 @@ class Records:
             if not -MOST < stamp < MOST:
                 raise Unread("out of the range of times")
             begun = [stamp]
-            for it in self.answered:
-                at = it.column
-                begun.append(it.later(row, stamp))
+            for item in self.answered:
+                at = item.column
+                begun.append(item.later(row, stamp))
                 if begun[-1] < stamp:
                     raise Unread("before the job arrives")
             made = [None, stamp]
-            for it in self.values:
-                at = it.column
-                made.append(it.of(row, begun))
+            for value in self.values:
+                at = value.column
+                made.append(value.of(row, begun))
             at = self.source
             made[0] = self.only if at is None else self._named[row[at]]
-        except Unread as fault:
-            raise Left(getattr(fault, "column", at), str(fault)) from None
+        except Unread as error:
+            raise Left(getattr(error, "column", at), str(error)) from None
         except OverflowError:
             raise Left(at, "out of the range of dates") from None
-        except Asks as fault:
-            fault.column = getattr(fault, "column", at)
+        except Asks as error:
+            error.column = getattr(error, "column", at)
             raise
         for at in self._codes:
             made[at + 2] = self.values[at].code(row)

@@ -21,30 +21,30 @@ def places(parser, several=""):
     parser.add_argument("--pool", action="append", default=[], metavar="NAME", help=says)
 
 
-def report_of(asked):
+def report_of(args):
     """Returns the report (Report), with visits, that a command's arguments name. Raises what `mpsim.run` and `Report.read` do, and ValueError if it
     has no visits."""
-    if asked.trace is not None:
-        return run(asked.report, asked.trace, jobs=True)
-    report = Report.read(asked.report)
+    if args.trace is not None:
+        return run(args.report, args.trace, jobs=True)
+    report = Report.read(args.report)
     if report.visits is None and report.jobs:
-        raise ValueError(f"{asked.report}: the report has no job lines: run mpsim with --jobs")
+        raise ValueError(f"{args.report}: the report has no job lines: run mpsim with --jobs")
     if report.visits is None:
         # Without jobs there are no job lines.
-        report.visits = Visits((it.name, NodeVisits(it.name)) for it in report.nodes)
+        report.visits = Visits((node.name, NodeVisits(node.name)) for node in report.nodes)
     return report
 
 
-def visits_of(report, asked):
+def visits_of(report, args):
     """Returns the visits (list of NodeVisits) to the nodes and pools that a command's arguments name. A pool named as a node counts as a pool, which
     is printed. Raises ValueError for an unknown name."""
     known = pools(report)
-    for name in asked.node:
+    for name in args.node:
         if name not in report and name not in known:
-            raise ValueError(f"{asked.report}: no node {name!r}; it has {', '.join(it.name for it in report.nodes)}")
-    for line in pool_lines([report], asked.node) if asked.node else ():
+            raise ValueError(f"{args.report}: no node {name!r}; it has {', '.join(node.name for node in report.nodes)}")
+    for line in pool_lines([report], args.node) if args.node else ():
         say(line)
-    return visits_at(report, asked.node) + [pooled(report, it) for it in asked.pool]
+    return visits_at(report, args.node) + [pooled(report, item) for item in args.pool]
 
 
 def all_visits(report):
@@ -53,4 +53,4 @@ def all_visits(report):
     known = pools(report)
     for line in pool_lines([report]):
         say(line)
-    return visits_at(report, [it for it in names_of(report) if it in known or report[it].kind not in PASSED])
+    return visits_at(report, [name for name in names_of(report) if name in known or report[name].kind not in PASSED])

@@ -8,7 +8,7 @@ from .. import runs
 from . import calendar
 from .files import judge_outputs, say, text_of, written
 from .formats import looks_like_clocks
-from .page import axes, tell_pools
+from .page import axes, print_pools
 
 EXAMPLE = "planner run model.txt trace.csv --page run.html --tick 1s"
 # The number of records examined.
@@ -33,23 +33,23 @@ def warned(path):
             times = [row[1] for row in itertools.islice(csv.reader(file), 1, LOOKED_AT + 1) if len(row) > 1]
         except csv.Error:
             return None
-    return looks_like_clocks(map(int, times)) if all(it.isascii() and it.isdigit() for it in times) else None
+    return looks_like_clocks(map(int, times)) if all(time.isascii() and time.isdigit() for time in times) else None
 
 
-def main(asked):
-    judge_outputs([asked.page], {"model": [asked.model], "trace": [asked.trace]})
-    for word in calendar.words_of(asked) if not asked.page else ():
+def main(args):
+    judge_outputs([args.page], {"model": [args.model], "trace": [args.trace]})
+    for word in calendar.words_of(args) if not args.page else ():
         raise ValueError(f"{word} requires --page")
     # Checked before a run that may be long, if the model can be read twice.
-    if asked.page and os.path.isfile(asked.model):
-        axes(asked, text_of(asked.model))
-    looks = warned(asked.trace)
+    if args.page and os.path.isfile(args.model):
+        axes(args, text_of(args.model))
+    looks = warned(args.trace)
     if looks:
-        say(f"warning: {asked.trace}: its times look like {looks}, but are read as ticks: planner prepare converts them")
-    report = runs.run(asked.model, asked.trace, jobs=bool(asked.jobs or asked.page))
-    times = axes(asked, report.model) if asked.page else {}
+        say(f"warning: {args.trace}: its times look like {looks}, but are read as ticks: planner prepare converts them")
+    report = runs.run(args.model, args.trace, jobs=bool(args.jobs or args.page))
+    times = axes(args, report.model) if args.page else {}
     with written() as file:
-        file.writelines(report.lines(jobs=asked.jobs))
-    if asked.page:
-        report.save(asked.page, title=os.path.basename(asked.trace), **times)
-        tell_pools([report])
+        file.writelines(report.lines(jobs=args.jobs))
+    if args.page:
+        report.save(args.page, title=os.path.basename(args.trace), **times)
+        print_pools([report])

@@ -66,7 +66,7 @@ def copies(times, sources, k, n, shift=0, only=()):
     """
     ends = min(times, default=0), max(times, default=0)
     seen, before, made = {}, 0, []
-    for source, count in Counter(it for it in sources if not only or it in only).items():
+    for source, count in Counter(source for source in sources if not only or source in only).items():
         seen[source], before = before, before + count
     for at in sorted(range(len(times)), key=times.__getitem__):
         source, count = sources[at], 1
@@ -114,7 +114,7 @@ def scaled(trace, k, n, way, shift=None, only=()):
 
 def _count(trace, k, n, way, only):
     """Returns the number of records that `scaled` would make, to reject too many before making any."""
-    taken = 0 if way == "times" else sum(not only or it in only for it in trace.sources())
+    taken = 0 if way == "times" else sum(not only or source in only for source in trace.sources())
     return len(trace.rows) - taken + k * taken // n
 
 
@@ -144,24 +144,24 @@ def means(k, n, way, shift=None, only=()):
     return f"each record{of} has {copies}, at its own time, {TWINS}"
 
 
-def main(asked):
-    k, n = ratio(asked.by)
-    way = "times" if asked.times else "shift" if asked.shift is not None else "twins"
-    if asked.times and asked.source:
+def main(args):
+    k, n = ratio(args.by)
+    way = "times" if args.times else "shift" if args.shift is not None else "twins"
+    if args.times and args.source:
         raise ValueError("--times and --source: the times of a single source would no longer fit the day of the others; use --shift")
-    if asked.shift is not None and asked.shift < 1:
-        raise ValueError(f"--shift {asked.shift}: expected a positive number of ticks, such as those of a day or a week")
-    if way == "twins" and not asked.twins and k > n:
-        raise ValueError(f"--by {asked.by}: choose how: --shift TICKS (those of a day or a week), --times or --twins")
-    judge_outputs([asked.out], {"trace": [asked.trace]})
-    trace = Trace.read(asked.trace)
-    if (more := _count(trace, k, n, way, asked.source) - RECORDS) > 0:
-        raise ValueError(f"--by {asked.by}: {counted(more, 'record')} above the limit of {RECORDS}")
-    made = scaled(trace, k, n, way, asked.shift, asked.source)
+    if args.shift is not None and args.shift < 1:
+        raise ValueError(f"--shift {args.shift}: expected a positive number of ticks, such as those of a day or a week")
+    if way == "twins" and not args.twins and k > n:
+        raise ValueError(f"--by {args.by}: choose how: --shift TICKS (those of a day or a week), --times or --twins")
+    judge_outputs([args.out], {"trace": [args.trace]})
+    trace = Trace.read(args.trace)
+    if (more := _count(trace, k, n, way, args.source) - RECORDS) > 0:
+        raise ValueError(f"--by {args.by}: {counted(more, 'record')} above the limit of {RECORDS}")
+    made = scaled(trace, k, n, way, args.shift, args.source)
     if made.rows and (last := int(made.rows[-1][1])) > GREATEST_TIME:
-        raise ValueError(f"--by {asked.by}: the time {last} is above the limit of {GREATEST_TIME}")
-    with written(asked.out) as file:
+        raise ValueError(f"--by {args.by}: the time {last} is above the limit of {GREATEST_TIME}")
+    with written(args.out) as file:
         file.writelines(made.texts())
-    if warning := pool_warning(asked.trace, trace.header):
+    if warning := pool_warning(args.trace, trace.header):
         say(warning)
-    say(f"{counted(len(made.rows), 'record')} (from {len(trace.rows):,}): {means(k, n, way, asked.shift, asked.source)}")
+    say(f"{counted(len(made.rows), 'record')} (from {len(trace.rows):,}): {means(k, n, way, args.shift, args.source)}")

@@ -35,7 +35,7 @@ def values_of(word):
 
 def sets_of(words):
     """Returns the values by name, from several such texts. Raises ValueError if a name is given twice."""
-    pairs = [values_of(it) for it in words]
+    pairs = [values_of(word) for word in words]
     for name, _ in pairs:
         if [it for it, _ in pairs].count(name) > 1:
             raise ValueError(f"--set {name} is given twice")
@@ -45,17 +45,17 @@ def sets_of(words):
 def files_of(words):
     """Returns the files for paths and patterns such as variants/*.txt. Raises ValueError if one matches nothing."""
     found = []
-    for it in words:
-        paths = [it] if os.path.exists(it) else sorted(glob.glob(it))
+    for word in words:
+        paths = [word] if os.path.exists(word) else sorted(glob.glob(word))
         if not paths:
-            raise ValueError(f"{it}: no such file")
+            raise ValueError(f"{word}: no such file")
         found += paths
     return found
 
 
 def labels_of(paths):
     """Returns the labels of files in the table: their names without the extension, or their paths if two names are the same."""
-    names = [os.path.splitext(os.path.basename(it))[0] for it in paths]
+    names = [os.path.splitext(os.path.basename(path))[0] for path in paths]
     return names if len(set(names)) == len(names) else list(paths)
 
 
@@ -89,9 +89,9 @@ class Plan:
         model that lacks one of the nodes."""
         if not models or not traces:
             raise ValueError("a sweep needs a model and a trace")
-        texts = [_text_of(it) for it in models]
+        texts = [_text_of(model) for model in models]
         for name in sets:
-            if not any(re.search(rf"\{{{name}\b", it) for it in texts):
+            if not any(re.search(rf"\{{{name}\b", text) for text in texts):
                 raise ValueError(f"--set {name}: no model contains {{{name}}}")
         for label, text in zip(labels_of(models), texts if not sets else ()):
             if found := in_braces(text):
@@ -124,8 +124,8 @@ class Plan:
         values = {name: values[name] for name in self.sets}
         try:
             return label, values, text.format(**values) if self.sets else text
-        except (LookupError, ValueError, AttributeError) as fault:
-            raise ValueError(f"model {label}: a name in braces has no value from --set ({type(fault).__name__}: {fault})") from None
+        except (LookupError, ValueError, AttributeError) as error:
+            raise ValueError(f"model {label}: a name in braces has no value from --set ({type(error).__name__}: {error})") from None
 
     def judge_nodes(self, nodes):
         """Raises ValueError if a model lacks one of these nodes or pools; nothing has to run to know that. A text that doesn't begin like a model is
@@ -134,7 +134,7 @@ class Plan:
             if not re.match(r"(?:[ \t]*(?:#.*)?\r?\n)*[ \t]*model[ \t]+[12][ \t\r\n]", text.removeprefix("\ufeff")):
                 continue
             # If no node's line contains a name in braces, one variant stands for all.
-            count = self.combinations if any("{" in it for it in _kinds_in(text)) else 1
+            count = self.combinations if any("{" in kind for kind in _kinds_in(text)) else 1
             for at in range(which * self.combinations, which * self.combinations + count):
                 kinds = _kinds_in(self.model(at)[2])
                 for name in nodes:
@@ -153,26 +153,26 @@ class Plan:
 
     def text(self):
         """Returns the plan as the text of a file, with a checksum."""
-        told = {"models": self.models, "sets": self.sets, "traces": self.traces, "nodes": self.nodes}
-        return json.dumps({**told, "sum": _sum_of_parts(told)}, indent=1) + "\n"
+        parts = {"models": self.models, "sets": self.sets, "traces": self.traces, "nodes": self.nodes}
+        return json.dumps({**parts, "sum": _sum_of_parts(parts)}, indent=1) + "\n"
 
     @classmethod
     def parse(cls, text):
         """Returns the plan in such a text. Raises ValueError if it isn't one, or was altered."""
-        told = json.loads(text)
-        if not isinstance(told, dict) or told.pop("sum", None) != _sum_of_parts(told):
+        parts = json.loads(text)
+        if not isinstance(parts, dict) or parts.pop("sum", None) != _sum_of_parts(parts):
             raise ValueError("the checksum differs")
-        return cls(told["models"], told["sets"], told["traces"], told["nodes"])
+        return cls(parts["models"], parts["sets"], parts["traces"], parts["nodes"])
 
 
 def _kinds_in(text):
     """Returns the kinds (str) of the nodes in a model's text, by name, even if mpsim would reject it."""
     words = map(str.split, lines_of(text))
-    return {it[1]: it[0] for it in words if len(it) > 1 and it[0] not in ("model", "bound")}
+    return {word[1]: word[0] for word in words if len(word) > 1 and word[0] not in ("model", "bound")}
 
 
-def _sum_of_parts(told):
-    return hashlib.sha256(json.dumps(told).encode()).hexdigest()
+def _sum_of_parts(parts):
+    return hashlib.sha256(json.dumps(parts).encode()).hexdigest()
 
 
 def _text_of(path):

@@ -38,15 +38,15 @@ def ticks(text):
 class Once(argparse.Action):
     """An option that may be repeated; repeated values count once."""
 
-    def __call__(self, parser, asked, value, option=None):
-        before = getattr(asked, self.dest) or []
-        setattr(asked, self.dest, before if value in before else [*before, value])
+    def __call__(self, parser, args, value, option=None):
+        before = getattr(args, self.dest) or []
+        setattr(args, self.dest, before if value in before else [*before, value])
 
 
 def heads(within=(20,), percents=PERCENTS):
     """Returns the names (list of str) of what `figures` returns."""
-    shares = [f"within_{it}_of_{whom}" for it in within for whom in ("all", "departed")]
-    return ["came", "departed", "lost", "held", "mean_wait", *(f"p{it:.15g}" for it in percents), "max", *shares]
+    shares = [f"within_{item}_of_{whom}" for item in within for whom in ("all", "departed")]
+    return ["came", "departed", "lost", "held", "mean_wait", *(f"p{percent:.15g}" for percent in percents), "max", *shares]
 
 
 def figures(waits, within=(20,), percents=PERCENTS):
@@ -60,12 +60,12 @@ def figures(waits, within=(20,), percents=PERCENTS):
     >>> figures([0, 3, -1, 7], within=[3], percents=[50])
     [4, 3, 1, 0, 3.333, 3, 7, 0.5, 0.666667]
     """
-    departed = sorted(it for it in waits if it >= 0)
-    counts = [len(waits), len(departed), sum(it == LOST for it in waits), sum(it == HELD for it in waits)]
-    told = [percentile_of(departed, it) for it in percents] if departed else [None] * len(percents)
+    departed = sorted(wait for wait in waits if wait >= 0)
+    counts = [len(waits), len(departed), sum(wait == LOST for wait in waits), sum(wait == HELD for wait in waits)]
+    found = [percentile_of(departed, percent) for percent in percents] if departed else [None] * len(percents)
     mean, greatest = (round(sum(departed) / len(departed), 3), departed[-1]) if departed else (None, None)
-    shares = [round(bisect_right(departed, it) / count, 6) if count else None for it in within for count in (len(waits), len(departed))]
-    return [*counts, mean, *told, greatest, *shares]
+    shares = [round(bisect_right(departed, item) / count, 6) if count else None for item in within for count in (len(waits), len(departed))]
+    return [*counts, mean, *found, greatest, *shares]
 
 
 def service(visits, within=(20,), percents=PERCENTS):
@@ -81,14 +81,14 @@ def service(visits, within=(20,), percents=PERCENTS):
     ['desk', 3, 2, 1, 0, 2.0, 4, 4, 0.333333, 0.5]
     """
     yield ["node", *heads(within, percents)]
-    for it in visits:
-        yield [it.node, *figures(it.wait, within, percents)]
+    for visit in visits:
+        yield [visit.node, *figures(visit.wait, within, percents)]
 
 
-def main(asked):
-    report = reports.report_of(asked)
-    visits = reports.visits_of(report, asked) or reports.all_visits(report)
+def main(args):
+    report = reports.report_of(args)
+    visits = reports.visits_of(report, args) or reports.all_visits(report)
     # Everything is computed before a row is written.
-    rows = list(service(visits, asked.within or (20,), asked.percentile or PERCENTS))
+    rows = list(service(visits, args.within or (20,), args.percentile or PERCENTS))
     with written() as file:
         csv.writer(file, lineterminator="\n").writerows(rows)

@@ -78,7 +78,7 @@ class Folder:
 
     def lacking(self):
         """Returns the numbers of the shards that aren't done."""
-        return [it for it in range(1, self.plan.shards + 1) if not os.path.exists(self.file(it))]
+        return [number for number in range(1, self.plan.shards + 1) if not os.path.exists(self.file(number))]
 
     def last_line(self, shard, text_sum):
         """Returns the last line of a shard's file."""
@@ -96,7 +96,7 @@ class Folder:
 
     def parts(self):
         """Returns the paths of the files of shards that are running, or were killed."""
-        return [os.path.join(folder, it) for folder, _, names in os.walk(self.path) for it in names if it.endswith(".part")]
+        return [os.path.join(folder, name) for folder, _, names in os.walk(self.path) for name in names if name.endswith(".part")]
 
     @staticmethod
     def is_left(part):
@@ -113,28 +113,28 @@ def run_shard(folder, shard):
     try:
         if sum_of(trace["path"]) != trace["sum"]:
             raise ValueError(f"{trace['path']}: the file has changed since the sweep began")
-        texts = [folder.plan.model(it)[2].encode(errors="surrogateescape") for it in models]
+        texts = [folder.plan.model(model)[2].encode(errors="surrogateescape") for model in models]
         made = hashlib.sha256()
         with _whole(folder.file(shard)) as out, sweep_text(trace["path"], texts) as stream:
             while piece := stream.read(1 << 20):
                 made.update(piece)
                 out.write(piece)
             out.write(folder.last_line(shard, made.hexdigest()))
-    except (Error, OSError, ValueError, MemoryError) as fault:
+    except (Error, OSError, ValueError, MemoryError) as error:
         # A full disk may have no room for this either.
         with contextlib.suppress(OSError), _whole(folder.failure(shard)) as out:
-            out.write(f"{socket.gethostname()}: {told_of(fault)}\n".encode(errors="backslashreplace"))
+            out.write(f"{socket.gethostname()}: {one_line(error)}\n".encode(errors="backslashreplace"))
         raise
     with contextlib.suppress(OSError):
         os.unlink(folder.failure(shard))
 
 
-def told_of(fault):
+def one_line(error):
     """Returns an error as one line."""
-    return (str(fault) or type(fault).__name__).split("\n", 1)[0]
+    return (str(error) or type(error).__name__).split("\n", 1)[0]
 
 
-def rows_of(plan, trace, at, scenario, told, nodes=()):
+def rows_of(plan, trace, at, scenario, pool_notes, nodes=()):
     """Yields the rows (lists) of a scenario, given the number of its model: one per node or pool, or one that says why it was refused. `told`
     (PoolLines) collects what to print about pools."""
     label, values, text = plan.model(at)
@@ -143,13 +143,13 @@ def rows_of(plan, trace, at, scenario, told, nodes=()):
         width = len(plan.head()) - len(head) - 1
         return [[*head, *[None] * width, scenario.refusal.told]]
     know_model(scenario.report, text)
-    told.see(scenario.report)
-    return [[*head, scenario.report.span, *it, None] for it in rows(scenario.report, nodes=nodes)]
+    pool_notes.see(scenario.report)
+    return [[*head, scenario.report.span, *row, None] for row in rows(scenario.report, nodes=nodes)]
 
 
-def gather(folder, damaged, told, nodes=()):
+def gather(folder, damaged, pool_notes, nodes=()):
     """Yields the header and the rows of the table from all finished shards, in the order of the scenarios. Damaged shards have no rows; `damaged`
-    (dict by number) gets the reason. `told` (PoolLines) collects what to print about pools."""
+    (dict by number) gets the reason. `pool_notes` (PoolLines) collects what to print about pools."""
     yield folder.plan.head()
     for shard in range(1, folder.plan.shards + 1):
         trace, models = folder.plan.shard(shard)
@@ -157,8 +157,8 @@ def gather(folder, damaged, told, nodes=()):
             sweep = Sweep.parse(folder.text(shard), models)
         except FileNotFoundError:
             continue
-        except (OSError, ValueError) as fault:
-            damaged[shard] = told_of(fault)
+        except (OSError, ValueError) as error:
+            damaged[shard] = one_line(error)
             continue
         for at, scenario in sweep.items():
-            yield from rows_of(folder.plan, trace, at, scenario, told, nodes)
+            yield from rows_of(folder.plan, trace, at, scenario, pool_notes, nodes)

@@ -62,7 +62,7 @@ def sojourns(report):
             gone = arrive if wait < 0 else depart
             if gone >= end[job]:
                 end[job], where[job], lost[job] = gone, number, wait < 0
-    names = [it.name for it in report.nodes]
+    names = [node.name for node in report.nodes]
     for job in range(1, count):
         if job not in held:
             yield Sojourn(job, names[source[job]], came[job], names[where[job]], bool(lost[job]), end[job] - came[job])
@@ -85,28 +85,28 @@ def table(report, by="both", within=(), percents=PERCENTS):
     is_by_source, is_by_end = by in ("both", "source"), by in ("both", "end")
     rank = {it.name: at for at, it in enumerate(report.nodes)}
     found = {}
-    for it in sojourns(report):
-        key = (rank[it.source] if is_by_source else -1, rank[it.left_at] if is_by_end else -1, it.lost and is_by_end)
-        found.setdefault(key, array("q")).append(it.sojourn)
+    for sojourn in sojourns(report):
+        key = (rank[sojourn.source] if is_by_source else -1, rank[sojourn.left_at] if is_by_end else -1, sojourn.lost and is_by_end)
+        found.setdefault(key, array("q")).append(sojourn.sojourn)
     heads = ["source"] * is_by_source + ["left_at", "how"] * is_by_end
-    yield [*heads, "jobs", "mean_sojourn", *(f"p{it:.15g}" for it in percents), "max", *(f"within_{it}" for it in within)]
-    names = [it.name for it in report.nodes]
+    yield [*heads, "jobs", "mean_sojourn", *(f"p{percent:.15g}" for percent in percents), "max", *(f"within_{item}" for item in within)]
+    names = [node.name for node in report.nodes]
     for (source, end, is_lost), times in sorted(found.items()):
         times = sorted(times)
         shown = [names[source]] * is_by_source + [names[end], "lost" if is_lost else "left"] * is_by_end
-        shares = [round(bisect_right(times, it) / len(times), 6) for it in within]
-        yield [*shown, len(times), round(sum(times) / len(times), 3), *(percentile_of(times, it) for it in percents), times[-1], *shares]
+        shares = [round(bisect_right(times, item) / len(times), 6) for item in within]
+        yield [*shown, len(times), round(sum(times) / len(times), 3), *(percentile_of(times, percent) for percent in percents), times[-1], *shares]
 
 
 def each(report):
     """Yields the header and the rows (lists) of a table with a row per job."""
     yield ["job", "source", "came", "left_at", "how", "sojourn"]
-    for it in sojourns(report):
-        yield [it.job, it.source, it.came, it.left_at, "lost" if it.lost else "left", it.sojourn]
+    for sojourn in sojourns(report):
+        yield [sojourn.job, sojourn.source, sojourn.came, sojourn.left_at, "lost" if sojourn.lost else "left", sojourn.sojourn]
 
 
-def main(asked):
-    report = reports.report_of(asked)
-    rows = each(report) if asked.each else list(table(report, asked.by, asked.within or (), asked.percentile or PERCENTS))
+def main(args):
+    report = reports.report_of(args)
+    rows = each(report) if args.each else list(table(report, args.by, args.within or (), args.percentile or PERCENTS))
     with written() as file:
         csv.writer(file, lineterminator="\n").writerows(rows)

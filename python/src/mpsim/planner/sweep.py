@@ -44,47 +44,47 @@ def words(parser):
     folder.add_argument("--shard", type=int, metavar="N", help="run one shard, and write no table")
 
 
-def _judged(asked):
+def _judged(args):
     """Raises ValueError for arguments that exclude each other."""
-    goes_on = asked.resume or asked.table or asked.shard is not None
-    if asked.folder is None and (goes_on or asked.parallel is not None or asked.slurm is not None):
+    goes_on = args.resume or args.table or args.shard is not None
+    if args.folder is None and (goes_on or args.parallel is not None or args.slurm is not None):
         raise ValueError("--parallel, --slurm, --resume, --table and --shard require --folder")
-    if asked.folder is not None and (asked.page or asked.within is not None):
+    if args.folder is not None and (args.page or args.within is not None):
         raise ValueError("--page and --within can't be used with --folder: they are made from what memory holds")
-    if goes_on and (asked.model or asked.set or asked.models or asked.traces):
-        raise ValueError(f"{asked.folder} already has its models, values and traces: give none with --resume, --table or --shard")
-    if asked.parallel is not None and asked.slurm is not None:
+    if goes_on and (args.model or args.set or args.models or args.traces):
+        raise ValueError(f"{args.folder} already has its models, values and traces: give none with --resume, --table or --shard")
+    if args.parallel is not None and args.slurm is not None:
         raise ValueError("--parallel and --slurm exclude each other: give one of them")
 
 
-def _plan(asked):
-    models, traces = ([it] if it else [] for it in (asked.model, asked.trace))
-    models, traces = files_of([*models, *asked.models]), files_of([*traces, *asked.traces])
-    judge_outputs([asked.page], {"model": models, "trace": traces})
-    plan = Plan.of(models, sets_of(asked.set), traces, asked.node)
-    for it in plan.traces:
-        if warning := pool_warning(it["path"], header_of(it["path"])):
+def _plan(args):
+    models, traces = ([item] if item else [] for item in (args.model, args.trace))
+    models, traces = files_of([*models, *args.models]), files_of([*traces, *args.traces])
+    judge_outputs([args.page], {"model": models, "trace": traces})
+    plan = Plan.of(models, sets_of(args.set), traces, args.node)
+    for trace in plan.traces:
+        if warning := pool_warning(trace["path"], header_of(trace["path"])):
             say(warning)
     return plan
 
 
 def _shares(report, ticks, nodes):
     """Yields, for each row of a report, the two shares served within this many ticks."""
-    for it in visits_at(report, names_of(report, nodes)):
-        shares = it.share_within(ticks), it.share_within(ticks, departed=True)
+    for visit in visits_at(report, names_of(report, nodes)):
+        shares = visit.share_within(ticks), visit.share_within(ticks, departed=True)
         yield [None if share is None else round(share, 6) for share in shares]
 
 
-def _tell_pools(told, how):
+def _print_pools(pool_notes, how):
     """Prints what was collected about pools (PoolLines), and how to get their missing figures."""
-    for line in [*told.lines(), *told.lacks(how)]:
+    for line in [*pool_notes.lines(), *pool_notes.lacks(how)]:
         say(line)
 
 
 def _scenarios(plan, shard, with_jobs):
     """Yields the scenarios of a shard as they come, with the numbers of their models."""
     trace, models = plan.shard(shard)
-    texts = [plan.model(it)[2].encode(errors="surrogateescape") for it in models]
+    texts = [plan.model(model)[2].encode(errors="surrogateescape") for model in models]
     if with_jobs:
         yield from zip(models, scenarios(trace["path"], texts, jobs=True))
         return
@@ -92,37 +92,37 @@ def _scenarios(plan, shard, with_jobs):
         yield from zip(models, scenarios_of(stream, range(len(texts))))
 
 
-def _in_memory(asked):
+def _in_memory(args):
     """Runs one shard after another. Rows are written as they come; reports are kept only for a page."""
-    plan, kept, refused, told = _plan(asked), Sweep(), False, PoolLines(asked.node)
+    plan, kept, refused, pool_notes = _plan(args), Sweep(), False, PoolLines(args.node)
     head = plan.head()
-    if asked.within is not None:
-        head[-1:-1] = [f"within_{asked.within}_of_all", f"within_{asked.within}_of_departed"]
-    with written() as file, Progress(plan.scenarios, "scenarios") as tell:
+    if args.within is not None:
+        head[-1:-1] = [f"within_{args.within}_of_all", f"within_{args.within}_of_departed"]
+    with written() as file, Progress(plan.scenarios, "scenarios") as progress:
         writer, done = csv.writer(file, lineterminator="\n"), 0
         writer.writerow(head)
         for shard in range(1, plan.shards + 1):
             trace = plan.shard(shard)[0]
-            for at, it in _scenarios(plan, shard, asked.within is not None):
-                found = shards.rows_of(plan, trace, at, it, told, asked.node)
-                if asked.within is not None:
-                    shares = _shares(it.report, asked.within, asked.node) if it.report is not None else [[None, None]]
+            for at, it in _scenarios(plan, shard, args.within is not None):
+                found = shards.rows_of(plan, trace, at, it, pool_notes, args.node)
+                if args.within is not None:
+                    shares = _shares(it.report, args.within, args.node) if it.report is not None else [[None, None]]
                     found = [[*row[:-1], *both, row[-1]] for row, both in zip(found, shares)]
                 writer.writerows(found)
                 refused, done = refused or it.status != 0, done + 1
-                if asked.page:
+                if args.page:
                     kept[_label(plan, trace, at)] = it
-                tell(done)
-    _tell_pools(told, "give planner sweep --within")
-    if asked.page:
-        kept.save(asked.page, title=" ".join(asked.set) or None, within=asked.within)
+                progress(done)
+    _print_pools(pool_notes, "give planner sweep --within")
+    if args.page:
+        kept.save(args.page, title=" ".join(args.set) or None, within=args.within)
     return 11 if refused else 0
 
 
 def _label(plan, trace, at):
     """Returns the label of a scenario on the page: its values, with the names of its model and its trace if there are several."""
     label, values, _ = plan.model(at)
-    words = [trace["label"]] * (len(plan.traces) > 1) + [label] * (len(plan.models) > 1 or not values) + [str(it) for it in values.values()]
+    words = [trace["label"]] * (len(plan.traces) > 1) + [label] * (len(plan.models) > 1 or not values) + [str(value) for value in values.values()]
     return ", ".join(words)
 
 
@@ -133,8 +133,8 @@ def _cleared(folder):
             folder.text(shard)
         except FileNotFoundError:
             pass
-        except ValueError as fault:
-            say(f"{fault}; it is run again")
+        except ValueError as error:
+            say(f"{error}; it is run again")
             os.unlink(folder.file(shard))
     for path in folder.parts():
         if folder.is_left(path):
@@ -143,24 +143,24 @@ def _cleared(folder):
 
 def _here(folder, lacking):
     """Runs one shard after another. If one fails, the others still run."""
-    with Progress(len(lacking), "shards") as tell:
+    with Progress(len(lacking), "shards") as progress:
         for done, shard in enumerate(lacking):
-            tell(done)
+            progress(done)
             try:
                 shards.run_shard(folder, shard)
-            except (Error, OSError, ValueError) as fault:
-                say(f"shard {shard}: {shards.told_of(fault)}")
+            except (Error, OSError, ValueError) as error:
+                say(f"shard {shard}: {shards.one_line(error)}")
 
 
-def _run(asked, folder):
-    if asked.resume:
+def _run(args, folder):
+    if args.resume:
         _cleared(folder)
     lacking = folder.lacking()
     say(f"{folder.plan.scenarios:,} scenarios in {folder.plan.shards:,} shards, {len(lacking):,} to run")
-    if lacking and asked.parallel is not None:
-        by_parallel(folder, lacking, shlex.split(asked.parallel))
-    elif lacking and asked.slurm is not None:
-        by_slurm(folder, lacking, shlex.split(asked.slurm))
+    if lacking and args.parallel is not None:
+        by_parallel(folder, lacking, shlex.split(args.parallel))
+    elif lacking and args.slurm is not None:
+        by_slurm(folder, lacking, shlex.split(args.slurm))
     else:
         _here(folder, lacking)
 
@@ -168,16 +168,16 @@ def _run(asked, folder):
 def ranges(numbers, most=20):
     """Returns rising numbers as text, such as "1-3, 7" for 1, 2, 3 and 7, in at most this many pieces."""
     pieces = []
-    for it in numbers:
-        if pieces and pieces[-1][1] == it - 1:
-            pieces[-1][1] = it
+    for number in numbers:
+        if pieces and pieces[-1][1] == number - 1:
+            pieces[-1][1] = number
         else:
-            pieces.append([it, it])
+            pieces.append([number, number])
     text = ", ".join(f"{first}-{last}" if first < last else str(first) for first, last in pieces[:most])
     return text + (f" and {len(pieces) - most} more" if len(pieces) > most else "")
 
 
-def _tell_lacking(folder, damaged):
+def _print_missing(folder, damaged):
     """Prints which shards are missing from the table, and why. Returns their number."""
     whys = {}
     for shard in sorted({*folder.lacking(), *damaged}):
@@ -199,34 +199,34 @@ def _tell_lacking(folder, damaged):
     return missing
 
 
-def _in_folder(asked):
-    if asked.resume or asked.table or asked.shard is not None:
-        folder = shards.Folder.read(asked.folder)
+def _in_folder(args):
+    if args.resume or args.table or args.shard is not None:
+        folder = shards.Folder.read(args.folder)
         # A shard has no rows.
-        if asked.shard is None:
-            folder.plan.judge_nodes(asked.node)
+        if args.shard is None:
+            folder.plan.judge_nodes(args.node)
     else:
-        folder = shards.Folder.begun(asked.folder, _plan(asked))
-    if asked.shard is not None:
-        if not 1 <= asked.shard <= folder.plan.shards:
-            raise ValueError(f"--shard {asked.shard}: {asked.folder} has shards 1 to {folder.plan.shards}")
+        folder = shards.Folder.begun(args.folder, _plan(args))
+    if args.shard is not None:
+        if not 1 <= args.shard <= folder.plan.shards:
+            raise ValueError(f"--shard {args.shard}: {args.folder} has shards 1 to {folder.plan.shards}")
         # Slurm restarts a task whose machine disappeared: finished shards stay.
-        if not os.path.exists(folder.file(asked.shard)):
-            shards.run_shard(folder, asked.shard)
+        if not os.path.exists(folder.file(args.shard)):
+            shards.run_shard(folder, args.shard)
         return 0
-    if not asked.table:
-        _run(asked, folder)
-    nodes = asked.node or folder.plan.nodes
-    damaged, refused, status, told = {}, False, folder.plan.head().index("status"), PoolLines(nodes)
+    if not args.table:
+        _run(args, folder)
+    nodes = args.node or folder.plan.nodes
+    damaged, refused, status, pool_notes = {}, False, folder.plan.head().index("status"), PoolLines(nodes)
     with written() as file:
         writer = csv.writer(file, lineterminator="\n")
-        for at, row in enumerate(shards.gather(folder, damaged, told, nodes)):
+        for at, row in enumerate(shards.gather(folder, damaged, pool_notes, nodes)):
             writer.writerow(row)
             refused = refused or at > 0 and row[status] != 0
-    _tell_pools(told, "give planner sweep --within, without --folder")
-    return 1 if _tell_lacking(folder, damaged) else 11 if refused else 0
+    _print_pools(pool_notes, "give planner sweep --within, without --folder")
+    return 1 if _print_missing(folder, damaged) else 11 if refused else 0
 
 
-def main(asked):
-    _judged(asked)
-    return _in_memory(asked) if asked.folder is None else _in_folder(asked)
+def main(args):
+    _judged(args)
+    return _in_memory(args) if args.folder is None else _in_folder(args)

@@ -17,7 +17,7 @@ EXAMPLE = """planner table report.txt >nodes.csv
 def words(parser):
     parser.add_argument("report", help="a report or a sweep, or a model")
     parser.add_argument("trace", nargs="?", help="after a model: the trace to run through it")
-    parser.add_argument("--of", choices=["nodes", "exits", "visits"], default="nodes", help="what has a row; default: nodes")
+    parser.add_argument("--of", choices=["nodes", "exits", "visits"], default="nodes", help="one row per node, exit or visit; default: nodes")
     parser.add_argument("--node", action="append", default=[], metavar="NAME", help="only rows of this node or pool; may be repeated")
     parser.add_argument("--labels", nargs="+", metavar="LABEL", help="labels for the scenarios of a sweep, e.g. the names of their models")
 
@@ -35,13 +35,13 @@ def rows(report, of="nodes", nodes=()):
     if of == "visits" and report.visits is None and report.jobs:
         raise ValueError("the report has no job lines: run mpsim with --jobs")
     if of == "visits":
-        return (list(it) for visits in (visits_at(report, names) if report.visits else ()) for it in visits)
+        return (list(visit) for visits in (visits_at(report, names) if report.visits else ()) for visit in visits)
     if of == "exits":
-        return (list(it) for it in report.exits if not nodes or it.name in nodes)
-    return ([*it[:-1], None if it.util is None else f"{it.util:.4f}"] for it in with_pools(report, nodes).values())
+        return (list(item) for item in report.exits if not nodes or item.name in nodes)
+    return ([*with_pool[:-1], None if with_pool.util is None else f"{with_pool.util:.4f}"] for with_pool in with_pools(report, nodes).values())
 
 
-def table(told, of="nodes", nodes=(), head="scenario"):
+def table(content, of="nodes", nodes=(), head="scenario"):
     """Yields the header and the rows (lists) of a report or a sweep. Rows of a sweep begin with the label, the status and the span of their scenario,
     and end with the error line of a refused one, which has one row.
 
@@ -54,10 +54,10 @@ def table(told, of="nodes", nodes=(), head="scenario"):
     ['desk', 0, 2, 11]
     """
     names = heads(of)
-    if not isinstance(told, Sweep):
-        return _with_head(names, rows(told, of, nodes))
+    if not isinstance(content, Sweep):
+        return _with_head(names, rows(content, of, nodes))
     # All scenarios are checked before a row is written.
-    found = [(it, rows(it.report, of, nodes) if it.report is not None else None) for it in told.values()]
+    found = [(item, rows(item.report, of, nodes) if item.report is not None else None) for item in content.values()]
     return _with_head([head, "status", "span", *names, "refusal"], _of_scenarios(found, len(names)))
 
 
@@ -74,17 +74,17 @@ def _of_scenarios(found, count):
             yield from ([it.label, it.status, it.report.span, *row, None] for row in mine)
 
 
-def main(asked):
-    if asked.trace is not None:
-        told = run(asked.report, asked.trace, jobs=asked.of == "visits")
+def main(args):
+    if args.trace is not None:
+        content = run(args.report, args.trace, jobs=args.of == "visits")
     else:
-        told = load(asked.report, asked.labels)
-    if asked.labels and not isinstance(told, Sweep):
+        content = load(args.report, args.labels)
+    if args.labels and not isinstance(content, Sweep):
         raise ValueError("--labels needs a sweep, but this is a single report")
     # All reports are checked before a row is written.
-    found = table(told, asked.of, asked.node)
-    reports = list(told.reports().values()) if isinstance(told, Sweep) else [told]
-    for line in pool_lines(reports, asked.node, asked.of == "nodes") if asked.of != "exits" else ():
+    found = table(content, args.of, args.node)
+    reports = list(content.reports().values()) if isinstance(content, Sweep) else [content]
+    for line in pool_lines(reports, args.node, args.of == "nodes") if args.of != "exits" else ():
         say(line)
     with written() as file:
         csv.writer(file, lineterminator="\n").writerows(found)

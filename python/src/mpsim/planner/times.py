@@ -50,8 +50,8 @@ def given(option, read, text):
     """Returns the meaning of an option's value. Raises ValueError with the option's name if it is invalid."""
     try:
         return read(text)
-    except ValueError as fault:
-        raise ValueError(f"{option} {text}: {fault}") from None
+    except ValueError as error:
+        raise ValueError(f"{option} {text}: {error}") from None
 
 
 def micros(moment):

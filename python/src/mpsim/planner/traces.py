@@ -67,8 +67,8 @@ class Trace:
                     for record, fields in records_of(lines):
                         texts.append(record if rows or not text.startswith("\ufeff") else "\ufeff" + record)
                         rows.append(fields)
-        except csv.Error as fault:
-            raise ValueError(f"{path}: record {len(rows)}: {fault}") from None
+        except csv.Error as error:
+            raise ValueError(f"{path}: record {len(rows)}: {error}") from None
         header, rows = (rows[0], rows[1:]) if rows else ([], [])
         if header[:2] != ["source", "time"]:
             raise ValueError(f"{path}: a trace begins with source,time, not with {','.join(header[:2])!r}")
@@ -103,7 +103,7 @@ class Trace:
         for name in columns:
             if name in self.header:
                 raise ValueError(f"{self.path}: it already has a column {name!r}")
-        more = zip(*[map(str, it) for it in columns.values()])
+        more = zip(*[map(str, column) for column in columns.values()])
         return Trace(self.path, [*self.header, *columns], [[*row, *it] for row, it in zip(self.rows, more)])
 
     def with_values(self, **columns):
@@ -123,7 +123,7 @@ class Trace:
     def texts(self):
         """Returns the header and the rows as texts (str), each with its line feed."""
         line_of = row_writer()
-        return (f"{line_of(it)}\n" for it in self.lines())
+        return (f"{line_of(line)}\n" for line in self.lines())
 
 
 def pool_warning(path, header):
@@ -135,8 +135,8 @@ def pool_warning(path, header):
     'calls.csv was made for a pool at desk'
     >>> pool_warning("calls.csv", ["source", "time", "desk_wait"])
     """
-    names = [it[: -len("_agent")] for it in header[2:] if it.endswith("_agent")]
-    pools = " and ".join(it for it in names if f"{it}_wait" in header[2:])
+    names = [item[: -len("_agent")] for item in header[2:] if item.endswith("_agent")]
+    pools = " and ".join(name for name in names if f"{name}_wait" in header[2:])
     why = "its waits hold only for this trace and this number of agents; scale or edit first, then pool"
     return f"warning: {path} was made for a pool at {pools}: {why}" if pools else None
 
@@ -153,19 +153,19 @@ def header_of(path):
 
 
 @contextlib.contextmanager
-def told_of(trace, records=None, model=None):
+def locating_errors(trace, records=None, model=None):
     """Corrects an Error raised in the block about a trace that was passed as rows: it gets the path of this trace (Trace) and the record's number in
     it. `records` (list of int, from 0) maps the rows passed to the trace's records, if they aren't all of them. An Error about the model gets the
     path of the model, if given."""
     try:
         yield
-    except Error as fault:
-        if fault.why.startswith("model") and model is not None:
-            fault.file = os.fsdecode(model)
-        elif fault.why.startswith("trace "):
-            fault.file = trace.path
-            if records is not None and fault.record is not None:
-                number = records[fault.record - 1] + 1
-                fault.why = fault.why.replace(f"record {fault.record}:", f"record {number}:", 1)
-                fault.record = number
+    except Error as error:
+        if error.why.startswith("model") and model is not None:
+            error.file = os.fsdecode(model)
+        elif error.why.startswith("trace "):
+            error.file = trace.path
+            if records is not None and error.record is not None:
+                number = records[error.record - 1] + 1
+                error.why = error.why.replace(f"record {error.record}:", f"record {number}:", 1)
+                error.record = number
         raise

@@ -89,7 +89,7 @@ class Zone:
 
     def _shift(self, quarter):
         """Returns by how much the clock is ahead of UTC during a quarter of an hour; None if it changes within."""
-        begin, end = (micros(self._here(it * QUARTER).replace(tzinfo=None)) - it * QUARTER for it in (quarter, quarter + 1))
+        begin, end = (micros(self._here(item * QUARTER).replace(tzinfo=None)) - item * QUARTER for item in (quarter, quarter + 1))
         return begin if begin == end else None
 
     def _here(self, value):
@@ -103,7 +103,7 @@ class Zone:
         """Returns the clock's offset from UTC at a moment, such as "+02:00"; empty without a zone."""
         return self._here(value).isoformat(timespec="seconds")[19:] if self.zone else ""
 
-    def told(self):
+    def notes(self):
         """Yields notes on the hours that occurred twice."""
         for day, count in sorted(self.again.items()):
             how = TWICE.get(self.twice, "as the first that isn't before the service begins")
