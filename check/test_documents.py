@@ -187,6 +187,6 @@ class Documents(Check):
 
 for page in PAGES:
     for heading, found in headings(page).items():
-        if (page, heading) in SHOWN or page != "docs/MODEL.md" and any(item.is_marked or is_command(item) or usage_of(item) for item in found):
+        if (page, heading) in SHOWN or page != "docs/MODEL.md" and any(it.is_marked or is_command(it) or usage_of(it) for it in found):
             name = re.sub(r"\W+", "_", f"{page.rsplit('/')[-1][:-3]}_{heading}".lower())
             setattr(Documents, f"test_{name}", lambda self, of=(page, heading, found): self.runs_below(*of))

@@ -100,11 +100,11 @@ class Options(Check):
     def test_statuses(self):
         for program in PROGRAMS:
             with self.subTest(program):
-                found = {status for _, cell, _ in rows_of("docs/ERRORS.md", ERRORS[program]) for status in cell.split(", ")} | {"0"}
+                told = {status for _, cell, _ in rows_of("docs/ERRORS.md", ERRORS[program]) for status in cell.split(", ")} | {"0"}
                 page = re.findall(r"^\.B (\d+)$", "\n".join(manual_section(program, "EXIT STATUS")), flags=re.MULTILINE)
-                self.same(f"docs/{program}.1", page, sorted(found, key=int))
+                self.same(f"docs/{program}.1", page, sorted(told, key=int))
         cells = [cell for cell, _ in rows_of("docs/EDITS.md", "## How it ends")]
-        self.same("docs/EDITS.md", sorted(int(part) for cell in cells for part in cell.split(", ")), sorted(map(int, found)))
+        self.same("docs/EDITS.md", sorted(int(it) for cell in cells for it in cell.split(", ")), sorted(map(int, told)))
 
 
 class Planner(Check):

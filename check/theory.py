@@ -1,17 +1,16 @@
 #!/usr/bin/env python3
-"""Compares mpsim with queueing theory on random jobs, and makes docs/VALIDATION.md and docs/validation.svg.
+"""Sets mpsim beside what queueing theory says, on random jobs, and makes docs/VALIDATION.md and docs/validation.svg.
 
-usage: check/theory.py [--jobs N] [--seeds S..] [--only TITLE] [--write]
+usage: check/theory.py [--jobs N] [--seeds S..] [--only TITLE] [--write]    a million jobs a run, seeds 1, 2 and 3, all sections; nothing is written
+TITLE is that of a section, or a part of several.
 
-By default a run has a million jobs, the seeds are 1, 2 and 3, all sections run, and nothing is written. TITLE is the title of a section, or a part of
-several titles.
+How far a figure may be from theory's isn't chosen: the jobs of a run are cut into 31 batches by the order in which they come, the first is left out
+(the network is empty when it begins), and the means of the other 30 give a standard error. A figure holds where it is at most 4.5 of these off: where
+all is well, one of a hundred runs of this program has a figure that is further off. Each figure is told on the output; the status is 1 where one doesn't
+hold.
 
-The tolerance is computed, not chosen: the jobs of a run are cut into 31 batches in order of arrival, the first is dropped (the network begins empty),
-and the means of the other 30 give a standard error. A figure holds if it is within 4.5 standard errors of theory: if all is well, one in a hundred
-runs of this program has a figure that is further off. Each figure is printed; the status is 1 if one doesn't hold.
-
-The programs are those that the package in python/src finds: those of MPSIM_PROGRAMS, or of this clone. A seed takes about four minutes of CPU time,
-most of it to read the output of mpsim.
+The programs are those that the package of python/src finds: those of MPSIM_PROGRAMS, or of this clone. A seed takes some four minutes of processor
+time, most of it to read what mpsim writes.
 """
 import argparse
 import heapq
@@ -26,8 +25,8 @@ ROOT = pathlib.Path(__file__).resolve().parent.parent
 sys.path.insert(0, str(ROOT / "python" / "src"))
 import mpsim
 
-# The number of batches that count, and the most standard errors by which a figure may differ: with Student's t of 29 degrees of freedom, 1 value in
-# 9,800 is further off, and three seeds have 117 figures.
+# Batches that count, and how many standard errors a figure may be off: of Student's t with 29 degrees of freedom 1 of 9,800 values is further out, and
+# three seeds have 117 figures.
 BATCHES, ALLOWED = 30, 4.5
 # The ticks of a mean service.
 TICKS = 1_000_000
@@ -35,7 +34,7 @@ SECTIONS = {}
 
 
 class Figure(NamedTuple):
-    """What is compared, the formula, the value of theory, that of the program, and the latter's standard error."""
+    """What is told, by which formula, what theory has, what the program has, and the standard error of that."""
 
     what: str
     formula: str
@@ -45,7 +44,7 @@ class Figure(NamedTuple):
 
     @property
     def off(self):
-        """Returns by how many standard errors the program's value is above that of theory."""
+        """How many standard errors the program's is above theory's."""
         difference = self.measured - self.theory
         return difference / self.error if self.error else math.copysign(math.inf, difference) if difference else 0.0
 
@@ -55,14 +54,14 @@ class Figure(NamedTuple):
 
 
 class Sample:
-    """The random jobs of a section, and the figures of their runs; also points of the picture, if needed."""
+    """The random jobs of a section, and the figures that are told of their runs; also points of the picture, where they are wanted."""
 
     def __init__(self, title, seed, jobs, drawn):
         self.draw, self.jobs, self.drawn = random.Random(f"{title} {seed}").random, jobs, drawn
         self.figures, self.points, self.nodes, self.visits, self.off_little = [], {}, 0, 0, []
 
     def arrivals(self, between):
-        """Returns random arrival times, with this many ticks between them on average."""
+        """Times at which jobs come at random, with so many ticks between them on average."""
         return list(accumulate(self.exponential(between)))
 
     def exponential(self, mean):
@@ -70,7 +69,7 @@ class Sample:
         return [round(-mean * math.log(1.0 - draw())) for _ in range(self.jobs)]
 
     def two_exponentials(self, mean, square):
-        """Returns exponential values with one of two means, so that the variance is `square` times the squared mean."""
+        """Each value is exponential, of one of two means, so that the variance is `square` times the mean's square."""
         share, draw = 0.5 * (1 + math.sqrt((square - 1) / (square + 1))), self.draw
         means = mean / (2 * share), mean / (2 - 2 * share)
         return [round(-means[draw() >= share] * math.log(1.0 - draw())) for _ in range(self.jobs)]
@@ -80,14 +79,14 @@ class Sample:
         return [int(high * draw()) for _ in range(self.jobs)]
 
     def run(self, model, times, *columns, sources=None):
-        """Runs with visits. The columns are a, b and so on; jobs come from `door` unless a list of sources is given."""
+        """A run with the visits. The columns are a, b and so on; jobs come from `door`, where no list of sources is given."""
         report = mpsim.run(model, trace_of(times, *columns, sources=sources), jobs=True)
         for node in report.nodes:
             self.little(node, report.visits[node.name])
         return report
 
     def little(self, node, visits):
-        """Little's law: the number in a node, summed over time, equals the sum of the times in it. Lost jobs spend no time there."""
+        """Little's law: the number in a node, summed over time, is the sum of the times in it. Who is lost is there for no time."""
         stays = sum(visits.depart) - sum(visits.arrive)
         if node.lost:
             stays = sum(depart - arrive for arrive, wait, depart in zip(visits.arrive, visits.wait, visits.depart) if wait >= 0)
@@ -95,13 +94,13 @@ class Sample:
         self.off_little += [node.name] * (stays != node.area)
 
     def tell(self, what, formula, theory, values, unit=1):
-        """Adds a figure that is a mean, of these values in order of arrival."""
+        """A figure that is a mean, of these values in the order in which the jobs came."""
         mean, error = mean_of(values)
         self.figures.append(Figure(what, formula, theory, mean / unit, error / unit))
 
     def tell_percentile(self, what, formula, theory, waits, percent, density, unit=TICKS):
-        """Adds a percentile. Its standard error is that of the share that waits no longer than theory's value, divided by the density of the waits
-        there."""
+        """A percentile. The share that waits no longer than theory's has a standard error, and over the density of the waits there it is that of
+        the percentile."""
         _, error = mean_of([wait <= theory * unit for wait in waits])
         kept = sorted(waits[len(waits) // (BATCHES + 1) :])
         self.figures.append(Figure(what, formula, theory, kept[-(-percent * len(kept) // 100) - 1] / unit, error / density))
@@ -113,15 +112,15 @@ def trace_of(times, *columns, sources=None):
 
 
 def mean_of(values):
-    """Returns the mean of all batches but the first, and its standard error."""
+    """The mean of all batches but the first, and its standard error."""
     size = len(values) // (BATCHES + 1)
     means = [sum(values[begin : begin + size]) / size for begin in range(size, (BATCHES + 1) * size, size)]
     mean = sum(means) / BATCHES
-    return mean, math.sqrt(sum((item - mean) ** 2 for item in means) / (BATCHES - 1) / BATCHES)
+    return mean, math.sqrt(sum((it - mean) ** 2 for it in means) / (BATCHES - 1) / BATCHES)
 
 
 def section(title, says):
-    """Registers a function that makes the runs of a section, with a description of it."""
+    """Puts a function that makes the runs of a section among the sections, with what is told of it."""
 
     def keep(work):
         SECTIONS[title] = work, says
@@ -198,7 +197,7 @@ def in_a_row(it):
 def by_chance(it):
     model = "model 1\nsource door\nsource web\nserver front a from door\nsplit ways cut d 500000 from front\nserver left b from ways\n"
     model += "server last c from left ways.1 web\n"
-    # Three of four jobs come through the door, and 4 of 10 of these go left; all go to the last server.
+    # Three of four jobs come by the door, and of these 4 of 10 go left; all come to the last server.
     shares, loads = {"front": 0.75, "left": 0.3, "last": 1}, {"front": 0.6, "left": 0.75, "last": 0.9}
     columns = [it.exponential(loads[name] / shares[name] * TICKS) for name in shares]
     ways = [0 if it.draw() < 0.4 else 1_000_000 for _ in range(it.jobs)]
@@ -247,7 +246,7 @@ def no_line_free(it):
 
 
 def queued(times, services, servers):
-    """Returns the wait of each job at several servers with one queue: until the first server is free."""
+    """How long each job waits at several servers with one queue: until the first of them is free."""
     free, waits = [0] * servers, []
     for time, service in zip(times, services):
         begin = max(time, free[0])
@@ -346,7 +345,7 @@ def main():
                 print(f"{'ok' if it.holds else 'NO'} seed {seed}, {title}: {it.what}: {it.theory:.5g} by theory, {it.measured:.5g}, off {it.off:+.1f}", flush=True)
             for node in sample.off_little:
                 print(f"NO seed {seed}, {title}: Little's law at {node}", flush=True)
-            holds = holds and all(figure.holds for figure in sample.figures) and not sample.off_little
+            holds = holds and all(it.holds for it in sample.figures) and not sample.off_little
     if words.write:
         from theory_page import page, picture
 

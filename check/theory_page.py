@@ -1,9 +1,9 @@
-"""The output of theory.py: docs/VALIDATION.md and its picture."""
+"""What theory.py writes: docs/VALIDATION.md and its picture."""
 import math
 
 from theory import ALLOWED, SECTIONS, erlang_b
 
-# The ends of a panel's axes, in the picture's units; shares go from 1 down to LEAST.
+# Where the axes of a panel begin and end, in the picture's units; shares go from 1 down to LEAST.
 TOP, BOTTOM, WIDTH, LEAST = 40, 265, 290, 1e-4
 LINE, MARK, DARK = "#1f5fa8", "#b3400a", "#333"
 
@@ -13,22 +13,22 @@ def number(value):
 
 
 def table(samples):
-    """Returns the table of a section: the first seed's figures, and how far off those of each seed are."""
+    """The table of a section: the first seed's figures, and how far off those of each seed are."""
     seeds = len(samples)
     yield f"| What | Formula | Theory | mpsim | Standard error | {' | '.join(['Off', *[''] * (seeds - 1)])} |"
     yield f"|{'---|' * (5 + seeds)}"
-    for row in zip(*[sample.figures for sample in samples]):
+    for row in zip(*[it.figures for it in samples]):
         first = row[0]
-        offs = " | ".join(f"{item.off:+.1f}" + ("" if item.holds else " **no**") for item in row)
+        offs = " | ".join(f"{it.off:+.1f}" + ("" if it.holds else " **no**") for it in row)
         yield f"| {first.what} | {first.formula} | {number(first.theory)} | {number(first.measured)} | {first.error:.2g} | {offs} |"
 
 
 def page(found, words):
-    """Returns the page, from samples by the titles of their sections, one per seed."""
-    figures = [figure for samples in found.values() for sample in samples for figure in sample.figures]
-    samples = [sample for samples in found.values() for sample in samples]
-    nodes, visits = sum(sample.nodes for sample in samples), sum(sample.visits for sample in samples)
-    off = [name for sample in samples for name in sample.off_little]
+    """The page, of samples by the titles of their sections, one for each seed."""
+    figures = [it for samples in found.values() for sample in samples for it in sample.figures]
+    samples = [it for samples in found.values() for it in samples]
+    nodes, visits = sum(it.nodes for it in samples), sum(it.visits for it in samples)
+    off = [name for it in samples for name in it.off_little]
     lines = [
         "# Beside theory",
         "",
@@ -98,7 +98,7 @@ class Panel:
 
 
 def picture(found):
-    """Draws two panels, if their sections exist: the share of M/M/1 that waits longer, and the share lost over the number of lines."""
+    """Two panels, where their sections are there: the share of M/M/1 that waits longer, and the share lost over the number of lines."""
     panels = []
     if "M/M/1" in found:
         panel = Panel(50, "M/M/1, load 0.8: share that waits longer", 0, 50, (0, 10, 20, 30, 40, 50), "mean services")
