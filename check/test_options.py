@@ -1,5 +1,5 @@
-"""Options and statuses are the same wherever they stand: in the usage line that a program writes, the head of its script, its man page, its completions,
-docs/ERRORS.md, docs/REPORT.md and docs/EDITS.md; and the words of `planner` are those of its parsers."""
+"""Checks that options and statuses agree wherever they appear: in a program's usage line, its script, its man page, its completions, docs/ERRORS.md,
+docs/REPORT.md and docs/EDITS.md; and that those of `planner` are those of its parsers."""
 import re
 import shlex
 import shutil
@@ -14,17 +14,17 @@ def text_of(name):
 
 
 def forms_of(program):
-    """The forms of a program's words, from the usage line that it writes."""
+    """Returns the forms of a program's arguments, from its usage line."""
     return run(program).line.decode().rstrip("\n").removeprefix(f"{program}: usage: ").split(" or ")
 
 
 def options_of(text):
-    """The options that a text names, in order, each once."""
+    """Returns the options that a text names, in order, each once."""
     return sorted(set(re.findall(r"--[a-z]+", text)))
 
 
 def plain(line):
-    """A line of a man page as it is shown: words in two fonts by turns stand side by side without a space."""
+    """Returns a line of a man page as shown: words in alternating fonts are joined without a space."""
     macro, *words = shlex.split(line.replace("'", "\\'"))
     if not macro.startswith("."):
         return line
@@ -32,7 +32,7 @@ def plain(line):
 
 
 def rows_of(page, heading=""):
-    """The cells of the first table of a page below a heading."""
+    """Returns the cells of the first table of a page below a heading."""
     text = text_of(page)
     lines = text[text.index(f"\n{heading}\n") if heading else 0 :].splitlines()
     first = next(at for at, line in enumerate(lines) if line.startswith("| "))
@@ -48,7 +48,7 @@ def numbers_of(text):
     return set(re.findall(r"\d+", text.replace(",", "")))
 
 
-# The table of a program in docs/ERRORS.md stands below this heading.
+# The heading in docs/ERRORS.md above the table of each program.
 ERRORS = {"mpsim": "", "mpsweep": "## `mpsweep`", "mpedit": "## `mpedit`"}
 
 
@@ -61,14 +61,14 @@ class Options(Check):
                 self.same("docs/ERRORS.md", (line, status), (f"`{program}: usage: {' or '.join(forms)}`", "2"))
                 head = re.findall(r"^# (?:Runs the program:|or) \./(.*)$", text_of(program), flags=re.MULTILINE)
                 self.same(f"the head of the script {program}", head, forms)
-                synopsis = " ".join("\n" if it == ".br" else plain(it) for it in manual_section(program, "SYNOPSIS"))
-                self.same(f"docs/{program}.1", [it.strip() for it in synopsis.split("\n")], forms)
+                synopsis = " ".join("\n" if item == ".br" else plain(item) for item in manual_section(program, "SYNOPSIS"))
+                self.same(f"docs/{program}.1", [part.strip() for part in synopsis.split("\n")], forms)
 
     def test_names_of_options(self):
         for program in PROGRAMS:
             with self.subTest(program):
                 options = options_of(" ".join(forms_of(program)))
-                described = "\n".join(it for it in manual_section(program, "OPTIONS") if it.startswith(".B"))
+                described = "\n".join(item for item in manual_section(program, "OPTIONS") if item.startswith(".B"))
                 self.same(f"docs/{program}.1", options_of(described), options)
                 self.same(f"completions/_{program}", sorted(re.findall(r"^ *'(--[a-z]+)\[", text_of(f"completions/_{program}"), flags=re.MULTILINE)), options)
                 if (ROOT / "completions" / f"{program}.bash").is_file():
@@ -76,19 +76,19 @@ class Options(Check):
         self.same("docs/REPORT.md", options_of("".join(words for words, _ in rows_of("docs/REPORT.md", "## Options"))), options_of(" ".join(forms_of("mpsim"))))
 
     def test_what_bash_completes(self):
-        """All options, but for those that stand there already; both forms of the report; else files."""
+        """All options that aren't given yet; both forms of the report; otherwise files."""
         if not shutil.which("bash"):
             self.skipTest("no bash here")
         options = options_of(" ".join(forms_of("mpsim")))
         for before, wanted in (["-"], options), (["--jobs", "-"], [it for it in options if it != "--jobs"]), (["--report", ""], ["1", "2"]), (["--block", ""], []):
-            words = " ".join(shlex.quote(it) for it in ["mpsim", *before])
+            words = " ".join(shlex.quote(item) for item in ["mpsim", *before])
             script = f"source completions/mpsim.bash; COMP_WORDS=({words}); COMP_CWORD={len(before)}; _mpsim; echo ${{COMPREPLY[@]}}"
             self.same(f"bash behind {words}", sorted(run("bash", "-c", script).out.decode().split()), wanted)
 
     def test_ranges_of_numbers(self):
-        """The numbers of the line that refuses an option's value stand in its descriptions."""
+        """The numbers in the error line for an option's value also appear in its descriptions."""
         rows, page = rows_of("docs/REPORT.md", "## Options"), "\n".join(manual_section("mpsim", "OPTIONS"))
-        described = {options_of(it)[0]: it for it in page.split(".TP")[1:]}
+        described = {options_of(part)[0]: part for part in page.split(".TP")[1:]}
         for line, _, _ in rows_of("docs/ERRORS.md"):
             for option in re.findall(r"`mpsim: (--[a-z]+) takes ", line):
                 numbers = numbers_of(line)
@@ -108,7 +108,7 @@ class Options(Check):
 
 
 class Planner(Check):
-    """What its parsers say, in its man page and its completions, which check/planner_words.py writes; and what its help says."""
+    """The man page and the completions, which check/planner_words.py writes from the parsers; and the help."""
 
     def test_files(self):
         for file, made in (planner_words.BASH, planner_words.bash()), (planner_words.ZSH, planner_words.zsh()):
@@ -117,33 +117,33 @@ class Planner(Check):
         self.same("docs/planner.1: check/planner_words.py writes its commands", page, planner_words.with_commands(page))
 
     def helps(self):
-        """The options that the help of each command has, by its name."""
+        """Yields the options in the help of each command, by its name."""
         for name in planner_words.COMMANDS:
-            told = run(ROOT / "tools" / "planner", name, "--help").out.decode()
-            yield name, sorted(re.findall(r"^  (?:-h, )?(--[a-z-]+)", told, flags=re.MULTILINE))
+            found = run(ROOT / "tools" / "planner", name, "--help").out.decode()
+            yield name, sorted(re.findall(r"^  (?:-h, )?(--[a-z-]+)", found, flags=re.MULTILINE))
 
     def completed(self, *before):
-        """What bash completes behind these words."""
-        words = " ".join(shlex.quote(it) for it in ["planner", *before])
+        """Returns what bash completes after these words."""
+        words = " ".join(shlex.quote(item) for item in ["planner", *before])
         script = f"compopt() {{ :; }}; source completions/planner.bash; COMP_WORDS=({words}); COMP_CWORD={len(before)}; _planner; echo ${{COMPREPLY[@]}}"
         return sorted(run("bash", "-c", script).out.decode().split())
 
     def test_help(self):
         """All options of each command are in all three, and no others."""
-        commands = "".join(f"{it}\n" for it in manual_section("planner", "COMMANDS")).split(".SS ")[1:]
-        described = {it.split("\n", 1)[0]: re.findall(r"^\.TP\n\.BI? (--[a-z-]+)", it, flags=re.MULTILINE) for it in commands}
+        commands = "".join(f"{item}\n" for item in manual_section("planner", "COMMANDS")).split(".SS ")[1:]
+        described = {command.split("\n", 1)[0]: re.findall(r"^\.TP\n\.BI? (--[a-z-]+)", command, flags=re.MULTILINE) for command in commands}
         zsh = planner_words.ZSH.read_text().split(";;")
         for name, options in self.helps():
-            wanted = [it for it in options if it != "--help"]
+            wanted = [option for option in options if option != "--help"]
             self.same(f"docs/planner.1, {name}", sorted(described.pop(name)), wanted)
-            mine = next(it for it in zsh if f"\n    {name})\n" in it)
+            mine = next(item for item in zsh if f"\n    {name})\n" in item)
             self.same(f"completions/_planner, {name}", sorted(re.findall(r"^ *'\*?(--[a-z-]+)(?:=-)?\[", mine, flags=re.MULTILINE)), options)
             if shutil.which("bash"):
                 self.same(f"completions/planner.bash, {name}", self.completed(name, "-"), options)
         self.same("further commands in docs/planner.1", described, {})
 
     def test_what_bash_completes(self):
-        """Commands; all options, but for those that stand there already and may stand once; the choices of a value; else files."""
+        """Commands; all options that aren't given yet or may be repeated; the choices of a value; otherwise files."""
         if not shutil.which("bash"):
             self.skipTest("no bash here")
         for before, wanted in (
@@ -163,9 +163,9 @@ class Planner(Check):
         self.did(run("zsh", "-n", planner_words.ZSH))
 
     def test_words_of_its_own(self):
-        described = "\n".join(it for it in manual_section("planner", "OPTIONS") if it.startswith(".B"))
+        described = "\n".join(item for item in manual_section("planner", "OPTIONS") if item.startswith(".B"))
         self.same("docs/planner.1", options_of(described), sorted(planner_words.OWN))
-        told = run(ROOT / "tools" / "planner", "--help").out.decode()
-        self.same("its help", re.findall(r"^  (?:-h, )?(--[a-z-]+)", told, flags=re.MULTILINE), list(planner_words.OWN))
+        found = run(ROOT / "tools" / "planner", "--help").out.decode()
+        self.same("its help", re.findall(r"^  (?:-h, )?(--[a-z-]+)", found, flags=re.MULTILINE), list(planner_words.OWN))
         page = re.findall(r"^\.B (\d+)$", "\n".join(manual_section("planner", "EXIT STATUS")), flags=re.MULTILINE)
         self.same("statuses", page, ["0", "1", "2", "11", "130", "141"])

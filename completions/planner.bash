@@ -1,5 +1,5 @@
-# Completions of planner for bash. Source this file, or put it into the folder of completions under the name planner.
-# check/planner_words.py writes it.
+# Bash completions for planner. Source this file, or install it as `planner` in the directory of completions.
+# Written by check/planner_words.py.
 _planner() {
     local word=${COMP_WORDS[COMP_CWORD]} i choices='' given=' ' options='' repeated=' ' left=''
     COMPREPLY=()
@@ -80,7 +80,7 @@ _planner() {
         return
     fi
     if [[ $word == -* ]]; then
-        # Most options may stand once.
+        # Most options may be given once.
         for ((i = 2; i < COMP_CWORD; i++)); do
             given+="${COMP_WORDS[i]} "
         done

@@ -1,26 +1,26 @@
-"""Names by the rule of models, made of what an export has: a small letter, then small letters, digits and underscores, 32 at most."""
+"""Makes names that models allow from the texts of an export: a lower-case letter, then lower-case letters, digits and underscores, at most 32."""
 
 import re
 import unicodedata
 
-# What Unicode doesn't take apart into a letter and a mark.
+# Letters that Unicode doesn't decompose into a letter and a mark.
 _LETTERS = {"ß": "ss", "æ": "ae", "œ": "oe", "ø": "o", "ł": "l", "đ": "d", "ð": "d", "þ": "th", "ı": "i", "&": " and ", "%": " percent "}
-# Names of a trace's own columns, and a word of the models.
+# The trace's own columns, and a keyword of models.
 TAKEN = "from", "source", "time"
 
 
 def is_name(text):
-    """Whether a text may name a source or a column."""
+    """Returns whether a text may name a source or a column."""
     return bool(re.fullmatch(r"[a-z][a-z0-9_]{0,31}", text)) and text not in TAKEN
 
 
 def name_for(text, taken=()):
-    """A name that tells what a text told, and is none of those that are taken.
+    """Returns a name that resembles a text and isn't among those taken.
 
     >>> name_for("Verkauf & Büro"), name_for("24h"), name_for("Büro", ["buro"])
     ('verkauf_and_buro', 'x_24h', 'buro_2')
     """
-    plain = unicodedata.normalize("NFKD", "".join(_LETTERS.get(it, it) for it in text.lower())).encode("ascii", "ignore").decode()
+    plain = unicodedata.normalize("NFKD", "".join(_LETTERS.get(item, item) for item in text.lower())).encode("ascii", "ignore").decode()
     name = re.sub(r"[^a-z0-9]+", "_", plain).strip("_") or "x"
     if not name[0].isalpha() or name in TAKEN:
         name = "x_" + name

@@ -1,4 +1,4 @@
-"""A trace from an export: what a telephone system, a till or a spreadsheet writes. What can't be known is refused, with the option that says it."""
+"""Makes a trace from an export of a telephone system, a till or a spreadsheet. If the export is ambiguous, the error names the option to set."""
 
 import contextlib
 import csv
@@ -6,7 +6,7 @@ import os
 from array import array
 from itertools import islice
 
-from .calendar import Calendar, length_text, tick_of, told_in
+from .calendar import Calendar, length_text, tick_of, settings_in
 from .exports import Export
 from .files import all_written, bytes_of, counted, judge_outputs, say, written
 from .formats import NUMBERS, looks_like_clocks
@@ -24,45 +24,53 @@ from .zones import TWICE, Zone
 EXAMPLE = (
     "planner prepare calls.csv --time Zeit --source Abteilung --demand 'Dauer=talk:min' --zone Europe/Berlin --out trace.csv --first-lines model.txt"
 )
-# What a trace and a model have at most.
+# The limits of a trace and a model.
 RECORDS, GREATEST_TIME, SOURCES = 1 << 20, 1 << 60, 63
-# A field of more lines is told, and one of more characters refused: behind a quote that is left open all is one field.
+# A field with more lines is reported, one with more characters rejected: an unclosed quote makes one field of the rest.
 LINES, FIELD = 20, 1 << 17
 
 
 def words(parser):
-    """Declares the words of `planner prepare`."""
+    """Declares the arguments of `planner prepare`."""
     add = parser.add_argument
-    add("export", help="a file, or /dev/stdin")
-    add("--time", required=True, metavar="COLUMN", help="when a job comes")
-    add("--format", metavar="FORMAT", help=f"of the time: as strptime has it, iso, rfc, clock (h:mm:ss) or {', '.join(NUMBERS)}; else it is found")
-    add("--date", metavar="COLUMN", help="the day, where the time is in a column of its own")
-    add("--date-format", metavar="FORMAT", help="of the day; else it is found")
-    add("--day", nargs=3, metavar=("YEAR", "MONTH", "DAY"), help="the day, where it is in three columns of numbers; the time is in a further one")
-    add("--zone", metavar="NAME", help="the time zone of times without an offset, as Europe/Berlin; without it days have 24 hours")
-    add("--twice", choices=list(TWICE), help="which hour is meant where clocks are set back; order: the second from where the file goes back")
-    add("--tick", metavar="LENGTH", help="what a tick is: 1s, 100ms, 1min; else what the first lines of --model tell, or 1s")
-    add("--begin", default="hour", metavar="WHEN", help="time 0: hour (the last full one before the first job), day, first, 8:00, or in ISO 8601")
-    add("--source", metavar="COLUMN", help="who sends the job: a column, or one name for all")
-    units = f"UNIT is s, or one of {', '.join(Lengths.NAMES)}"
-    add("--demand", action="append", default=[], metavar="COLUMN[=NAME][:UNIT]", help=f"a service; {units}; those of one NAME are added up")
-    add("--end", action="append", default=[], metavar="COLUMN[=NAME]", help="a service from its end: it begins at --answered, or else at --time")
-    add("--answered", action="append", default=[], metavar="COLUMN", help="when the services of --end begin: one column for all, or one for each")
-    add("--constant", action="append", default=[], metavar="NAME=LENGTH", help="a service that all have, as wrap=90s")
-    codes = "a column of words as numbers, for a split: those that --model tells, or from 0"
+    add("export", help="the export: a file, or /dev/stdin")
+    add("--time", required=True, metavar="COLUMN", help="column with the time at which a job arrives")
+    says = f"format of the times: a strptime format, iso, rfc, clock (h:mm:ss) or {', '.join(NUMBERS)}; default: detected"
+    add("--format", metavar="FORMAT", help=says)
+    add("--date", metavar="COLUMN", help="column with the day, if the time is in a column of its own")
+    add("--date-format", metavar="FORMAT", help="format of the day; default: detected")
+    says = "three columns with the year, month and day as numbers, if the time is in another column"
+    add("--day", nargs=3, metavar=("YEAR", "MONTH", "DAY"), help=says)
+    add("--zone", metavar="NAME", help="time zone of times without an offset, e.g. Europe/Berlin; without it every day has 24 hours")
+    add("--twice", choices=list(TWICE), help="which hour is meant when clocks are set back; order: the second from where times in the file go back")
+    add("--tick", metavar="LENGTH", help="length of a tick, e.g. 1s, 100ms or 1min; default: from the comments of --model, or 1s")
+    begins = "time 0: hour (the last full hour before the first job, the default), day, first, a time of day such as 8:00, or an ISO 8601 time"
+    add("--begin", default="hour", metavar="WHEN", help=begins)
+    add("--source", metavar="COLUMN", help="column with the source of a job, or one name for all jobs")
+    units = f"UNIT is one of {', '.join(Lengths.NAMES)}, by default s"
+    says = f"column with a service time; {units}; columns of one NAME are added up"
+    add("--demand", action="append", default=[], metavar="COLUMN[=NAME][:UNIT]", help=says)
+    says = "column with the end of a service, which begins at --answered, or else at --time"
+    add("--end", action="append", default=[], metavar="COLUMN[=NAME]", help=says)
+    says = "column with the time at which services of --end begin: one for all, or one per --end"
+    add("--answered", action="append", default=[], metavar="COLUMN", help=says)
+    add("--constant", action="append", default=[], metavar="NAME=LENGTH", help="a service time that all jobs have, e.g. wrap=90s")
+    codes = "column of words, written as numbers for a split; the numbers come from --model, or count from 0"
     add("--code", action="append", default=[], metavar="COLUMN[=NAME]", help=codes)
-    add("--empty", metavar="LENGTH", help="what an empty service is; else its row is left out")
-    add("--rename", action="append", default=[], metavar="OLD=NEW", help="a name for a source, which is OLD in the export")
-    add("--decimal", choices=[".", ","], help="the decimal mark; else it is found")
-    add("--delimiter", metavar="CHARACTER", help="else it is found; \\t is a tab")
-    add("--encoding", metavar="NAME", help="else UTF-8, UTF-16 with a mark, or Windows-1252, which has what Latin-1 has")
-    add("--skip", type=int, default=0, metavar="N", help="lines before the header, which are left out")
-    add("--header", metavar="NAMES", help="names of the columns, parted by commas, where the export has no header")
-    add("--model", metavar="FILE", help="a model: its order of sources counts at one time, other sources are left out, and its columns must be there")
-    add("--left-out", metavar="FILE", help="the rows that are left out, with their number and the reason")
-    add("--first-lines", metavar="FILE", help="the first lines of a model")
-    add("--out-model", metavar="FILE", help="the model of --model, with the tick, time 0 and codes of this trace")
-    add("--out", metavar="FILE", help="the trace; else it goes to the output")
+    add("--empty", metavar="LENGTH", help="service time of an empty field; default: its row is left out")
+    add("--rename", action="append", default=[], metavar="OLD=NEW", help="name in the trace (NEW) of a source in the export (OLD)")
+    add("--decimal", choices=[".", ","], help="decimal mark; default: detected")
+    add("--delimiter", metavar="CHARACTER", help="character between fields, \\t for a tab; default: detected")
+    says = "text encoding; default: detected (UTF-8, UTF-16 with a byte order mark, or Windows-1252, a superset of printable Latin-1)"
+    add("--encoding", metavar="NAME", help=says)
+    add("--skip", type=int, default=0, metavar="N", help="number of lines to skip before the header")
+    add("--header", metavar="NAMES", help="column names, separated by commas, for an export without a header")
+    judges = "a model: it sets the order of sources at equal times; rows of other sources are left out; its columns must be present"
+    add("--model", metavar="FILE", help=judges)
+    add("--left-out", metavar="FILE", help="write the rows that are left out, with their number and the reason")
+    add("--first-lines", metavar="FILE", help="write the first lines of a model for this trace")
+    add("--out-model", metavar="FILE", help="write a copy of --model with the tick, time 0 and codes of this trace")
+    add("--out", metavar="FILE", help="write the trace here; default: standard output")
 
 
 def prepare(
@@ -93,9 +101,11 @@ def prepare(
     model=None,
     left_out=None,
 ):
-    """The trace (Prepared) of an export, which is a path or bytes. The others are the options of `planner prepare`, as texts; but `day` is a list of
-    three, `model` the text of a model, and `left_out` an open file for the rows that are left out. Raises OSError where the export can't be read, and
-    ValueError where an option is none, more has to be said, or no row is left.
+    """Returns the trace (Prepared) made from an export, which is a path or bytes.
+
+    The other arguments are the options of `planner prepare`, as texts, except that `day` is a list of three, `model` is the text of a model, and
+    `left_out` is an open file for the rows left out. Raises OSError if the export can't be read, and ValueError for an invalid option, if another is
+    needed, or if no rows are left.
 
     >>> export = b"When;Who;Long\\n02.03.2026 08:00:17;Desk;1,5\\n02.03.2026 08:00:05;Desk;0,5\\n"
     >>> list(prepare(export, "When", source="Who", demand=["Long=talk:min"]).rows())
@@ -103,7 +113,7 @@ def prepare(
     """
     per, place = _tick(tick, model), Zone(zone, twice)
     if skip < 0:
-        raise ValueError(f"--skip {skip}: it is at least 0")
+        raise ValueError(f"--skip {skip}: expected a number of lines, 0 or more")
     name = "the export" if isinstance(export, (bytes, bytearray)) else os.fspath(export)
     data = bytes(export) if isinstance(export, (bytes, bytearray)) else bytes_of(export)
     try:
@@ -113,261 +123,260 @@ def prepare(
             plan.values(demand, end, constant, code, empty)
             plan.sources(source, rename)
             return _finished(plan, _read(plan, left_out), begin)
-    except ValueError as fault:
-        raise ValueError(f"{name}: {fault}") from None
+    except ValueError as error:
+        raise ValueError(f"{name}: {error}") from None
     except OverflowError:
-        raise ValueError(f"{name}: times are before the year 1 or after the year 9999: is it another --format?") from None
+        raise ValueError(f"{name}: times are before the year 1 or after the year 9999: is --format right?") from None
 
 
 def _tick(tick, model):
-    """The microseconds of a tick that is given, or else of that which a model tells, where either is there."""
-    told, _, _ = told_in(model or "")
-    per = given("--tick", tick_of, tick) if tick else told or SECOND
-    if told not in (None, per):
-        raise ValueError(f"--tick {tick}: a tick of the model is {length_text(told)}")
+    """Returns the microseconds of a tick: the one given, else the model's, else a second."""
+    known, _, _ = settings_in(model or "")
+    per = given("--tick", tick_of, tick) if tick else known or SECOND
+    if known not in (None, per):
+        raise ValueError(f"--tick {tick}: in the model a tick is {length_text(known)}")
     return per
 
 
 class _Rows:
-    """What is read, in the order of the export: sources, moments, values; and the rows that are left out, by reason how many, and the first."""
+    """The rows read, in the order of the export: sources, moments and values; and, per reason, the number of rows left out and the first of them."""
 
     def __init__(self, count):
         self.sources, self.stamps, self.values, self.left, self.long = [], array("q"), [array("q") for _ in range(count)], {}, 0
 
     def extend(self, columns):
-        """Adds records that are read, as columns: sources, moments, and each of the values."""
+        """Adds records, given as columns: sources, moments, and each of the values."""
         for column, more in zip((self.sources, self.stamps, *self.values), columns):
             column.extend(more)
         if len(self.stamps) > RECORDS:
-            raise ValueError(f"more than {RECORDS:,} records, which a trace can't have: cut the export")
+            raise ValueError(f"more than {RECORDS:,} records, the limit of a trace: shorten the export")
 
-    def leave(self, number, header, fault, row):
-        """Counts a row that is left out, and gives the reason."""
-        why, first = fault.why, f"row {number}"
-        if fault.column is not None:
-            why = f"{header[fault.column]} is empty" if why == "empty" else f"{header[fault.column]}: {why}"
-            first += f", {row[fault.column]!r}" if row[fault.column].strip() else ""
+    def leave(self, number, header, error, row):
+        """Counts a row that is left out and returns the reason."""
+        why, first = error.why, f"row {number}"
+        if error.column is not None:
+            why = f"{header[error.column]} is empty" if why == "empty" else f"{header[error.column]}: {why}"
+            first += f", {row[error.column]!r}" if row[error.column].strip() else ""
         self.left.setdefault(why, [0, first])[0] += 1
         return why
 
 
 def _read(plan, left_out):
-    """The rows (_Rows) of an export; those that are left out are written into a file, where one is given."""
+    """Reads the rows (_Rows) of an export, and writes those left out to a file, if given."""
     rows, number = plan.export.rows()
     made, lines = _Rows(len(plan.columns)), 0
     writer = csv.writer(left_out, lineterminator="\n") if left_out is not None else None
     if writer:
         writer.writerow(["row", "reason", *plan.export.header])
-    with uncollected(), Progress(plan.export.size, "rows") as tell:
+    with uncollected(), Progress(plan.export.size, "rows") as progress:
         try:
             while some := list(islice(rows, CHUNK)):
                 for at, why in _read_some(plan, some, number, made):
                     if writer:
                         writer.writerow([at, why, *some[at - number]])
                 if rows.line_num - lines > len(some) + LINES:
-                    made.long += any(it.count("\n") > LINES for row in some for it in row)
+                    made.long += any(item.count("\n") > LINES for row in some for item in row)
                 number, lines = number + len(some), rows.line_num
-                tell(number)
-        except csv.Error as fault:
-            raise ValueError(f"behind row {number - 1}: {fault}: is a quote not closed?") from None
+                progress(number)
+        except csv.Error as error:
+            raise ValueError(f"after row {number - 1}: {error}: is a closing quote missing?") from None
     return made
 
 
 def _read_some(plan, rows, number, made):
-    """Reads some rows, of which the first has this number. Gives the numbers of those that are left out, with the reason."""
+    """Reads some rows, the first of which has this number. Yields the number and the reason of each row left out."""
     read, header, records = plan.records.of, plan.export.header, []
     with contextlib.suppress(ValueError, OverflowError):
-        # Where one of them wants a look, all are read one by one.
+        # If one of them needs individual treatment, all are read one by one.
         made.extend(plan.records.many(rows))
         return
     for number, row in enumerate(rows, number):
         if not row:
-            # An empty line counts as a spreadsheet counts, and is no record.
+            # An empty line counts as a row, as in a spreadsheet, but isn't a record.
             continue
         try:
             records.append(read(row))
-        except Left as fault:
-            yield number, made.leave(number, header, fault, row)
+        except Left as error:
+            yield number, made.leave(number, header, error, row)
             continue
-        except Asks as fault:
-            raise ValueError(f"row {number}, column {header[fault.column]!r}, {row[fault.column]!r}: {fault}") from None
+        except Asks as error:
+            raise ValueError(f"row {number}, column {header[error.column]!r}: {row[error.column]!r}: {error}") from None
     made.extend(zip(*records))
 
 
 def _finished(plan, rows, begin):
-    """The trace of rows that are read."""
+    """Returns the trace made from the rows read."""
     unnamed = plan.judge_renames()
     left = [
         f"{counted(count, 'row')}: {why}" + (f" ({where})" if count == 1 else f"; the first is {where}")
-        for why, (count, where) in sorted(rows.left.items(), key=lambda it: -it[1][0])
+        for why, (count, where) in sorted(rows.left.items(), key=lambda item: -item[1][0])
     ]
     if not rows.stamps:
-        raise ValueError("; ".join(["no row is left", *left[:3]]))
-    made = Prepared(["source", "time", *(it.name for it in plan.columns)], _order(plan, rows.sources), plan.per, plan.place.name)
-    made.told += plan.told
+        raise ValueError("; ".join(["no rows are left", *left[:3]]))
+    made = Prepared(["source", "time", *(column.name for column in plan.columns)], _order(plan, rows.sources), plan.per, plan.place.name)
+    made.notes += plan.notes
     made.warned += [*plan.warned, *unnamed]
     ticks = _ticks(plan, rows.stamps, begin, made)
-    made.told += plan.place.told()
+    made.notes += plan.place.notes()
     _judge_zero(plan, made)
-    _tell_values(plan, rows, made)
-    made.told += [f"source {old!r} is called {new}" for old, new in plan.records.names.items() if old != new and new in made.names]
+    _note_values(plan, rows, made)
+    made.notes += [f"source {old!r} is called {new}" for old, new in plan.records.names.items() if old != new and new in made.names]
     made.warned += _alike(plan.records, made.names)
     _sort(made, rows, ticks)
     if rows.left:
         made.left = {why: count for why, (count, _) in rows.left.items()}
-        made.told += [counted(sum(made.left.values()), "row") + f" {'is' if sum(made.left.values()) == 1 else 'are'} left out", *left[:LINES]]
-        made.told += [f"and for {len(left) - LINES} reasons more"] if left[LINES:] else []
+        made.notes += [counted(sum(made.left.values()), "row") + f" {'is' if sum(made.left.values()) == 1 else 'are'} left out", *left[:LINES]]
+        made.notes += [f"and for {len(left) - LINES} other reasons"] if left[LINES:] else []
     if rows.long:
-        made.warned.append(f"a field has more than {LINES} lines: is a quote not closed?")
+        made.warned.append(f"a field has more than {LINES} lines: is a closing quote missing?")
     return made
 
 
 def _order(plan, used):
-    """The sources, in the order of the model, or else in that of the export."""
+    """Returns the sources in the order of the model, or else of the export."""
     found = dict.fromkeys(used)
     if len(found) > SOURCES:
-        raise ValueError(f"{len(found)} sources, where a model has at most {SOURCES}: give one name for all, or --rename several to one")
+        raise ValueError(f"{len(found)} sources; the limit of a model is {SOURCES}: give one name for all, or --rename several to one")
     known = plan.records.known
-    return list(found) if known is None else [it for it in known if it in found]
+    return list(found) if known is None else [item for item in known if item in found]
 
 
 def _alike(records, names):
-    """Warns of sources that a number alone tells apart, which another export may have in another order."""
+    """Yields warnings about sources whose names differ only by a number, which another export may swap."""
     for old, new in records.names.items():
         plain = name_for(old)
         if new not in (plain, records.renamed.get(old)) and new in names:
-            other = f"another one is {plain}, and in another export it may be the other way round"
-            yield f"source {old!r} is called {new}, since {other}: --rename names both"
+            other = f"another is {plain}; another export may swap them"
+            yield f"source {old!r} is called {new}, since {other}: name both with --rename"
 
 
 def _ticks(plan, stamps, begin, made):
-    """The times of the trace (array), in ticks from time 0 on."""
-    readers = [it.how for it in plan.readers()]
-    if any(it.has_none for it in readers) and any(it.has_offsets for it in readers) and not plan.place.name:
-        raise ValueError("some times have an offset from UTC, and others none: --zone says what those are")
-    if any(len(it.halves) > 1 for it in readers):
-        raise ValueError("some times have AM or PM, and others from 1:00 to 12:59 none: --format '%I:%M %p' leaves these out")
+    """Returns the times of the trace (array), in ticks from time 0."""
+    readers = [reader.how for reader in plan.readers()]
+    if any(reader.has_none for reader in readers) and any(reader.has_offsets for reader in readers) and not plan.place.name:
+        raise ValueError("some times have an offset from UTC and others have none: give --zone for those")
+    if any(len(reader.halves) > 1 for reader in readers):
+        raise ValueError("some times have AM or PM, but others from 1:00 to 12:59 don't: --format '%I:%M %p' leaves those out")
     if plan.is_ticks:
         if begin != "hour":
-            raise ValueError(f"--begin {begin}: it says nothing of times that are ticks")
+            raise ValueError(f"--begin {begin}: it can't be used with times in ticks")
         looks = looks_like_clocks(stamps[:1000])
         if looks:
-            made.warned.append(f"times look like {looks}, and are taken as ticks: --format says what they are")
+            made.warned.append(f"times look like {looks}, but are read as ticks: give their --format")
         return _judged(stamps)
-    first, is_utc = min(stamps), any(it.has_offsets for it in readers)
+    first, is_utc = min(stamps), any(reader.has_offsets for reader in readers)
     zero = _zero(plan, begin, first, is_utc)
     if zero > first:
-        raise ValueError(f"{counted(sum(it < zero for it in stamps), 'record')} before --begin {begin}, where time 0 is to be")
+        raise ValueError(f"{counted(sum(stamp < zero for stamp in stamps), 'record')} before --begin {begin}, which is to be time 0")
     if plan.has_day:
         made.zero = plan.place.shown(zero) + ("+00:00" if is_utc and not plan.place.name else "")
-    ticks = _judged(array("q", ((it - zero) // plan.per for it in stamps)))
+    ticks = _judged(array("q", ((stamp - zero) // plan.per for stamp in stamps)))
     shown = made.zero or f"{zero // HOUR}:{zero // (60 * SECOND) % 60:02}:{zero // SECOND % 60:02}"
-    made.told.append(f"time 0 is {shown}, a tick is {length_text(plan.per)}, the last record comes at {max(ticks)}")
-    uneven = sum((it - zero) % plan.per > 0 for it in stamps)
+    made.notes.append(f"time 0 is {shown}, a tick is {length_text(plan.per)}, the last record is at {max(ticks)}")
+    uneven = sum((stamp - zero) % plan.per > 0 for stamp in stamps)
     if uneven:
-        made.told.append(f"{counted(uneven, 'time')} between two ticks, taken back to the earlier one")
+        made.notes.append(f"{counted(uneven, 'time')} between two ticks, rounded down")
     if not plan.has_day:
         back = sum(later < earlier - 12 * HOUR for earlier, later in zip(stamps, islice(stamps, 1, None)))
-        more = f", though they go back by more than half a day {counted(back, 'time')}" if back else ""
-        made.warned.append(f"times have no day, and are all taken to be of one{more} (--date)")
+        more = f", although they go back by more than half a day {counted(back, 'time')}" if back else ""
+        made.warned.append(f"times have no day, so all are put on one day{more} (--date)")
     elif not plan.place.name and max(stamps) - first > DAY:
-        made.told.append(f"days are those of {'UTC' if is_utc else 'a clock that never changes'}: --zone says another")
+        made.notes.append(f"days are those of {'UTC' if is_utc else 'a clock that never changes'}: give --zone for another")
     return ticks
 
 
 def _judged(ticks):
     if max(ticks) > GREATEST_TIME:
-        raise ValueError(f"the time {max(ticks)} is above 2^60 ticks, the greatest of a trace")
+        raise ValueError(f"the time {max(ticks)} is above 2^60 ticks, the limit of a trace")
     return ticks
 
 
 def _zero(plan, begin, first, is_utc):
-    """The moment of time 0, of times of which the first is at this moment; `is_utc` says whether some have an offset from UTC."""
+    """Returns the moment of time 0, given the first time; `is_utc` says whether some times have an offset from UTC."""
     place = plan.place
     if begin == "first":
         return first
     if begin == "hour":
-        # Of the clock on the wall, whose hours need not be those of UTC.
+        # A full hour of the wall clock, which need not be one of UTC.
         return first - place.wall(first) % HOUR
     midnight = place.wall(first) // DAY * DAY
     if begin == "day" or CLOCK.fullmatch(begin):
         return place.first(midnight + (0 if begin == "day" else given("--begin", clock, begin)))
     wall, offset = given("--begin", iso, begin)
     if not plan.has_day:
-        raise ValueError(f"--begin {begin}: it has a day, and the times have none")
+        raise ValueError(f"--begin {begin}: it has a day, but the times have none")
     if offset is not None and not is_utc and not place.name:
-        raise ValueError(f"--begin {begin}: it has an offset from UTC, and the times have none: --zone says what those are")
+        raise ValueError(f"--begin {begin}: it has an offset from UTC, but the times have none: give --zone for those")
     return given("--begin", lambda _: place.utc(wall), begin) if offset is None else wall - offset
 
 
 def _judge_zero(plan, made):
-    """Looks whether the model tells another time 0 than that of the trace."""
-    _, start, zone = told_in(plan.model or "")
+    """Notes if the model gives another time 0 than that of the trace."""
+    _, start, zone = settings_in(plan.model or "")
     if plan.is_ticks or not start:
         return
     said, this = ((at and Calendar(plan.per, at, name).begin, name) for at, name in ((start, zone), (made.zero, made.zone)))
     if said != this:
-        first, second = (f"{at or 'of no day'}{f' in {name}' if name else ''}" for at, name in ((made.zero, made.zone), (start, zone)))
-        made.unlike.append(f"time 0 is {first}, and in the model {second}, by which hours, days and pages go")
+        first, second = (f"{at or 'without a day'}{f' in {name}' if name else ''}" for at, name in ((made.zero, made.zone), (start, zone)))
+        made.unlike.append(f"time 0 is {first}, but in the model, which hours, days and pages use, it is {second}")
 
 
-def _tell_values(plan, rows, made):
+def _note_values(plan, rows, made):
     for it, values in zip(plan.columns, rows.values):
         if isinstance(it, (Demand, Sum)) and it.rounded:
-            made.told.append(f"{it.name}: {counted(it.rounded, 'different value')} between two ticks, taken to the nearer one")
+            made.notes.append(f"{it.name}: {counted(it.rounded, 'different value')} between two ticks, rounded to the nearest")
         elif isinstance(it, Code):
             made.codes[it.name] = it.codes
-            made.told.append(f"{it.name}: " + _codes_text(it.codes.items()))
+            made.notes.append(f"{it.name}: " + _codes_text(it.codes.items()))
             made.warned += _code_warnings(it)
             if plan.model is not None and it.known is None:
-                made.unlike.append(f"{it.name}: the model doesn't tell which word has which number, and in another export they may have others")
+                made.unlike.append(f"{it.name}: the model doesn't say which word has which number, so another export may number them differently")
         elif isinstance(it, End) and not plan.is_ticks:
             over = sum(value > 12 * HOUR // plan.per for value in values)
             if over:
-                made.warned.append(f"{it.name}: {counted(over, 'service')} of more than 12 hours")
+                made.warned.append(f"{it.name}: {counted(over, 'service')} longer than 12 hours")
 
 
 def _codes_text(codes):
-    """The first of some words and their numbers."""
+    """Lists the first few words and their numbers."""
     return ", ".join(f"{number} is {word!r}" for word, number in islice(codes, LINES))
 
 
 def _code_warnings(column):
-    """What there is to warn of at a column of words (Code)."""
-    new = [it for it in column.codes.items() if column.known is not None and it[0] not in column.known]
+    """Yields warnings about a column of words (Code)."""
+    new = [item for item in column.codes.items() if column.known is not None and item[0] not in column.known]
     if new:
         yield f"{column.name}: the model has no number for {counted(len(new), 'word')}: {_codes_text(new)}"
     count = len(set(column.codes.values()))
     if count > 8:
-        yield f"{column.name} has {count:,} values, where a split by remainders has at most 8 outputs"
+        yield f"{column.name} has {count:,} values, but a split by remainder has at most 8 outputs"
 
 
 def _sort(made, rows, ticks):
-    """Puts the records in the order of ticks, and of one tick in that of the sources, and then of the times; those that are alike in all stay in the
-    order of the export."""
+    """Sorts the records by tick, then by source, then by time; equal ones keep the order of the export."""
     rank = {it: at for at, it in enumerate(made.names)}
     keys = [time * 64 + rank[it] for time, it in zip(ticks, rows.sources)]
     order = sorted(sorted(range(len(keys)), key=rows.stamps.__getitem__), key=keys.__getitem__)
     if all(map(int.__eq__, order, range(len(keys)))):
         made.sources, made.times, made.values = rows.sources, ticks, rows.values
         return
-    made.told.append("records are sorted by time, and at one time by the order of the sources")
-    made.sources = [rows.sources[it] for it in order]
+    made.notes.append("records are sorted by time, and at equal times by the order of the sources")
+    made.sources = [rows.sources[item] for item in order]
     made.times, *made.values = (array("q", map(column.__getitem__, order)) for column in (ticks, *rows.values))
 
 
-def main(asked):
-    """Does what `planner prepare` asks."""
-    options = {name: value for name, value in vars(asked).items() if name not in ("command", "main", "export", "first_lines", "out_model", "out")}
-    judge_outputs([asked.out, asked.left_out, asked.first_lines, asked.out_model], {"export": [asked.export], "model": [asked.model]})
-    if asked.out_model and not asked.model:
-        raise ValueError("--out-model says nothing without --model")
-    model = judged_text(asked.model, say) if asked.model else None
-    with all_written(asked.left_out, asked.first_lines, asked.out_model, asked.out) as (left_out, lines, out_model, out):
-        made = prepare(**{**options, "export": asked.export, "model": model, "left_out": left_out})
-        unlike = [] if asked.out_model else [f"{it} (--out-model writes a model of this trace)" for it in made.unlike]
-        warned = [f"warning: {it}" for it in [*made.warned, *unlike]]
-        for line in [*made.told, *warned, f"{counted(len(made), 'record')}, {counted(len(made.names), 'source')}"]:
+def main(args):
+    """Runs `planner prepare`."""
+    options = {name: value for name, value in vars(args).items() if name not in ("command", "main", "export", "first_lines", "out_model", "out")}
+    judge_outputs([args.out, args.left_out, args.first_lines, args.out_model], {"export": [args.export], "model": [args.model]})
+    if args.out_model and not args.model:
+        raise ValueError("--out-model requires --model")
+    model = judged_text(args.model, say) if args.model else None
+    with all_written(args.left_out, args.first_lines, args.out_model, args.out) as (left_out, lines, out_model, out):
+        made = prepare(**{**options, "export": args.export, "model": model, "left_out": left_out})
+        unlike = [] if args.out_model else [f"{item} (--out-model writes a model for this trace)" for item in made.unlike]
+        warned = [f"warning: {item}" for item in [*made.warned, *unlike]]
+        for line in [*made.notes, *warned, f"{counted(len(made), 'record')}, {counted(len(made.names), 'source')}"]:
             say(line)
         if lines:
             lines.write(made.first_lines())
