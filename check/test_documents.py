@@ -92,7 +92,7 @@ class Documents(Check):
             (self.folder / "programs" / name).symlink_to(executable(name))
         self.settings = {"HOME": str(self.home), "PATH": f"{self.folder}:{os.environ['PATH']}", "MPSIM_PROGRAMS": str(self.folder / "programs")}
 
-    def messages(self, command, folder):
+    def output_of(self, command, folder):
         """Returns what a command writes to stdout and into new files."""
         before = {file: file.stat().st_mtime_ns for file in self.top.rglob("*") if file.is_file()}
         ran = run("sh", "-e", "-c", command, folder=folder, settings=self.settings)

@@ -44,7 +44,7 @@ class Recipes(Check):
         for name, text in texts.items():
             self.file(name.replace("_", "."), text)
 
-    def messages(self, command, shell="sh"):
+    def output_of(self, command, shell="sh"):
         """Returns what a command writes in the directory."""
         ran = run(shell, "-c", command, folder=self.folder, settings={"MPSIM_PROGRAMS": str(self.folder / "programs")})
         self.assertEqual(ran.status, 0, f"{ran.command}\n{ran.line.decode()}")
