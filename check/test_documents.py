@@ -163,7 +163,7 @@ class Documents(Check):
         """Each name with a file on docs/DEFINITIONS.md is defined in that file, and no file is named without a name."""
         page = (ROOT / "docs" / "DEFINITIONS.md").read_text()
         found = NAMED.findall(page)
-        self.same("files behind names", len(found), page.count("(`crates/"))
+        self.same("files after names", len(found), page.count("(`crates/"))
         for name in re.findall(r"`(crates/[\w./-]+)`", page):
             self.holds(f"{name} isn't there", (ROOT / name).exists())
         for names, file in found:
