@@ -53,7 +53,7 @@ def tables(numbers):
     if numbers["rows"]:
         yield from ["", *table(numbers["rows"], ["Run", "Rows"], lambda name, at: [STYLES[name].name, f"{at:,}"])]
     if numbers["nodes"]:
-        yield from ["", f"Servers in a row behind a source, over {numbers['over']:,} rows:", ""]
+        yield from ["", f"Servers in series after a source, over {numbers['over']:,} rows:", ""]
         yield from table(numbers["nodes"], ["Servers"], lambda name, at: [f"{at:,}"])
 
 
@@ -153,7 +153,7 @@ def legend(points):
         x += 120
     if points:
         yield f'<path d="M{x - 6:.1f} {y - 4:.1f}h28" stroke="{GUIDE}" stroke-dasharray="2 4"/>'
-        yield text(x + 30, y, "what grows in proportion")
+        yield text(x + 30, y, "proportional growth")
 
 
 def picture(numbers):
@@ -162,7 +162,7 @@ def picture(numbers):
     seconds = steps(min(point.seconds for point in points), max(point.seconds for point in points)) if points else []
     over = f"Seconds over servers, {numbers['over']:,} rows"
     panels = [Panel(50, "Seconds over rows", "rows of the trace", numbers["rows"], seconds)]
-    panels.append(Panel(430, over, "servers in a row behind a source", numbers["nodes"], seconds))
+    panels.append(Panel(430, over, "servers in series after a source", numbers["nodes"], seconds))
     head = f'<svg xmlns="http://www.w3.org/2000/svg" viewBox="0 0 {WIDTH} {HEIGHT}" font-family="sans-serif" font-size="12" fill="{DARK}" '
     head += 'role="img" aria-label="Seconds over rows and over servers in a row, by mpsim, on logarithmic axes">'
     ground = f'<rect width="{WIDTH}" height="{HEIGHT}" fill="#fff"/>'

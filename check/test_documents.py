@@ -95,7 +95,7 @@ class Documents(Check):
             (self.folder / "programs" / name).symlink_to(executable(name))
         self.settings = {"HOME": str(self.home), "PATH": f"{self.folder}:{os.environ['PATH']}", "MPSIM_PROGRAMS": str(self.folder / "programs")}
 
-    def messages(self, command, folder):
+    def output_of(self, command, folder):
         """Returns what a command writes to stdout and into new files."""
         before = {file: file.stat().st_mtime_ns for file in self.top.rglob("*") if file.is_file()}
         ran = run("sh", "-e", "-c", command, folder=folder, settings=self.settings)
@@ -166,7 +166,7 @@ class Documents(Check):
         """Each name with a file on docs/DEFINITIONS.md is defined in that file, and no file is named without a name."""
         page = (ROOT / "docs" / "DEFINITIONS.md").read_text()
         found = NAMED.findall(page)
-        self.same("files behind names", len(found), page.count("(`crates/"))
+        self.same("files after names", len(found), page.count("(`crates/"))
         for name in re.findall(r"`(crates/[\w./-]+)`", page):
             self.holds(f"{name} isn't there", (ROOT / name).exists())
         for names, file in found:

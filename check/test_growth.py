@@ -68,9 +68,9 @@ class Growth(Check):
         points = [len(found.get("points").split()) for group in top.iter(f"{SVG}g") for found in group.findall(f"{SVG}polyline")]
         self.same("points of the lines", points, [3] * 8)
         texts = [item.text for item in top.iter(f"{SVG}text")]
-        wanted = ["Seconds over rows", "Seconds over servers, 4,000 rows", "rows of the trace", "servers in a row behind a source"]
+        wanted = ["Seconds over rows", "Seconds over servers, 4,000 rows", "rows of the trace", "servers in series after a source"]
         wanted += ["1,000", "8,000", "64,000", "1", "4", "16", "0.1", "0.2", "0.5"]
-        wanted += [*NAMES.values(), "1 worker", "4 workers", "what grows in proportion"]
+        wanted += [*NAMES.values(), "1 worker", "4 workers", "proportional growth"]
         self.same("labels that aren't there", [item for item in wanted if item not in texts], [])
         self.holds("the picture asks for something else", not re.search(rb"href|url\(|<style|<script|currentColor", picture))
         self.holds(f"the picture has {len(picture)} bytes", len(picture) < 30_000)

@@ -83,7 +83,7 @@ class Options(Check):
         for before, wanted in (["-"], options), (["--jobs", "-"], [it for it in options if it != "--jobs"]), (["--report", ""], ["1", "2"]), (["--block", ""], []):
             words = " ".join(shlex.quote(item) for item in ["mpsim", *before])
             script = f"source completions/mpsim.bash; COMP_WORDS=({words}); COMP_CWORD={len(before)}; _mpsim; echo ${{COMPREPLY[@]}}"
-            self.same(f"bash behind {words}", sorted(run("bash", "-c", script).out.decode().split()), wanted)
+            self.same(f"bash after {words}", sorted(run("bash", "-c", script).out.decode().split()), wanted)
 
     def test_ranges_of_numbers(self):
         """The numbers in the error line for an option's value also appear in its descriptions."""
@@ -155,7 +155,7 @@ class Planner(Check):
             (["sojourns", "--by", "s"], ["source"]),
             (["nothing", "-"], []),
         ):
-            self.same(f"bash behind {before}", self.completed(*before), wanted)
+            self.same(f"bash after {before}", self.completed(*before), wanted)
 
     def test_zsh_reads_them(self):
         if not shutil.which("zsh"):

@@ -44,7 +44,7 @@ class Recipes(Check):
         for name, text in texts.items():
             self.file(name.replace("_", "."), text)
 
-    def messages(self, command, shell="sh"):
+    def output_of(self, command, shell="sh"):
         """Returns what a command writes in the directory."""
         ran = run(shell, "-c", command, folder=self.folder, settings={"MPSIM_PROGRAMS": str(self.folder / "programs")})
         self.assertEqual(ran.status, 0, f"{ran.command}\n{ran.line.decode()}")
@@ -91,7 +91,7 @@ class Recipes(Check):
                 # After a way that takes w ticks: ordered by the end of the way, then by arrival at it.
                 self.kept(desk_txt=two.replace(f"from {inputs}", f"from way\ndelay way w from {inputs}"))
                 jobs = sorted((job._replace(time=job.time + rows[job.number - 1][3]) for job in jobs), key=lambda job: job.time)
-                self.same("behind a delay", pool_visits(self.served(commands)), simulated(jobs, 2))
+                self.same("after a delay", pool_visits(self.served(commands)), simulated(jobs, 2))
 
     def test_many_servers_at_one_queue(self):
         """Also with a node per agent, after two splits and before a further station; 55 of them make 64 nodes."""

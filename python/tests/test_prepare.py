@@ -79,7 +79,7 @@ class Exports(Test):
         text = "when,who\n8:00,Büro\n"
         for code in "utf-8", "utf-8-sig", "utf-16", "latin-1", "cp1252":
             made = prepare(text.encode(code), "when", source="who")
-            self.assertEqual(dict(made.notes and [it.split(" is called ") for it in made.notes if "called" in it]), {"source 'Büro'": "buro"}, code)
+            self.assertEqual(dict(made.told and [it.split(" is called ") for it in made.told if "called" in it]), {"source 'Büro'": "buro"}, code)
         for code in "utf-16-le", "utf-16-be", "cp437", "utf-8", "UTF8":
             self.assertEqual(prepare(text.encode(code), "when", source="who", encoding=code).sources, ["buro"])
             marked = ("\ufeff" + text).encode(code) if code != "cp437" else text.encode(code)
@@ -148,10 +148,10 @@ class Exports(Test):
         self.assertEqual([part.split(",")[0] for part in out.getvalue().split("\n")[1:-1]], ["4", "40007", 'c"', "40008", "40009"])
         self.assertEqual((len(made), set(made.values[1])), (40002, {0, 1}))
         # Words of rows that are left out have no number.
-        self.assertIn("kind: 0 is 'a', 1 is 'b'", made.notes)
+        self.assertIn("kind: 0 is 'a', 1 is 'b'", made.told)
         reasons = {"long: not a number with a decimal point": 3, "the number of fields isn't the header's 3": 1}
         self.assertEqual(made.left, reasons)
-        self.assertIn("3 rows: long: not a number with a decimal point; the first is row 4, 'x'", made.notes)
+        self.assertIn("3 rows: long: not a number with a decimal point; the first is row 4, 'x'", made.told)
 
 
 class Times(Test):
@@ -213,9 +213,9 @@ class Times(Test):
         }
         self.assertEqual(made.left, {**{why: count for why, (count, _) in more.items()}, **dict.fromkeys(one, 1)})
         for why, where in one.items():
-            self.assertIn(f"1 row: {why} ({where})", made.notes)
+            self.assertIn(f"1 row: {why} ({where})", made.told)
         for why, (count, where) in more.items():
-            self.assertIn(f"{count} rows: {why}; the first is {where}", made.notes)
+            self.assertIn(f"{count} rows: {why}; the first is {where}", made.told)
         written = out.getvalue().splitlines()
         self.assertEqual(written[0], "row,reason,Y,M,D,DEP")
         self.assertEqual((written[1], written[-1]), ("3,M: not a month from 1 to 12,2015,13,1,5", "17,M: not a month from 1 to 12,2015,31,4,5"))
@@ -229,8 +229,8 @@ class Times(Test):
     def test_ticks(self):
         made = prepare(table("8:00:00.250,a,0.26", "8:00:01.999,a,1.04"), "when", tick="100ms", demand=["long=d"])
         self.assertEqual((list(made.times), made.values[0].tolist()), ([2, 19], [3, 10]))
-        self.assertIn("2 times between two ticks, rounded down", made.notes)
-        self.assertIn("d: 2 different values between two ticks, rounded to the nearest", made.notes)
+        self.assertIn("2 times between two ticks, rounded down", made.told)
+        self.assertIn("d: 2 different values between two ticks, rounded to the nearest", made.told)
         self.assertIn("# a tick is 100ms\n", made.first_lines())
         plain = prepare(table("5,a,7", "3,a,1"), "when", format="ticks", tick="1min", demand=["long=d:ticks"])
         self.assertEqual((list(plain.rows()), plain.zero), ([("jobs", 3, 1), ("jobs", 5, 7)], None))
@@ -354,7 +354,7 @@ class Values(Test):
                 fast = prepare(table(*rows), "when", **asks)
                 with unittest.mock.patch.object(Records, "many", side_effect=Unread("one by one")) as slow_way:
                     slow = prepare(table(*rows), "when", **asks)
-                self.assertEqual((list(fast.rows()), fast.notes, fast.left), (list(slow.rows()), slow.notes, slow.left))
+                self.assertEqual((list(fast.rows()), fast.told, fast.left), (list(slow.rows()), slow.told, slow.left))
                 self.assertEqual((slow_way.call_count, sum(fast.left.values())), (4, 1))
 
     def test_empty(self):
@@ -370,8 +370,8 @@ class Values(Test):
         # Five seconds are two and a half ticks.
         self.assertEqual((made.header, [it.tolist() for it in made.values]), (["source", "time", "aht", "note"], [[1 + 3, 0 + 3, 2**36], [15, 0, 0]]))
         self.assertEqual(made.left, {"talk is empty": 1, "wrap: not a number with a decimal point": 1})
-        self.assertIn("aht is the sum of 'talk' and 'wrap'", made.notes)
-        self.assertIn("aht: 2 different values between two ticks, rounded to the nearest", made.notes)
+        self.assertIn("aht is the sum of 'talk' and 'wrap'", made.told)
+        self.assertIn("aht: 2 different values between two ticks, rounded to the nearest", made.told)
         more = prepare(rows.replace(b"68719476735", b"68719476736"), "when", demand=["talk=aht:ticks", "wrap=aht"], empty="4s")
         self.assertEqual(more.values[0].tolist(), [1 + 5, 0 + 5, 4 + 9])
         self.assertEqual(more.left, {"talk: above 2^36 ticks": 1, "wrap: not a number with a decimal point": 1})
@@ -382,7 +382,7 @@ class Values(Test):
         many = prepare(table(f"{day},68719476736,1", header="when,a,b") + f"{day},68719476735,1\n".encode(), "when", demand=["a=d", "b=d"])
         self.assertEqual((many.values[0].tolist(), many.left), ([2**36], {"a: above 2^36 ticks": 1}))
         three = prepare(table(f"{day},1,20,300", header="when,a,b,c"), "when", demand=["a=d", "b=d", "c=d"])
-        self.assertEqual((list(three.rows()), "d is the sum of 'a' and 'b' and 'c'" in three.notes), ([("jobs", 0, 321)], True))
+        self.assertEqual((list(three.rows()), "d is the sum of 'a' and 'b' and 'c'" in three.told), ([("jobs", 0, 321)], True))
         with self.assertRaisesRegex(ValueError, "--demand a=d:min: the column 'a' is already part of d"):
             prepare(table("8:00,1", header="when,a"), "when", demand=["a=d", "a=d:min"])
 

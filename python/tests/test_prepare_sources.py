@@ -21,9 +21,9 @@ class Sources(Test):
         newest = table("8:01:01,a,1", "8:00:40,b,2", "8:00:40,a,3", "8:00:40,a,4", "8:00:20,a,5")
         made = prepare(newest, "when", source="who", demand=["long=d:min"], tick="1min")
         self.assertEqual(list(made.rows()), [("a", 0, 5), ("a", 0, 3), ("a", 0, 4), ("b", 0, 2), ("a", 1, 1)])
-        self.assertIn("records are sorted by time, and at equal times by the order of the sources", without.notes)
+        self.assertIn("records are sorted by time, and at equal times by the order of the sources", without.told)
         sorted_rows = prepare(table("8:00,a,1", "8:00,a,2"), "when", source="who", demand=["long=d"])
-        self.assertFalse(any("sorted" in note for note in sorted_rows.notes))
+        self.assertFalse(any("sorted" in note for note in sorted_rows.told))
         other = prepare(table("8:00:02,x,1", "8:00:03,a,1"), "when", source="who", demand=["long=d"], model=model)
         self.assertEqual((other.left, other.names), ({"who: the model has no source x": 1}, ["a"]))
 

@@ -267,7 +267,7 @@ class Limits(Test):
         open_quote = table("2026-03-02 8:00,a,1", '2026-03-02 8:01,a,"1', *["2026-03-02 8:02,a,1"] * 30)
         self.assertEqual(prepare(open_quote, "when").warned, ["a field has more than 20 lines: is a closing quote missing?"])
         for mark, whose in ("", "a clock that never changes"), ("T00Z", "UTC"):
-            told = prepare(table(f"2026-03-02{mark},a,1", f"2026-03-04{mark},a,1"), "when").notes
+            told = prepare(table(f"2026-03-02{mark},a,1", f"2026-03-04{mark},a,1"), "when").told
             self.assertIn(f"days are those of {whose}: give --zone for another", told)
 
 

@@ -34,7 +34,8 @@ def words(parser):
     parser.add_argument("model", help="a model")
     parser.add_argument("trace", help="its trace")
     parser.add_argument("--node", action="append", default=[], metavar="NAME", help="only rows of this node or pool; may be repeated")
-    parser.add_argument("--open", metavar="H:MM", help="time of day that is time 0 of each day; default: its first record")
+    opens = "time of day that is time 0 of each day; earlier records are left out, and counted; default: the first record of the day"
+    parser.add_argument("--open", metavar="H:MM", help=opens)
     closes = "ignore (and count) records at or after this time; if it is not later than --open, it means the next day"
     parser.add_argument("--close", metavar="H:MM", help=closes)
     parser.add_argument("--every", type=int, metavar="TICKS", help="cut the trace into pieces of this many ticks, from time 0, instead of days")
@@ -105,16 +106,16 @@ def by_ticks(times, every):
     return [Day(f"{it}..{it + every - 1}", it, it + every, tuple(records)) for it, records in sorted(found.items())], 0
 
 
-def days(model, trace, pieces, progress=lambda done: None, path=None):
+def days(model, trace, pieces, tell=lambda done: None, path=None):
     """Returns a Sweep with a run of each piece (Day) of a trace (Trace), by the pieces' names, each in a network that is empty at its time 0; and the
     number of pieces (int) in which jobs are still present when the next begins.
 
     Agents and waits at a pool are recomputed for the records of the piece (`anew`). The model is any that `mpsim.run` accepts, and is read for each
     piece. If a run is refused because of the bound or of a node with too many visits, its scenario has that error. Any other error is raised, with
-    the path of the model if given. `progress` is called with the number of pieces done."""
+    the path of the model if given. `tell` is called with the number of pieces done."""
     times, sweep, over, known = trace.times(), Sweep(), 0, standing(model, trace)
     for done, it in enumerate(pieces):
-        progress(done)
+        tell(done)
         piece = Trace(trace.path, trace.header, [[trace.rows[at][0], times[at] - it.zero, *trace.rows[at][2:]] for at in it.records])
         try:
             with locating_errors(trace, it.records, path):

@@ -86,15 +86,15 @@ class Edited:
     """The trace in a file (a path), to which changes are applied one after another.
 
     `trace` (Trace) is the original, `rows` (list of lists of str) the current state. Records keep their numbers, from 1. `changed` (set of int) holds
-    the file's changed records, `out` (dict) the removed ones with the row that removed them, `notes` (list of str) what to report. With a model (a
+    the file's changed records, `out` (dict) the removed ones with the row that removed them, `told` (list of str) what to report. With a model (a
     path), values are checked against its sources and columns. Raises what `Trace.read` and `mpsim.run` do, and ValueError if the trace lacks a column
     of the model."""
 
     def __init__(self, path, model=None):
         self._texts = []
         self.trace = Trace.read(path, self._texts)
-        self.rows, self.changed, self.out, self.notes = list(self.trace.rows), set(), {}, []
-        self.model, text = model, judged_text(model, self.notes.append) if model else ""
+        self.rows, self.changed, self.out, self.told = list(self.trace.rows), set(), {}, []
+        self.model, text = model, judged_text(model, self.told.append) if model else ""
         self.columns, self._braces, header = columns(text), in_braces(text), self.trace.header
         for name in self.columns:
             if name not in header[2:]:
@@ -177,7 +177,7 @@ class Edited:
         if number is not None:
             self._is_noted.add(place)
             where = f'{change.where}: "{self.trace.header[place]}" of record {number}'
-            self.notes.append(f'{where}: "{text}" is stored as text, because {self._why_text(place)}')
+            self.told.append(f'{where}: "{text}" is stored as text, because {self._why_text(place)}')
 
     def _why_text(self, place):
         """Returns why a column is text (str)."""
@@ -282,7 +282,7 @@ def edited(path, changes, model=None):
     if text.split(None, 1)[:1] not in ([], ["set"], ["add"]):
         if not is_utf8(text) and made.is_utf8():
             text = recoded(changes, data)
-            made.notes.append(f"{changes} is read as Windows-1252")
+            made.told.append(f"{changes} is read as Windows-1252")
         found = by_names(changes, text, made.trace.header)
     elif model is None:
         why = "these are edits for mpedit: give --model for the order of their values" if text.strip() else f"it is empty: {EXPECTED}"
@@ -309,7 +309,7 @@ def main(args):
             file.writelines(made.lines())
     if warning := pool_warning(args.trace, made.trace.header):
         say(warning)
-    for line in made.notes:
+    for line in made.told:
         say(line)
     if args.edits and (names := made.unnamed()):
         say(f"{args.edits} leaves out the changes of {', '.join(names)}, which {args.model} doesn't name")

@@ -214,19 +214,19 @@ def _finished(plan, rows, begin):
     if not rows.stamps:
         raise ValueError("; ".join(["no rows are left", *left[:3]]))
     made = Prepared(["source", "time", *(column.name for column in plan.columns)], _order(plan, rows.sources), plan.per, plan.place.name)
-    made.notes += plan.notes
+    made.told += plan.notes
     made.warned += [*plan.warned, *unnamed]
     ticks = _ticks(plan, rows.stamps, begin, made)
-    made.notes += plan.place.notes()
+    made.told += plan.place.notes()
     _judge_zero(plan, made)
     _note_values(plan, rows, made)
-    made.notes += [f"source {old!r} is called {new}" for old, new in plan.records.names.items() if old != new and new in made.names]
+    made.told += [f"source {old!r} is called {new}" for old, new in plan.records.names.items() if old != new and new in made.names]
     made.warned += _alike(plan.records, made.names)
     _sort(made, rows, ticks)
     if rows.left:
         made.left = {why: count for why, (count, _) in rows.left.items()}
-        made.notes += [counted(sum(made.left.values()), "row") + f" {'is' if sum(made.left.values()) == 1 else 'are'} left out", *left[:LINES]]
-        made.notes += [f"and for {len(left) - LINES} other reasons"] if left[LINES:] else []
+        made.told += [counted(sum(made.left.values()), "row") + f" {'is' if sum(made.left.values()) == 1 else 'are'} left out", *left[:LINES]]
+        made.told += [f"and for {len(left) - LINES} other reasons"] if left[LINES:] else []
     if rows.long:
         made.warned.append(f"a field has more than {LINES} lines: is a closing quote missing?")
     return made
@@ -272,16 +272,16 @@ def _ticks(plan, stamps, begin, made):
         made.zero = plan.place.shown(zero) + ("+00:00" if is_utc and not plan.place.name else "")
     ticks = _judged(array("q", ((stamp - zero) // plan.per for stamp in stamps)))
     shown = made.zero or f"{zero // HOUR}:{zero // (60 * SECOND) % 60:02}:{zero // SECOND % 60:02}"
-    made.notes.append(f"time 0 is {shown}, a tick is {length_text(plan.per)}, the last record is at {max(ticks)}")
+    made.told.append(f"time 0 is {shown}, a tick is {length_text(plan.per)}, the last record is at {max(ticks)}")
     uneven = sum((stamp - zero) % plan.per > 0 for stamp in stamps)
     if uneven:
-        made.notes.append(f"{counted(uneven, 'time')} between two ticks, rounded down")
+        made.told.append(f"{counted(uneven, 'time')} between two ticks, rounded down")
     if not plan.has_day:
         back = sum(later < earlier - 12 * HOUR for earlier, later in zip(stamps, islice(stamps, 1, None)))
         more = f", although they go back by more than half a day {counted(back, 'time')}" if back else ""
         made.warned.append(f"times have no day, so all are put on one day{more} (--date)")
     elif not plan.place.name and max(stamps) - first > DAY:
-        made.notes.append(f"days are those of {'UTC' if is_utc else 'a clock that never changes'}: give --zone for another")
+        made.told.append(f"days are those of {'UTC' if is_utc else 'a clock that never changes'}: give --zone for another")
     return ticks
 
 
@@ -324,10 +324,10 @@ def _judge_zero(plan, made):
 def _note_values(plan, rows, made):
     for it, values in zip(plan.columns, rows.values):
         if isinstance(it, (Demand, Sum)) and it.rounded:
-            made.notes.append(f"{it.name}: {counted(it.rounded, 'different value')} between two ticks, rounded to the nearest")
+            made.told.append(f"{it.name}: {counted(it.rounded, 'different value')} between two ticks, rounded to the nearest")
         elif isinstance(it, Code):
             made.codes[it.name] = it.codes
-            made.notes.append(f"{it.name}: " + _codes_text(it.codes.items()))
+            made.told.append(f"{it.name}: " + _codes_text(it.codes.items()))
             made.warned += _code_warnings(it)
             if plan.model is not None and it.known is None:
                 made.unlike.append(f"{it.name}: the model doesn't say which word has which number, so another export may number them differently")
@@ -360,7 +360,7 @@ def _sort(made, rows, ticks):
     if all(map(int.__eq__, order, range(len(keys)))):
         made.sources, made.times, made.values = rows.sources, ticks, rows.values
         return
-    made.notes.append("records are sorted by time, and at equal times by the order of the sources")
+    made.told.append("records are sorted by time, and at equal times by the order of the sources")
     made.sources = [rows.sources[item] for item in order]
     made.times, *made.values = (array("q", map(column.__getitem__, order)) for column in (ticks, *rows.values))
 
@@ -376,7 +376,7 @@ def main(args):
         made = prepare(**{**options, "export": args.export, "model": model, "left_out": left_out})
         unlike = [] if args.out_model else [f"{item} (--out-model writes a model for this trace)" for item in made.unlike]
         warned = [f"warning: {item}" for item in [*made.warned, *unlike]]
-        for line in [*made.notes, *warned, f"{counted(len(made), 'record')}, {counted(len(made.names), 'source')}"]:
+        for line in [*made.told, *warned, f"{counted(len(made), 'record')}, {counted(len(made.names), 'source')}"]:
             say(line)
         if lines:
             lines.write(made.first_lines())

@@ -15,7 +15,7 @@ class Prepared:
     """A trace made from an export.
 
     `header` (list of str) has the column names; `sources` (list of str), `times` (array of int, ticks) and `values` (list of arrays of int) are the
-    records in output order; `names` are the sources in the order of the model. `notes` and `warned` (lists of str) say what was done, `unlike` (list
+    records in output order; `names` are the sources in the order of the model. `told` and `warned` (lists of str) say what was done, `unlike` (list
     of str) where the first lines of the model differ from those of this trace, and `left` (dict) how many rows were left out, by reason. `tick` (int,
     microseconds), `zero` (ISO 8601 text or None) and `zone` (str or None) define the ticks; `codes` has the number of each word by column (dict of
     dicts)."""
@@ -23,7 +23,7 @@ class Prepared:
     def __init__(self, header, names, tick, zone):
         self.header, self.names, self.tick, self.zone, self.codes = header, names, tick, zone, {}
         self.sources, self.times, self.values = [], array("q"), [array("q") for _ in header[2:]]
-        self.notes, self.warned, self.unlike, self.left, self.zero = [], [], [], {}, None
+        self.told, self.warned, self.unlike, self.left, self.zero = [], [], [], {}, None
 
     def __len__(self):
         return len(self.times)

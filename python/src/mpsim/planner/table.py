@@ -41,7 +41,7 @@ def rows(report, of="nodes", nodes=()):
     return ([*with_pool[:-1], None if with_pool.util is None else f"{with_pool.util:.4f}"] for with_pool in with_pools(report, nodes).values())
 
 
-def table(content, of="nodes", nodes=(), head="scenario"):
+def table(told, of="nodes", nodes=(), head="scenario"):
     """Yields the header and the rows (lists) of a report or a sweep. Rows of a sweep begin with the label, the status and the span of their scenario,
     and end with the error line of a refused one, which has one row.
 
@@ -54,10 +54,10 @@ def table(content, of="nodes", nodes=(), head="scenario"):
     ['desk', 0, 2, 11]
     """
     names = heads(of)
-    if not isinstance(content, Sweep):
-        return _with_head(names, rows(content, of, nodes))
+    if not isinstance(told, Sweep):
+        return _with_head(names, rows(told, of, nodes))
     # All scenarios are checked before a row is written.
-    found = [(item, rows(item.report, of, nodes) if item.report is not None else None) for item in content.values()]
+    found = [(item, rows(item.report, of, nodes) if item.report is not None else None) for item in told.values()]
     return _with_head([head, "status", "span", *names, "refusal"], _of_scenarios(found, len(names)))
 
 
