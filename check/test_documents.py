@@ -84,7 +84,7 @@ class Documents(Check):
         super().setUp()
         self.top, self.home = self.folder / "top", self.folder / "home"
         shutil.copytree(EXAMPLES, self.top / "examples")
-        for name in "tools", "completions", "docs":
+        for name in "tools", "completions", "docs", "mpplan":
             (self.top / name).symlink_to(ROOT / name)
         for name, program in PROGRAMS.items():
             (self.top / name).symlink_to(program)
@@ -99,8 +99,8 @@ class Documents(Check):
         """Returns what a command writes to stdout and into new files."""
         before = {file: file.stat().st_mtime_ns for file in self.top.rglob("*") if file.is_file()}
         ran = run("sh", "-e", "-c", command, folder=folder, settings=self.settings)
-        # The pages also show what `planner` prints on stderr.
-        messages = b"".join(line for line in ran.line.splitlines(keepends=True) if line.startswith(b"planner: "))
+        # The pages also show what `mpplan` prints on stderr.
+        messages = b"".join(line for line in ran.line.splitlines(keepends=True) if line.startswith(b"mpplan: "))
         self.did(ran._replace(out=b"", line=ran.line.replace(messages, b"")))
         new = [file for file in sorted(self.top.rglob("*")) if file.is_file() and file.stat().st_mtime_ns != before.get(file)]
         for file in new:
@@ -133,7 +133,7 @@ class Documents(Check):
         """Checks the numbers in the table of docs/SWEEPS.md."""
         page = (ROOT / "docs" / "SWEEPS.md").read_text()
         rows = re.findall(r"^\| (\d+) \| ([\d,]+) \| ([\d,]+) s \| ([\d,]+) s \|$", page, flags=re.MULTILINE)
-        command = next(block.text for block in blocks("docs/SWEEPS.md") if "planner table" in block.text)
+        command = next(block.text for block in blocks("docs/SWEEPS.md") if "mpplan table" in block.text)
         _, text = self.output_of(command, self.top)
         table = [line.split(",") for line in text.splitlines() if ",callback," in line]
         wanted = [(row[0], *(f"{int(row[at]):,}" for at in (5, 11, 12))) for row in table]

@@ -36,7 +36,7 @@ class Manual(Check):
         self.settings = {"PATH": f"{self.folder}:{os.environ['PATH']}"}
         for name, program in PROGRAMS.items():
             (self.folder / name).symlink_to(program)
-        (self.folder / "planner").symlink_to(ROOT / "tools" / "planner")
+        (self.folder / "mpplan").symlink_to(ROOT / "mpplan")
         for file in DESK_FILES:
             shutil.copy(file, self.folder)
         shutil.copy(EXAMPLES / "sweep" / "trace.csv", self.folder / "calls.csv")
@@ -64,5 +64,5 @@ class Manual(Check):
         self.file("model.txt", model.replace("trunk agents 12", "trunk agents AGENTS"))
         self.runs_examples("mpsweep")
 
-    def test_planner(self):
-        self.runs_examples("planner")
+    def test_mpplan(self):
+        self.runs_examples("mpplan")

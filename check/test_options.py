@@ -1,10 +1,10 @@
 """Checks that options and statuses agree wherever they appear: in a program's usage line, its script, its man page, its completions, docs/ERRORS.md,
-docs/REPORT.md and docs/EDITS.md; and that those of `planner` are those of its parsers."""
+docs/REPORT.md and docs/EDITS.md; and that those of `mpplan` are those of its parsers."""
 import re
 import shlex
 import shutil
 
-import planner_words
+import mpplan_words
 from pages import manual_section
 from programs import PROGRAMS, ROOT, Check, run
 
@@ -108,46 +108,46 @@ class Options(Check):
 
 
 class Planner(Check):
-    """The man page and the completions, which check/planner_words.py writes from the parsers; and the help."""
+    """The man page and the completions, which check/mpplan_words.py writes from the parsers; and the help."""
 
     def test_files(self):
-        for file, made in (planner_words.BASH, planner_words.bash()), (planner_words.ZSH, planner_words.zsh()):
-            self.same(f"{file}: check/planner_words.py writes it", file.read_text(), made)
-        page = planner_words.MANUAL.read_text()
-        self.same("docs/planner.1: check/planner_words.py writes its commands", page, planner_words.with_commands(page))
+        for file, made in (mpplan_words.BASH, mpplan_words.bash()), (mpplan_words.ZSH, mpplan_words.zsh()):
+            self.same(f"{file}: check/mpplan_words.py writes it", file.read_text(), made)
+        page = mpplan_words.MANUAL.read_text()
+        self.same("docs/mpplan.1: check/mpplan_words.py writes its commands", page, mpplan_words.with_commands(page))
 
     def helps(self):
         """Yields the options in the help of each command, by its name."""
-        for name in planner_words.COMMANDS:
-            found = run(ROOT / "tools" / "planner", name, "--help").out.decode()
+        for name in mpplan_words.COMMANDS:
+            found = run(ROOT / "mpplan", name, "--help").out.decode()
             yield name, sorted(re.findall(r"^  (?:-h, )?(--[a-z-]+)", found, flags=re.MULTILINE))
 
     def completed(self, *before):
         """Returns what bash completes after these words."""
-        words = " ".join(shlex.quote(item) for item in ["planner", *before])
-        script = f"compopt() {{ :; }}; source completions/planner.bash; COMP_WORDS=({words}); COMP_CWORD={len(before)}; _planner; echo ${{COMPREPLY[@]}}"
+        words = " ".join(shlex.quote(item) for item in ["mpplan", *before])
+        script = f"compopt() {{ :; }}; source completions/mpplan.bash; COMP_WORDS=({words}); COMP_CWORD={len(before)}; _mpplan; echo ${{COMPREPLY[@]}}"
         return sorted(run("bash", "-c", script).out.decode().split())
 
     def test_help(self):
         """All options of each command are in all three, and no others."""
-        commands = "".join(f"{item}\n" for item in manual_section("planner", "COMMANDS")).split(".SS ")[1:]
+        commands = "".join(f"{item}\n" for item in manual_section("mpplan", "COMMANDS")).split(".SS ")[1:]
         described = {command.split("\n", 1)[0]: re.findall(r"^\.TP\n\.BI? (--[a-z-]+)", command, flags=re.MULTILINE) for command in commands}
-        zsh = planner_words.ZSH.read_text().split(";;")
+        zsh = mpplan_words.ZSH.read_text().split(";;")
         for name, options in self.helps():
             wanted = [option for option in options if option != "--help"]
-            self.same(f"docs/planner.1, {name}", sorted(described.pop(name)), wanted)
+            self.same(f"docs/mpplan.1, {name}", sorted(described.pop(name)), wanted)
             mine = next(item for item in zsh if f"\n    {name})\n" in item)
-            self.same(f"completions/_planner, {name}", sorted(re.findall(r"^ *'\*?(--[a-z-]+)(?:=-)?\[", mine, flags=re.MULTILINE)), options)
+            self.same(f"completions/_mpplan, {name}", sorted(re.findall(r"^ *'\*?(--[a-z-]+)(?:=-)?\[", mine, flags=re.MULTILINE)), options)
             if shutil.which("bash"):
-                self.same(f"completions/planner.bash, {name}", self.completed(name, "-"), options)
-        self.same("further commands in docs/planner.1", described, {})
+                self.same(f"completions/mpplan.bash, {name}", self.completed(name, "-"), options)
+        self.same("further commands in docs/mpplan.1", described, {})
 
     def test_what_bash_completes(self):
         """Commands; all options that aren't given yet or may be repeated; the choices of a value; otherwise files."""
         if not shutil.which("bash"):
             self.skipTest("no bash here")
         for before, wanted in (
-            ([""], sorted([*planner_words.COMMANDS, "--help", "--version"])),
+            ([""], sorted([*mpplan_words.COMMANDS, "--help", "--version"])),
             (["s"], ["scale", "service", "sojourns", "sweep"]),
             (["scale", "--shift", "5", "--source", "web", "--s"], ["--source"]),
             (["hours", "--by", ""], ["day", "each", "hour", "weekday"]),
@@ -160,12 +160,12 @@ class Planner(Check):
     def test_zsh_reads_them(self):
         if not shutil.which("zsh"):
             self.skipTest("no zsh here")
-        self.did(run("zsh", "-n", planner_words.ZSH))
+        self.did(run("zsh", "-n", mpplan_words.ZSH))
 
     def test_words_of_its_own(self):
-        described = "\n".join(item for item in manual_section("planner", "OPTIONS") if item.startswith(".B"))
-        self.same("docs/planner.1", options_of(described), sorted(planner_words.OWN))
-        found = run(ROOT / "tools" / "planner", "--help").out.decode()
-        self.same("its help", re.findall(r"^  (?:-h, )?(--[a-z-]+)", found, flags=re.MULTILINE), list(planner_words.OWN))
-        page = re.findall(r"^\.B (\d+)$", "\n".join(manual_section("planner", "EXIT STATUS")), flags=re.MULTILINE)
+        described = "\n".join(item for item in manual_section("mpplan", "OPTIONS") if item.startswith(".B"))
+        self.same("docs/mpplan.1", options_of(described), sorted(mpplan_words.OWN))
+        found = run(ROOT / "mpplan", "--help").out.decode()
+        self.same("its help", re.findall(r"^  (?:-h, )?(--[a-z-]+)", found, flags=re.MULTILINE), list(mpplan_words.OWN))
+        page = re.findall(r"^\.B (\d+)$", "\n".join(manual_section("mpplan", "EXIT STATUS")), flags=re.MULTILINE)
         self.same("statuses", page, ["0", "1", "2", "11", "130", "141"])

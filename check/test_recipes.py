@@ -35,7 +35,8 @@ class Recipes(Check):
         super().setUp()
         (self.folder / "mpsim").symlink_to(PROGRAMS["mpsim"])
         (self.folder / "examples").symlink_to(EXAMPLES)
-        (self.folder / "tools").symlink_to(ROOT / "tools")
+        for name in "tools", "mpplan":
+            (self.folder / name).symlink_to(ROOT / name)
         (self.folder / "programs").mkdir()
         (self.folder / "programs" / "mpsim").symlink_to(executable("mpsim"))
 

@@ -13,7 +13,7 @@ VERSION = (ROOT / "VERSION").read_text().strip()
 ARCHIVE, PACKAGE = f"mpsim-{VERSION}-linux-x86_64.tar.gz", f"mpsim_{VERSION}_amd64.deb"
 TREE = ARCHIVE.removesuffix(".tar.gz")
 # What a release is made from.
-SOURCES = ["README.md", "CHANGELOG.md", "CONTRIBUTING.md", "VERSION", "build.py", "crates.txt", "completions", "docs", "examples", "python", "tools"]
+SOURCES = ["README.md", "CHANGELOG.md", "CONTRIBUTING.md", "VERSION", "build.py", "crates.txt", "completions", "docs", "examples", "mpplan", "python", "tools"]
 # Nothing of this process, and no toolchain.
 NOTHING = ["env", "-i", "PATH=/usr/bin:/bin"]
 
@@ -124,17 +124,15 @@ class Release(Check):
         wanted = f"{VERSION} {os.path.realpath(tree)}/libexec/mpsim/mpedit\n{(CALL / 'report.txt').read_text()}"
         self.did(run(sys.executable, "-B", "-c", script, folder="/", settings=settings), 0, wanted)
 
-    def test_the_command_planner(self):
-        """It is where the clone has it."""
-        tree, script = self.unpacked(), ROOT / "tools" / "planner"
-        self.same("bin/planner", (tree / "bin" / "planner").exists(), script.exists())
-        if script.exists():
-            settings = {"PYTHONDONTWRITEBYTECODE": "1", "MPSIM_PROGRAMS": ""}
-            self.did(run(tree / "bin" / "planner", "--help", folder="/", settings=settings), 0, run(script, "--help").out)
+    def test_the_command_mpplan(self):
+        """It does what the clone's does, with the package and the programs of the archive."""
+        tree, settings = self.unpacked(), {"PYTHONDONTWRITEBYTECODE": "1", "MPSIM_PROGRAMS": ""}
+        self.did(run(tree / "bin" / "mpplan", "--help", folder="/", settings=settings), 0, run(ROOT / "mpplan", "--help").out)
+        self.did(run(tree / "bin" / "mpplan", "run", CALL / "model.txt", CALL / "trace.csv", folder="/", settings=settings), 0, CALL / "report.txt")
 
     def test_pages_in_the_archive(self):
         tree = self.unpacked()
-        for name in [*PROGRAMS, "planner"]:
+        for name in [*PROGRAMS, "mpplan"]:
             page = gzip.decompress((tree / "share" / "man" / "man1" / f"{name}.1.gz").read_bytes()).decode()
             self.holds(f"{name}.1: {page.splitlines()[0]}", re.match(rf'\.TH {name.upper()} 1 "\w+ \d+" "mpsim {re.escape(VERSION)}" ', page))
             self.same(f"{name}.1 but for its head", page.split("\n", 1)[1], (ROOT / "docs" / f"{name}.1").read_text().split("\n", 1)[1])

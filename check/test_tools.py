@@ -1,9 +1,9 @@
-"""The table that `planner` makes from a sweep, and its message for an older Python."""
+"""The table that `mpplan` makes from a sweep, and its message for an older Python."""
 import sys
 
 from programs import EXAMPLES, ROOT, Check, run
 
-PLANNER, DAY = ROOT / "tools" / "planner", EXAMPLES / "sweep"
+PLANNER, DAY = ROOT / "mpplan", EXAMPLES / "sweep"
 # Named relative to the root, since a table contains the names.
 MODELS = [str(file.relative_to(ROOT)) for file in sorted(DAY.glob("agents-*.txt"))] + ["examples/cases/unknown-kind/model.txt"]
 
@@ -21,4 +21,4 @@ class Tools(Check):
 
     def test_an_older_python(self):
         script = f"import sys; sys.version_info = (3, 6, 8); exec(open({str(PLANNER)!r}).read())"
-        self.did(run(sys.executable, "-c", script), 1, "", "planner: it needs Python 3.9 or later, and this is 3.6\n")
+        self.did(run(sys.executable, "-c", script), 1, "", "mpplan: it needs Python 3.9 or later, and this is 3.6\n")

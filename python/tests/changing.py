@@ -1,4 +1,4 @@
-"""A trace, and calls of `planner edit` that change it."""
+"""A trace, and calls of `mpplan edit` that change it."""
 
 from commands import InFolder, planner
 
@@ -8,14 +8,14 @@ EXPECTED = "expected record followed by column names or, with --model, set or ad
 
 
 class Changing(InFolder):
-    """A test with calls of `planner edit`."""
+    """A test with calls of `mpplan edit`."""
 
     def made(self, changes, trace=CALLS, *words, told=None):
         """Returns the trace that a call writes; it must print this."""
         status, out, error = planner("edit", self.file("t.csv", trace), self.file("c.csv", changes), *words)
         self.assertEqual(status, 0, error)
         if told:
-            self.assertEqual(error, f"planner: {told}\n")
+            self.assertEqual(error, f"mpplan: {told}\n")
         return out
 
     def rows(self, changes, trace=CALLS, *words, **more):

@@ -1,4 +1,4 @@
-"""Runs the command `planner` in this process, with a directory for its files."""
+"""Runs the command `mpplan` in this process, with a directory for its files."""
 
 import contextlib
 import io
@@ -45,4 +45,4 @@ class InFolder(Test):
 
     def refuses(self, line, *words, status=1):
         """A call must write only this line, to stderr, and end with this status."""
-        self.assertEqual(planner(*words), (status, "", f"planner: {line}\n"), words)
+        self.assertEqual(planner(*words), (status, "", f"mpplan: {line}\n"), words)

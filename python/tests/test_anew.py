@@ -16,8 +16,8 @@ from mpsim.planner.days import by_calendar, by_ticks, days
 from mpsim.planner.traces import Trace
 
 DAY, HOUR, SECOND = 86400, 3600, 10**6
-POOL = "planner: {} is a pool: its waits are those of {}\n"
-LATE = "planner: on {} of {} days jobs are still in the network when the next begins; its run starts without them\n"
+POOL = "mpplan: {} is a pool: its waits are those of {}\n"
+LATE = "mpplan: on {} of {} days jobs are still in the network when the next begins; its run starts without them\n"
 
 
 def through(calls, agents):
@@ -43,7 +43,7 @@ def visits(text, pool, by):
 
 class Anew(InFolder):
     def pooled(self, model, trace, by="trunk", **agents):
-        """Runs `planner pool` for each of these nodes in turn, and returns the paths of the resulting model and trace."""
+        """Runs `mpplan pool` for each of these nodes in turn, and returns the paths of the resulting model and trace."""
         for name, count in agents.items():
             out, made = self.folder / f"{name}.{by}.csv", self.folder / f"{name}.{by}.txt"
             words = "--node", name, "--agents", count, "--by", by, "--out", out, "--out-model", made
@@ -52,7 +52,7 @@ class Anew(InFolder):
         return model, trace
 
     def rows(self, *words, status=0, error=""):
-        """Returns the rows of `planner days` (dicts) for a pool `desk`."""
+        """Returns the rows of `mpplan days` (dicts) for a pool `desk`."""
         return list(csv.DictReader(io.StringIO(self.tells("days", *words, "--node", "desk", status=status, error=error))))
 
     def test_calls_late_at_night(self):
@@ -82,7 +82,7 @@ class Anew(InFolder):
         trace = self.file("t.csv", "source,time,talk\n" + "".join(f"calls,{time},{talk}\n" for time, talk in rows))
         model, pooled = self.pooled(self.file("m.txt", "model 1\nsource calls\nserver desk talk from calls\n"), trace, desk=2)
         self.assertEqual([line.split(",")[-1] for line in text_of(pooled).splitlines()[1:]], ["0", "0", "7130", "7130", "8850", "0", "0", "6800"])
-        told = POOL.format("desk", "desk_queue") + "planner: 4 records left out: before a day opens or after it closes\n"
+        told = POOL.format("desk", "desk_queue") + "mpplan: 4 records left out: before a day opens or after it closes\n"
         rows = self.rows(model, pooled, "--open", "8:00", "--close", "20:00", "--tick", "1s", "--start", "2026-11-02", error=told)
         want = [("3", "1720", "1720", "0", "3610"), ("1", "0", "0", "0", "60")]
         self.assertEqual([(row["in"], row["wait"], row["max"], row["p50"], row["span"]) for row in rows], want)
@@ -150,7 +150,7 @@ class Anew(InFolder):
             self.assertEqual([int(row[item]) for item in ("in", "wait", "max", "p50", "p90", "p99")], want)
 
     def test_as_each_day_pooled_separately(self):
-        """Byte for byte what mpsim writes for the day's records alone after `planner pool`: in a network where pools are declared before what is
+        """Byte for byte what mpsim writes for the day's records alone after `mpplan pool`: in a network where pools are declared before what is
         upstream of them, with others beside them, and records that don't visit them; with many agents; and on a day on which no job visits one."""
         model = "model 1\nsource door\nserver back =20 from kind\nsplit kind cut w 24 from desk\nsource web\nserver desk d from turn.1 web\n"
         model += "server side e from kind.1\nsplit turn 2 turn from door\nloss last 2 =9 from back side turn\n"
@@ -179,7 +179,7 @@ class Anew(InFolder):
         rows += [(6000, 0, 1400), (6001, 0, 1400), (6002, 0, 1400), (7000, 0, 5), (7000, 1501, 5)]
         trace = self.file("t.csv", "source,time,g,d\n" + "".join(f"door,{time},{g},{d}\n" for time, g, d in rows))
         plain = self.file("m.txt", "model 1\nsource door\nserver greet g from door\nserver desk d from greet\n")
-        late = "planner: in 7 of 8 pieces jobs are still in the network when the next begins; its run starts without them\n"
+        late = "mpplan: in 7 of 8 pieces jobs are still in the network when the next begins; its run starts without them\n"
         for by, where, last in ("trunk", "desk_queue", "desk position 2"), ("agents", "desk_1 to desk_2", "desk_1 position 1"):
             model, pooled = self.pooled(plain, trace, by, desk=2)
             self.rows(model, pooled, "--every", 1000, error=POOL.format("desk", where) + late.replace("7 of", "8 of"))
@@ -210,7 +210,7 @@ class Anew(InFolder):
         trunk, agents = text_of(trunk), text_of(agents)
         why = "if it is a pool, its trace was made for another number of agents, and its figures are invalid"
         changed = {
-            trunk.replace("desk 3 d", "desk 2 d"): f"planner: warning: desk loses 3 calls: {why}\n",
+            trunk.replace("desk 3 d", "desk 2 d"): f"mpplan: warning: desk loses 3 calls: {why}\n",
             trunk.replace("desk_wait", "e"): "",
             trunk.replace("source door\n", "source door\nsource side\n").replace("from desk_queue", "from desk_queue side"): "",
             agents.replace("desk_2 d", "desk_2 e"): "",
@@ -249,7 +249,7 @@ class Anew(InFolder):
         pooled.write_text(text_of(pooled).replace("101,5", "101,x"))
         why = f"{pooled}: trace record 3: field 3 is not a number in range (column d): door,1,x,1,4"
         self.refuses(why, "days", model, pooled, "--every", 100, status=4)
-        told = POOL.format("desk", "desk_queue") + "planner: 2 records left out: before a day opens or after it closes\n"
+        told = POOL.format("desk", "desk_queue") + "mpplan: 2 records left out: before a day opens or after it closes\n"
         self.rows(model, pooled, "--close", "0:01", "--tick", "1s", error=told)
         model.write_text(text_of(model) + "server last d from absent\n")
         self.refuses(f"{model}: model line 5: input 0 unknown: server last d from absent", "days", model, pooled, "--every", 100, status=3)

@@ -18,7 +18,7 @@ from mpsim.planner.days import by_calendar, by_ticks, cut
 from mpsim.planner.hours import hours
 
 TOLD = DESK.replace("model 1\n", "model 1\n# a tick is 1s, time 0 is 2026-03-27T08:00:00+01:00 in Europe/Berlin\n")
-NO_TICK = "the length of a tick is unknown: give --tick and --start, or {} whose first lines planner prepare wrote"
+NO_TICK = "the length of a tick is unknown: give --tick and --start, or {} whose first lines mpplan prepare wrote"
 SECOND, HOUR, DAY = 10**6, 3600, 86400
 ZONE = zoneinfo.ZoneInfo("Europe/Berlin")
 
@@ -83,7 +83,7 @@ class Days(InFolder):
         self.assertEqual(list(told), ["2026-03-27", "2026-03-28", "2026-03-29", "2026-03-30"])
         figures = [[item[name] for name in ("status", "span", "in", "wait", "max", "util")] for item in told.values()]
         self.assertEqual(figures[:2], [["0", "90", "3", "60", "40", "1.0000"], ["0", "25", "3", "0", "0", "0.6000"]])
-        left = "planner: 1 record left out: before a day opens or after it closes\n"
+        left = "mpplan: 1 record left out: before a day opens or after it closes\n"
         told = rows_of(self.tells("days", model, trace, "--open", "9:00", "--close", "10:00", error=left), "day", node="desk")
         self.assertEqual({day: it["span"] for day, it in told.items()}, {"2026-03-27": "90", "2026-03-28": "25", "2026-03-30": "30"})
         told = rows_of(self.tells("days", model, trace, "--open", "3:00", "--node", "desk"), "day")
@@ -96,7 +96,7 @@ class Days(InFolder):
         times = 3 * HOUR, 12 * HOUR, 42 * HOUR - 60, 42 * HOUR, 54 * HOUR - 60, 54 * HOUR, 71 * HOUR, 76 * HOUR, 77 * HOUR
         trace = self.trace([(time, 1) for time in times])
         model = self.file("m.txt", TOLD.replace("2026-03-27T08", "2026-03-26T00"))
-        left = "planner: 4 records left out: before a day opens or after it closes\n"
+        left = "mpplan: 4 records left out: before a day opens or after it closes\n"
         told = rows_of(self.tells("days", model, trace, "--open", "18:00", "--close", "6:00", "--node", "desk", error=left), "day")
         self.assertEqual({day: it["in"] for day, it in told.items()}, {"2026-03-25": "1", "2026-03-27": "2", "2026-03-28": "2"})
         self.assertEqual({day: it["span"] for day, it in told.items()}["2026-03-28"], str(10 * HOUR + 1))
@@ -108,7 +108,7 @@ class Days(InFolder):
         rows = [(0, 1), (HOUR + 59 * 60, 2), (2 * HOUR, 4), (2 * HOUR + 29 * 60, 8), (3 * HOUR, 16)]
         model = self.file("m.txt", TOLD.replace("2026-03-27T08", "2026-03-29T00"))
         for words, count, busy in (("--open", "2:30"), 2, 28), (("--close", "2:30"), 3, 3):
-            said = f"planner: {count} records left out: before a day opens or after it closes\n"
+            said = f"mpplan: {count} records left out: before a day opens or after it closes\n"
             told = self.tells("days", model, self.trace(rows), *words, "--node", "desk", error=said)
             self.assertEqual(rows_of(told, "day")["2026-03-29"]["busy"], str(busy))
 
@@ -125,13 +125,13 @@ class Days(InFolder):
             self.assertEqual([got[name] for name in figures], [want[name] for name in figures])
             over += int(words_of(text, "jobs")[0][3]) > DAY
         self.assertGreater(over, 0)
-        said = f"planner: on {over} of 10 days jobs are still in the network when the next begins; its run starts without them\n"
+        said = f"mpplan: on {over} of 10 days jobs are still in the network when the next begins; its run starts without them\n"
         self.assertEqual((status, error), (0, said))
 
     def test_jobs_that_stay(self):
         """One job stays past the end of its piece, one leaves exactly then."""
         trace, model = self.trace([(0, 150), (90, 5), (250, 5), (390, 10), (490, 9)]), self.file("m.txt", DESK)
-        said = "planner: in 1 of 4 pieces jobs are still in the network when the next begins; its run starts without them\n"
+        said = "mpplan: in 1 of 4 pieces jobs are still in the network when the next begins; its run starts without them\n"
         told = rows_of(self.tells("days", model, trace, "--every", 100, error=said), "day", node="desk")
         self.assertEqual({day: it["span"] for day, it in told.items()}, {"0..99": "155", "200..299": "55", "300..399": "100", "400..499": "99"})
 
@@ -164,7 +164,7 @@ class Days(InFolder):
         for words in ("days", cr, trace, "--every", 10), ("pool", cr, trace, "--node", "desk", "--agents", 2):
             status, out, error = planner(*words)
             self.assertEqual((status, out), (3, ""))
-            self.assertTrue(error.startswith(f"planner: {cr}: model line 1: byte not allowed: {shown}"), error)
+            self.assertTrue(error.startswith(f"mpplan: {cr}: model line 1: byte not allowed: {shown}"), error)
         told = f"time 20260302080017 is {20260302080017 // DAY} days after time 0: a tick is shorter than 1 s, or these times aren't ticks"
         self.refuses(told, "days", model, self.trace([(20260302080017, 1)]))
         self.refuses(f"{self.folder}/absent: No such file or directory", "days", model, self.folder / "absent")
@@ -174,7 +174,7 @@ class Days(InFolder):
         """A header alone, and a line that says so. A day closes at midnight at the latest."""
         trace, model = self.trace([(0, 60), (DAY, 30)]), self.file("m.txt", TOLD)
         for words in ("--open", "23:00"), ("--close", "8:00"), ("--open", "8:00:01", "--close", "24:00"):
-            left = "planner: 2 records left out: before a day opens or after it closes; no day is left\n"
+            left = "mpplan: 2 records left out: before a day opens or after it closes; no day is left\n"
             self.assertEqual(self.tells("days", model, trace, *words, error=left).count("\n"), 1)
         told = rows_of(self.tells("days", model, trace, "--open", "8:00", "--close", "24:00", "--node", "desk"), "day")
         self.assertEqual(list(told), ["2026-03-27", "2026-03-28"])

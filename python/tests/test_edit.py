@@ -98,7 +98,7 @@ class Forms(Changing):
             ("caller", "030", model, "web,5,20,030,7\n", None),
         ):
             with self.subTest(name, word=word, words=words):
-                told = f'{changes}: row 2: "{name}" of record 1: "{word}" is stored as text, {why}\nplanner: ' if why else ""
+                told = f'{changes}: row 2: "{name}" of record 1: "{word}" is stored as text, {why}\nmpplan: ' if why else ""
                 # The last column has a number with a leading 0, as a code does.
                 given, behind = (trace.replace(",n\n", ",code\n").replace(",7\n", ",07\n"), second) if name == "code" else (trace, second)
                 self.assertEqual(self.rows(f"record,{name}\n1,{word}\n", given, *words, told=told + counts), [row, behind])
@@ -106,10 +106,10 @@ class Forms(Changing):
         self.assertEqual(self.rows("record,time,n\n1,+1,+2\n", "source,time,n\nweb,05,0\n"), ["web,6,2\n"])
         told = f'{changes}: row 3: "n" of record 1: "+2" is stored as text, because the trace has no records'
         counts_of_one = "1 record (from 0): 0 changed, 1 added, 0 removed"
-        changed = self.rows("record,source,time,n\n+,web,7,1\n1,,,+2\n", "source,time,n\n", told=f"{told}\nplanner: {counts_of_one}")
+        changed = self.rows("record,source,time,n\n+,web,7,1\n1,,,+2\n", "source,time,n\n", told=f"{told}\nmpplan: {counts_of_one}")
         self.assertEqual(changed, ["web,7,+2\n"])
         # It is reported once per column, for the first number replaced by a text.
-        told = f'{changes}: row 2: "caller" of record 1: "+1" is stored as text, {lacks}\nplanner: {counts.replace("1 changed", "2 changed")}'
+        told = f'{changes}: row 2: "caller" of record 1: "+1" is stored as text, {lacks}\nmpplan: {counts.replace("1 changed", "2 changed")}'
         rows = self.rows("record,caller\n1-2,+1\n1,5\n1-2,*2\n", trace, *model, told=told)
         self.assertEqual(rows, ["web,5,20,*2,7\n", "web,6,20,*2,8\n"])
         rows = self.rows("record,source,time,g,caller,n\n+,web,7,1,+1,+2\n3,,,,+1,+2\n", trace, *model)
@@ -186,7 +186,7 @@ class Forms(Changing):
         self.refuses(f"{out}, {out}: two outputs can't go to one file", *words, "--edits", out)
         self.refuses(f"--edits: record 1 is removed ({changes}: row 2), and mpedit has no edit for that", *words, "--edits", edits)
         self.assertEqual((text_of(out), edits.exists()), ("before\n", False))
-        counts = "planner: 2 records (from 3): 0 changed, 0 added, 1 removed\n"
+        counts = "mpplan: 2 records (from 3): 0 changed, 0 added, 1 removed\n"
         self.assertEqual(self.tells(*words, error=counts), "")
         self.assertEqual(text_of(out), "".join(line for line in CALLS.splitlines(keepends=True) if '"b' not in line))
         self.refuses("/dev/full: No space left on device", "edit", trace, changes, "--out", "/dev/full")
@@ -194,7 +194,7 @@ class Forms(Changing):
     def test_a_trace_of_a_pool(self):
         trace, changes = self.file("t.csv", "source,time,d,desk_agent,desk_wait\na,0,1,1,0\n"), self.file("c.csv", "record,time\n1,4\n")
         error = planner("edit", trace, changes)[2]
-        self.assertRegex(error, r"^planner: warning: .* was made for a pool at desk: .*, then pool\nplanner: 1 record \(from 1\): ")
+        self.assertRegex(error, r"^mpplan: warning: .* was made for a pool at desk: .*, then pool\nmpplan: 1 record \(from 1\): ")
 
 
 class Refusals(Changing):

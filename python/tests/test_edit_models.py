@@ -40,18 +40,18 @@ class Models(Changing):
         model, counts = self.file("m.txt", "model 1\nsource web\nsever desk talk from web\n"), "1 record (from 1): 1 changed, 0 added, 0 removed"
         with programs_in(self.folder):
             why = f"no program mpsim in {self.folder}; set MPSIM_PROGRAMS to a directory that has it"
-            told = f"planner: warning: {model} isn't checked: {why}\nplanner: {counts}\n"
+            told = f"mpplan: warning: {model} isn't checked: {why}\nmpplan: {counts}\n"
             self.assertEqual(self.tells("edit", trace, changes, "--model", model, error=told), "source,time,talk\nweb,65,20\n")
         self.assertFalse((self.folder / "e.txt").exists())
         # Text that a sweep fills in isn't checked, except in a comment.
-        told = f"planner: warning: {{}} isn't checked: {{}} gets its values from planner sweep --set\nplanner: {counts}\n"
+        told = f"mpplan: warning: {{}} isn't checked: {{}} gets its values from mpplan sweep --set\nmpplan: {counts}\n"
         for text, name in (
             ("loss desk {agents} talk from web\n", "{agents}"),
             ("loss desk {n:d} talk from web\n", "{n:d}"),
             ("# {a}\nserver s talk from web\n", None),
         ):
             model = self.file("m.txt", f"model 1\nsource web\n{text}")
-            error = told.format(model, name) if name else f"planner: {counts}\n"
+            error = told.format(model, name) if name else f"mpplan: {counts}\n"
             self.assertEqual(self.tells("edit", trace, changes, "--model", model, error=error), "source,time,talk\nweb,65,20\n")
         model, edits = self.file("m.txt", "model 1\nsource web\nserver s {talk} from web\n"), self.folder / "e.txt"
         line = f"--edits: {model} contains {{talk}}, but mpedit takes no model with names in braces"
@@ -64,7 +64,7 @@ class Models(Changing):
         with programs_in(self.folder):
             status, out, error = planner("edit", trace, changes, "--model", model)
             self.assertEqual((status, out), (0, "source,time,talk\nweb,65,20\n"))
-            self.assertRegex(error, rf"^planner: warning: {model} isn't checked: mpsim ended with status 99.*\nplanner: {re.escape(counts)}\n$")
+            self.assertRegex(error, rf"^mpplan: warning: {model} isn't checked: mpsim ended with status 99.*\nmpplan: {re.escape(counts)}\n$")
 
     def test_what_edits_do_not_have(self):
         """A change to a column that the model doesn't name is reported when edits are written."""
@@ -76,12 +76,12 @@ class Models(Changing):
             ("1,,+1,\n", None, "set 1 web 5 21\n"),
         ):
             words = "edit", trace, self.file("c.csv", f"record,note,g,n\n{row}"), "--model", model
-            told = f"planner: {edits} leaves out the changes of {names}, which {model} doesn't name\n" if names else ""
-            self.tells(*words, "--edits", edits, error=f"{told}planner: {counts}\n")
+            told = f"mpplan: {edits} leaves out the changes of {names}, which {model} doesn't name\n" if names else ""
+            self.tells(*words, "--edits", edits, error=f"{told}mpplan: {counts}\n")
             self.assertEqual(text_of(edits), edit)
-            self.tells(*words, error=f"planner: {counts}\n")
+            self.tells(*words, error=f"mpplan: {counts}\n")
         trace = self.file("t.csv", "source,time,g,\nweb,5,20,1\n")
-        told = f"planner: {edits} leaves out the changes of \"\", which {model} doesn't name\nplanner: {counts}\n"
+        told = f"mpplan: {edits} leaves out the changes of \"\", which {model} doesn't name\nmpplan: {counts}\n"
         self.tells("edit", trace, self.file("c.csv", "record,\n1,2\n"), "--model", model, "--edits", edits, error=told)
 
     def test_edits_of_mpedit(self):

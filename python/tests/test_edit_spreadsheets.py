@@ -44,8 +44,8 @@ class Spreadsheets(Changing):
                 (self.folder / "t.csv").write_bytes(trace)
                 path.write_bytes(changes)
                 out = self.folder / "o.csv"
-                error = f"planner: {path} is read as Windows-1252\n" if told else ""
-                self.tells("edit", self.folder / "t.csv", path, "--out", out, error=f"{error}planner: {counts}\n")
+                error = f"mpplan: {path} is read as Windows-1252\n" if told else ""
+                self.tells("edit", self.folder / "t.csv", path, "--out", out, error=f"{error}mpplan: {counts}\n")
                 self.assertEqual(out.read_bytes().splitlines(keepends=True)[1:], [wanted])
         for data, why in (
             (b"\xef\xbb\xbfrecord,note\n1,\xfc\n", "line 2: the byte fc is not valid UTF-8, although the file has a UTF-8 byte order mark"),

@@ -1,4 +1,4 @@
-"""A trace made by planner edit and run by mpsim, compared with mpedit and the same changes, and with changes made by hand."""
+"""A trace made by mpplan edit and run by mpsim, compared with mpedit and the same changes, and with changes made by hand."""
 
 import random
 import re
@@ -72,7 +72,7 @@ class Beside(InFolder):
                 status, out, error = planner("edit", trace, edits, "--model", model)
                 number = why.split()[3].rstrip(":")
                 self.assertEqual((status, out), (1, ""))
-                self.assertRegex(error, rf"^planner: {re.escape(str(edits))}: (line|row) {number}: .+\n$")
+                self.assertRegex(error, rf"^mpplan: {re.escape(str(edits))}: (line|row) {number}: .+\n$")
 
     def test_changes_that_are_drawn(self):
         """Over a trace whose columns have another order than in the model, and with columns that it doesn't name."""

@@ -1,4 +1,4 @@
-"""planner sweep with the real GNU parallel and Slurm, if installed (test_shards.py has scripts instead): what a killed shard leaves, and that the
+"""mpplan sweep with the real GNU parallel and Slurm, if installed (test_shards.py has scripts instead): what a killed shard leaves, and that the
 final table is that of single runs."""
 
 import os
@@ -13,7 +13,7 @@ from test_shards import InFolder
 
 from mpsim import programs
 
-SHORT = "planner: 1 of 4 shards are missing from the table: planner sweep --folder {} --resume runs them"
+SHORT = "mpplan: 1 of 4 shards are missing from the table: mpplan sweep --folder {} --resume runs them"
 
 
 def is_gnu_parallel():

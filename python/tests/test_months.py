@@ -111,7 +111,7 @@ class Command(InFolder):
         words = "--time", "when", "--source", "ward", "--demand", "long=d", "--code", "who=room", "--zone", "Europe/Berlin"
         model, trace, own = self.file("okt.txt", MODEL), self.folder / "sep-trace.csv", self.folder / "sep.txt"
         status, _, err = planner("prepare", export, *words, "--model", model, "--out", trace)
-        line = "planner: warning: time 0 is 2026-09-07T08:00:00+02:00 in Europe/Berlin, but in the model, which hours, days and pages use, it is "
+        line = "mpplan: warning: time 0 is 2026-09-07T08:00:00+02:00 in Europe/Berlin, but in the model, which hours, days and pages use, it is "
         self.assertIn(f"{line}2026-10-01T08:00:00+02:00 in Europe/Berlin (--out-model writes a model for this trace)\n", err)
         status, _, err = planner("prepare", export, *words, "--model", model, "--out", trace, "--out-model", own)
         self.assertEqual((status, "warning" in err), (0, False), err)

@@ -1,4 +1,4 @@
-"""A command of `planner` never overwrites its inputs, whatever the file is called: each option that names an output, with each input."""
+"""A command of `mpplan` never overwrites its inputs, whatever the file is called: each option that names an output, with each input."""
 
 import os
 import unittest
@@ -73,7 +73,7 @@ class Outputs(InFolder):
                     os.symlink("new", "soft")
                 told = planner(*words.replace("OUT", first).split(), option, second)
                 self.assertEqual(told[0], 1)
-                self.assertRegex(told[2], r"^planner: (soft, new|new, (\./)?new|(\./)?new, new): two outputs can't go to one file\n$")
+                self.assertRegex(told[2], r"^mpplan: (soft, new|new, (\./)?new|(\./)?new, new): two outputs can't go to one file\n$")
             os.unlink("soft")
         self.assertFalse(os.path.exists("new"))
 
@@ -92,7 +92,7 @@ class Outputs(InFolder):
         ):
             for first, second in ("new", "/dev/full"), ("/dev/full", "new"):
                 told = planner(*words.split(), first, other, second)
-                line = "planner: /dev/full: No space left on device"
+                line = "mpplan: /dev/full: No space left on device"
                 self.assertEqual((told[0], told[2].splitlines()[-1:]), (1, [line]), (words, first, other, second))
                 self.assertFalse(os.path.exists("new"))
 

@@ -349,7 +349,7 @@ class Files(Test):
             ((EXAMPLES / "callcentre" / "report.txt", "--within", "20"), "the share within a time needs job lines: use jobs=True or --jobs"),
         ):
             with self.subTest(line):
-                self.assertEqual(self.told("page", *words, "--out", out), (1, "", f"planner: {line}\n"))
+                self.assertEqual(self.told("page", *words, "--out", out), (1, "", f"mpplan: {line}\n"))
         self.assertEqual(list(self.folder.iterdir()), [])
 
     def test_a_report_that_is_cut(self):
@@ -359,7 +359,7 @@ class Files(Test):
             cut.write_text(text[:length])
             status, _, told = self.told("page", cut, "--out", out)
             self.assertEqual(status, 1)
-            self.assertRegex(told, rf"^planner: .*report line {line}: .*\n$")
+            self.assertRegex(told, rf"^mpplan: .*report line {line}: .*\n$")
             self.assertFalse(out.exists())
 
     def test_no_room(self):
@@ -371,9 +371,9 @@ class Files(Test):
             resource.setrlimit(resource.RLIMIT_FSIZE, (8192, 8192))
             signal.signal(signal.SIGXFSZ, signal.SIG_IGN)
 
-        self.assertEqual(self.told("page", JOBS, "--out", out, preexec_fn=narrow), (1, "", f"planner: {out}: File too large\n"))
+        self.assertEqual(self.told("page", JOBS, "--out", out, preexec_fn=narrow), (1, "", f"mpplan: {out}: File too large\n"))
         self.assertEqual([(path.name, path.read_text()) for path in self.folder.iterdir()], [("page.html", "before")])
-        self.assertEqual(self.told("page", JOBS, "--out", "/dev/full"), (1, "", "planner: /dev/full: No space left on device\n"))
+        self.assertEqual(self.told("page", JOBS, "--out", "/dev/full"), (1, "", "mpplan: /dev/full: No space left on device\n"))
         with self.assertRaises(OSError):
             mpsim.Report.read(JOBS).save("/dev/full")
 
@@ -386,7 +386,7 @@ class Files(Test):
                 file.write("mpsim report 2\n")
                 file.flush()
                 process.send_signal(signal.SIGINT)
-                self.assertEqual((process.communicate()[1], process.returncode), ("planner: stopped\n", 130))
+                self.assertEqual((process.communicate()[1], process.returncode), ("mpplan: stopped\n", 130))
         self.assertEqual(list(self.folder.iterdir()), [pipe])
 
 

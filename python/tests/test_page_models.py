@@ -31,12 +31,12 @@ class Models(InFolder):
         self.assertEqual(planner("page", *reports, "--model", models[0], "--model", models[1], "--out", out), (0, "", ""))
         self.assertEqual(asked(), ["trunk 2 d", "trunk 3 d"])
         line = "ct of r3 doesn't have the number of servers of the model, and its box shows the text of the model; give --model once per report"
-        self.assertEqual(planner("page", *reports, "--model", models[0], "--out", out), (0, "", f"planner: warning: {line}\n"))
+        self.assertEqual(planner("page", *reports, "--model", models[0], "--out", out), (0, "", f"mpplan: warning: {line}\n"))
         # If a name in braces stands for the number, nothing is reported.
         braces = self.file("braces.txt", models[0].read_text().replace("ct 2", "ct {agents}"))
         self.assertEqual(planner("page", *reports, "--model", braces, "--out", out), (0, "", ""))
         line = "3 models for 2 reports: give --model once, or once per report"
-        self.assertEqual(planner("page", *reports, *["--model", models[0]] * 3, "--out", out), (1, "", f"planner: {line}\n"))
+        self.assertEqual(planner("page", *reports, *["--model", models[0]] * 3, "--out", out), (1, "", f"mpplan: {line}\n"))
         self.assertEqual(planner("page", reports[0], "--model", models[0], "--out", models[0])[0], 1)
 
     def test_time_of_the_day(self):

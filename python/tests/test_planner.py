@@ -1,4 +1,4 @@
-"""The command `planner`: its arguments, how it ends, and what it leaves behind."""
+"""The command `mpplan`: its arguments, how it ends, and what it leaves behind."""
 
 import contextlib
 import csv
@@ -25,7 +25,7 @@ from mpsim.planner.traces import Trace
 
 EXPORT = EXAMPLES / "export" / "calls.csv"
 ASKED = [EXPORT, "--date", "Datum", "--time", "Uhrzeit", "--source", "Warteschlange"]
-COMMAND = [sys.executable, "-B", ROOT / "tools" / "planner"]
+COMMAND = [sys.executable, "-B", ROOT / "mpplan"]
 
 
 class Words(Test):
@@ -35,30 +35,30 @@ class Words(Test):
         for name, says in COMMANDS.items():
             status, out, err = planner(name, "--help")
             self.assertEqual((status, err), (0, ""))
-            self.assertIn(f"example: planner {name} ", out)
+            self.assertIn(f"example: mpplan {name} ", out)
             self.assertIn(says[1:], " ".join(out.split()))
         status, out, _ = planner("--help")
         self.assertEqual([command for command in COMMANDS if f"    {command} " in out], list(COMMANDS))
-        self.assertEqual(planner("--version"), (0, f"planner {mpsim.__version__}\n", ""))
+        self.assertEqual(planner("--version"), (0, f"mpplan {mpsim.__version__}\n", ""))
 
     def test_invalid_arguments(self):
         for words, line in (
-            ([], "the following arguments are required: COMMAND (see planner --help)"),
-            (["prepare"], "the following arguments are required: export, --time (see planner prepare --help)"),
-            (["prepare", "x", "--tim", "y"], "the following arguments are required: --time (see planner prepare --help)"),
-            (["prepare", "x", "--time", "y", "--skip", "z"], "argument --skip: invalid int value: 'z' (see planner prepare --help)"),
+            ([], "the following arguments are required: COMMAND (see mpplan --help)"),
+            (["prepare"], "the following arguments are required: export, --time (see mpplan prepare --help)"),
+            (["prepare", "x", "--tim", "y"], "the following arguments are required: --time (see mpplan prepare --help)"),
+            (["prepare", "x", "--time", "y", "--skip", "z"], "argument --skip: invalid int value: 'z' (see mpplan prepare --help)"),
         ):
-            self.assertEqual(planner(*words), (2, "", f"planner: {line}\n"))
+            self.assertEqual(planner(*words), (2, "", f"mpplan: {line}\n"))
         status, out, err = planner("prepares")
         self.assertEqual((status, out, err.count("\n")), (2, "", 1))
 
     def test_the_command_of_a_clone(self):
         """Through a link, from any directory, and as a module."""
         with open(PYTHON / "pyproject.toml", encoding="utf-8") as file:
-            self.assertIn('planner = "mpsim.planner:main"\n', file.read())
+            self.assertIn('mpplan = "mpsim.planner:main"\n', file.read())
         for command, more in (COMMAND, {}), ([sys.executable, "-B", "-m", "mpsim.planner"], {"PYTHONPATH": str(SOURCES)}):
             ran = subprocess.run([*command, "--version"], cwd="/", env={**os.environ, **more}, capture_output=True, text=True)
-            self.assertEqual((ran.returncode, ran.stdout), (0, f"planner {mpsim.__version__}\n"))
+            self.assertEqual((ran.returncode, ran.stdout), (0, f"mpplan {mpsim.__version__}\n"))
 
 
 class LongFields(InFolder):
@@ -103,17 +103,17 @@ class Ends(InFolder):
                 if isinstance(action, command._Once) and action.option_strings:
                     values = [next(iter(action.choices), "1") if action.choices else "1"] * (action.nargs if isinstance(action.nargs, int) else 1)
                     status, out, err = planner(name, *[action.option_strings[-1], *values] * 2)
-                    self.assertEqual((status, out, err.split(" (")[0]), (2, "", f"planner: {action.option_strings[-1]} is given twice"))
+                    self.assertEqual((status, out, err.split(" (")[0]), (2, "", f"mpplan: {action.option_strings[-1]} is given twice"))
 
     def test_a_link(self):
-        (self.folder / "planner").symlink_to(ROOT / "tools" / "planner")
-        ran = subprocess.run([self.folder / "planner", "prepare", *ASKED], cwd="/", env=os.environ, text=True, capture_output=True)
+        (self.folder / "mpplan").symlink_to(ROOT / "mpplan")
+        ran = subprocess.run([self.folder / "mpplan", "prepare", *ASKED], cwd="/", env=os.environ, text=True, capture_output=True)
         self.assertEqual((ran.returncode, ran.stdout.split("\n")[0]), (0, "source,time"), ran.stderr)
 
     def test_an_output_that_is_full(self):
         for words, more, line in (
-            ([], {"stdout": open("/dev/full", "w")}, "planner: standard output: No space left on device"),
-            (["--out", "/dev/full"], {}, "planner: /dev/full: No space left on device"),
+            ([], {"stdout": open("/dev/full", "w")}, "mpplan: standard output: No space left on device"),
+            (["--out", "/dev/full"], {}, "mpplan: /dev/full: No space left on device"),
         ):
             with more.get("stdout", contextlib.nullcontext()):
                 ran = self.run_with("prepare", *ASKED, *words, **more)
@@ -127,13 +127,13 @@ class Ends(InFolder):
             resource.setrlimit(resource.RLIMIT_FSIZE, (100, 100))
 
         ran = self.run_with("prepare", *ASKED, "--out", "trace.csv", "--left-out", "left.csv", preexec_fn=small)
-        self.assertEqual((ran.returncode, ran.stderr.splitlines()[-1]), (1, "planner: left.csv: File too large"))
+        self.assertEqual((ran.returncode, ran.stderr.splitlines()[-1]), (1, "mpplan: left.csv: File too large"))
         self.assertEqual((self.left(), text_of(self.folder, "trace.csv")), (["trace.csv"], "before\n"))
 
     def test_outputs_that_are_closed(self):
         script = 'exec "$@" >&-'
         ran = subprocess.run(["sh", "-c", script, "sh", *COMMAND, "prepare", *ASKED], env=os.environ, text=True, capture_output=True)
-        self.assertEqual((ran.returncode, ran.stderr.splitlines()[-1]), (1, "planner: standard output: Bad file descriptor"))
+        self.assertEqual((ran.returncode, ran.stderr.splitlines()[-1]), (1, "mpplan: standard output: Bad file descriptor"))
         # Messages are dropped then, and don't go into the trace.
         ran = subprocess.run(["sh", "-c", 'exec "$@" 2>&-', "sh", *COMMAND, "prepare", *ASKED], env=os.environ, text=True, capture_output=True)
         self.assertEqual((ran.returncode, ran.stdout.splitlines()[:2]), (0, ["source,time", "verkauf_and_buro,5"]))
@@ -141,14 +141,14 @@ class Ends(InFolder):
     def test_a_reader_that_has_enough(self):
         rows = "when\n" + "8:00\n" * 100000
         self.file("export.csv", rows)
-        command = " ".join(["python3 -B", str(ROOT / "tools" / "planner"), "prepare export.csv --time when 2>err; echo $? >status"])
+        command = " ".join(["python3 -B", str(ROOT / "mpplan"), "prepare export.csv --time when 2>err; echo $? >status"])
         ran = subprocess.run(["sh", "-c", f"({command}) | head -1"], cwd=self.folder, env=os.environ, text=True, capture_output=True)
         self.assertEqual((ran.stdout, ran.stderr, text_of(self.folder, "status")), ("source,time\n", "", "141\n"))
-        self.assertFalse([line for line in text_of(self.folder, "err").splitlines() if not line.startswith("planner: ")])
+        self.assertFalse([line for line in text_of(self.folder, "err").splitlines() if not line.startswith("mpplan: ")])
 
     def test_signals(self):
         """Nothing is left, and at most one line is printed, while the export comes through a pipe that stays open."""
-        for number, status, told in (signal.SIGINT, 130, "planner: stopped\n"), (signal.SIGTERM, 143, ""), (signal.SIGHUP, 129, ""):
+        for number, status, told in (signal.SIGINT, 130, "mpplan: stopped\n"), (signal.SIGTERM, 143, ""), (signal.SIGHUP, 129, ""):
             with self.waiting(signal.SIG_DFL) as process:
                 process.send_signal(number)
                 out, err = process.communicate(timeout=60)
@@ -182,7 +182,7 @@ class Ends(InFolder):
     def test_a_fault_of_a_program(self):
         model, trace = self.file("model.txt", "model 1\nsource Door\n"), self.file("trace.csv", "source,time\n")
         ran = self.run_with("run", model, trace, stdout=subprocess.PIPE)
-        line = f"planner: {model}: model line 2: word 2 not allowed: source Door\n"
+        line = f"mpplan: {model}: model line 2: word 2 not allowed: source Door\n"
         self.assertEqual((ran.returncode, ran.stdout, ran.stderr), (3, "", line))
 
 

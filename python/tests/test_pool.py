@@ -197,7 +197,7 @@ class Pool(Test):
 
 
 class WithPool(InFolder):
-    """A directory with a pool of two agents, made by `planner pool`."""
+    """A directory with a pool of two agents, made by `mpplan pool`."""
 
     def made(self, by="trunk", agents=2):
         """Returns a model with a server after its pool of two agents, its trace, its report, and the waits at the pool from the queue written by
@@ -268,7 +268,7 @@ class Commands(WithPool):
         self.refuses(f"{self.folder}/absent: No such file or directory", "pool", self.model, self.folder / "absent", *words)
         for agents in "0", "x", "3..2", "-1", "1..":
             told = planner("pool", self.model, self.trace, "--node", "desk", f"--agents={agents}")
-            self.assertEqual(told, (1, "", f"planner: --agents {agents}: expected a number such as 12, or a rising range such as 8..15\n"))
+            self.assertEqual(told, (1, "", f"mpplan: --agents {agents}: expected a number such as 12, or a rising range such as 8..15\n"))
         words = "pool", self.model, self.trace, "--node", "desk", "--agents", "1..2", "--out", self.folder / "o"
         self.refuses("--agents 1..2: --out and --out-model need one number of agents", *words)
         self.refuses("give a model, a trace and --agents, or --report", "pool", self.model, "--node", "desk")
@@ -280,7 +280,7 @@ class Commands(WithPool):
         """`--node desk` reports the queue, found by the names, and a line says so."""
         for by, where in ("trunk", "desk_queue"), ("agents", "desk_1 to desk_2"):
             model, trace, jobs, waits = self.made(by)
-            told = f"planner: desk is a pool: its waits are those of {where}\n"
+            told = f"mpplan: desk is a pool: its waits are those of {where}\n"
             within, p90 = round(sum(wait <= 3 for wait in waits) / 90, 6), sorted(waits)[80]
             self.assertTrue(0.3 < within < 0.9 and p90 > 3, (within, p90))
             row = f"desk,90,90,0,0,{round(sum(waits) / 90, 3)},{p90},{max(waits)},{within},{within}"
@@ -299,7 +299,7 @@ class Commands(WithPool):
         """With the figures of waits; the percentiles need job lines. Where it was a server, its row is the same."""
         for by, where in ("trunk", "desk_queue"), ("agents", "desk_1 to desk_2"):
             model, trace, jobs, waits = self.made(by)
-            told = f"planner: desk is a pool: its waits are those of {where}\n"
+            told = f"mpplan: desk is a pool: its waits are those of {where}\n"
             talk = sum(int(line.split(",")[2]) for line in text_of(trace).splitlines()[1:])
             span = next(int(word[3]) for word in words_of(text_of(jobs), "jobs"))
             busy = 10000 * talk // (2 * span) / 10000
@@ -313,7 +313,7 @@ class Commands(WithPool):
             plain = self.folder / "plain.txt"
             plain.write_text("".join(mpsim.run(self.folder / "net.txt", self.folder / "net.csv").lines()))
             server = next(node["p90"] for node in nodes_of(text_of(plain)) if node["name"] == "desk")
-            more = told + "planner: a pool's p90 needs job lines: run mpsim with --jobs\n"
+            more = told + "mpplan: a pool's p90 needs job lines: run mpsim with --jobs\n"
             got = self.tells("compare", plain, jobs, short, "--csv", error=more).splitlines()
             self.assertEqual([item for item in got if item.startswith("desk,")][0].split(",")[:4], ["desk", server, str(sorted(waits)[80]), ""])
             self.assertEqual(sum(item.startswith("desk_queue") for item in got), 0)
@@ -325,27 +325,27 @@ class Commands(WithPool):
         for by, where in ("trunk", "desk_queue"), ("agents", "desk_1 to desk_2"):
             model, trace, jobs, waits = self.made(by)
             told = f"desk is a pool: its waits are those of {where}"
-            self.tells("days", model, trace, "--every", 1000, error=f"planner: {told}\n")
+            self.tells("days", model, trace, "--every", 1000, error=f"mpplan: {told}\n")
             self.tells("days", model, trace, "--every", 1000, "--node", "wrap")
             page = self.folder / "page.html"
-            self.tells("page", jobs, "--out", page, "--within", 3, error=f"planner: {told}\n")
+            self.tells("page", jobs, "--out", page, "--within", 3, error=f"mpplan: {told}\n")
             self.assertEqual(text_of(page).count(f"<p>{told}</p>"), 1)
             row = text_of(page).split('<tr data-node="desk">')[1].split("</tr>")[0]
             self.assertIn(f"<td data-v=\"{round(sum(wait <= 3 for wait in waits) / 90, 4)}\">", row)
             self.assertIn('<td>delay</td><td data-v="">–</td>' if by == "trunk" else '<td>split</td><td data-v="">–</td>', text_of(page))
             page.unlink()
-            self.tells("run", model, trace, "--page", page, error=f"planner: {told}\n")
+            self.tells("run", model, trace, "--page", page, error=f"mpplan: {told}\n")
             self.assertEqual(text_of(page).count(f"<p>{told}</p>"), 1)
 
     def test_a_pooled_trace_that_is_run_otherwise(self):
         """A sweep and a scaled load give a warning: the waits were computed for these calls and these agents."""
         model, trace, _, _ = self.made()
         why = "was made for a pool at desk: its waits hold only for this trace and this number of agents; scale or edit first, then pool"
-        warning = f"planner: warning: {trace} {why}\n"
+        warning = f"mpplan: warning: {trace} {why}\n"
         status, _, told = planner("scale", trace, "--by", "1/2", "--out", self.folder / "half.csv")
         self.assertEqual((status, told.split("\n")[0] + "\n"), (0, warning))
-        more = "planner: desk is a pool: its waits are those of desk_queue\nplanner: a pool's max, p50, p90 and p99 need job lines: "
-        self.tells("sweep", model, trace, error=warning + more + "give planner sweep --within\n")
+        more = "mpplan: desk is a pool: its waits are those of desk_queue\nmpplan: a pool's max, p50, p90 and p99 need job lines: "
+        self.tells("sweep", model, trace, error=warning + more + "give mpplan sweep --within\n")
         # Nothing is printed without a pool, or with only one of its columns.
         plain = self.file("plain.csv", "source,time,talk,desk_wait,other_agent\nphone,0,4,0,0\n")
         self.tells("sweep", self.folder / "net.txt", plain)
@@ -357,7 +357,7 @@ class Commands(WithPool):
         model.write_text(text_of(model).replace("trunk desk 2", "trunk desk 1"))
         lost = next(node["lost"] for node in nodes_of("".join(mpsim.run(model, trace).lines())) if node["name"] == "desk")
         why = f"desk loses {lost} calls: if it is a pool, its trace was made for another number of agents, and its figures are invalid"
-        got = self.tells("service", model, trace, "--node", "desk", error=f"planner: warning: {why}\n")
+        got = self.tells("service", model, trace, "--node", "desk", error=f"mpplan: warning: {why}\n")
         self.assertEqual(got.splitlines()[1].split(",")[:4], ["desk", "90", str(90 - int(lost)), lost])
         other = self.file("other.txt", "model 2\nsource door\ndelay desk_queue =3 from door\ntrunk desk 9 d from desk_queue\n")
         calls = self.file("other.csv", "source,time,d\ndoor,0,4\n")

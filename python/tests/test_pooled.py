@@ -15,7 +15,7 @@ from test_pool import WithPool
 import mpsim
 
 LACKS = "a pool's max, p50, p90 and p99 need job lines: "
-BY_MPSIM, BY_SWEEP = LACKS + "run mpsim with --jobs", LACKS + "give planner sweep --within"
+BY_MPSIM, BY_SWEEP = LACKS + "run mpsim with --jobs", LACKS + "give mpplan sweep --within"
 
 
 class Whole(WithPool):
@@ -41,8 +41,8 @@ class Whole(WithPool):
         """In place of its queue and its trunk group, or of the nodes around its agents; all other rows are the lines of the report."""
         for by, where, agents in ("trunk", "desk_queue", []), ("agents", "desk_1 to desk_2", ["desk_1", "desk_2"]):
             model, trace, jobs, waits = self.made(by)
-            told = f"planner: desk is a pool: its waits are those of {where}\n"
-            both = f"{told}planner: {BY_MPSIM}\n"
+            told = f"mpplan: desk is a pool: its waits are those of {where}\n"
+            both = f"{told}mpplan: {BY_MPSIM}\n"
             (whole, bare), short = self.line_of(jobs, waits), self.file("short.txt", text_of(jobs).partition("\njob ")[0] + "\n")
             for words, error, row in ((jobs,), told, whole), ((short,), both, bare), ((model, trace), both, bare):
                 rows = self.tells("table", *words, error=error).splitlines()[1:]
@@ -89,7 +89,7 @@ class Whole(WithPool):
         """Of three servers after a split of another name, none has the waits of all."""
         model = self.file("own.txt", "model 1\nsource a\nsplit who 2 turn from a\nserver ct_1 d from who\nserver ct_2 d from who.1\n")
         trace = self.file("own.csv", "source,time,d\na,0,4\na,1,4\na,2,4\n")
-        servers = "it lacks the node ct_queue, which planner pool would have put upstream of the servers ct_1 to ct_2"
+        servers = "it lacks the node ct_queue, which mpplan pool would have put upstream of the servers ct_1 to ct_2"
         for command in "service", "hours":
             words = command, model, trace, "--pool", "ct", *(["--tick", "1s"] if command == "hours" else [])
             self.refuses(f"the report has no pool 'ct': {servers}", *words)
@@ -99,8 +99,8 @@ class Whole(WithPool):
         for by, where in ("trunk", "desk_queue"), ("agents", "desk_1 to desk_2"):
             model, trace, jobs, waits = self.made(by)
             why = "was made for a pool at desk: its waits hold only for this trace and this number of agents; scale or edit first, then pool"
-            told = f"planner: warning: {trace} {why}\nplanner: desk is a pool: its waits are those of {where}\n"
-            lacks = f"planner: {BY_SWEEP}"
+            told = f"mpplan: warning: {trace} {why}\nmpplan: desk is a pool: its waits are those of {where}\n"
+            lacks = f"mpplan: {BY_SWEEP}"
             whole, bare = self.line_of(jobs, waits)
             head = f"{by},{by},0,{next(word[3] for word in words_of(text_of(jobs), 'jobs'))}"
             ticks = sorted(waits)[50]
@@ -117,8 +117,8 @@ class Whole(WithPool):
             self.assertEqual((rows[-1][4], float(rows[-1][-3])), ("wrap", round(sum(item <= ticks for item in wrap) / 90, 6)))
             got = self.tells("sweep", model, trace, "--node", "desk", error=f"{told}{lacks}\n").splitlines()
             self.assertEqual(got[1:], [f"{head},{bare},"])
-            folder, said = self.folder / f"many-{by}", "planner: 1 scenarios in 1 shards, 1 to run\n"
-            parts = told.partition("planner: desk")
+            folder, said = self.folder / f"many-{by}", "mpplan: 1 scenarios in 1 shards, 1 to run\n"
+            parts = told.partition("mpplan: desk")
             error = parts[0] + said + parts[1] + parts[2] + lacks + ", without --folder\n"
             again = self.tells("sweep", model, trace, "--node", "desk", "--folder", folder, error=error)
             self.assertEqual(again.splitlines(), got)
@@ -136,18 +136,18 @@ class Whole(WithPool):
         self.assertEqual([(row[2], row[5], row[6], row[11]) for row in rows][5:6], [("2", "desk", "pool", str(sum(waits)))])
         alone = "".join(mpsim.run(text.replace("trunk desk 2", "trunk desk 1"), trace).lines())
         lost = next(node["lost"] for node in nodes_of(alone) if node["name"] == "desk")
-        self.assertIn(f"planner: warning: desk loses {lost} calls: ", err)
+        self.assertIn(f"mpplan: warning: desk loses {lost} calls: ", err)
         self.assertNotIn("is a pool:", err)
         other = self.file("other.txt", "\ufeffmodel 2\r\nsource door\r\ndelay desk_queue =3 from door\r\ntrunk desk 9 d from desk_queue\r\n")
         calls, folder = self.file("other.csv", "source,time,d\ndoor,0,4\n"), self.folder / "folder"
         plain = self.tells("sweep", other, calls)
         self.assertEqual([line.split(",")[4:6] for line in plain.splitlines()[1:]], [["door", "source"], ["desk_queue", "delay"], ["desk", "trunk"]])
-        self.assertEqual(planner("sweep", other, calls, "--folder", folder)[1:], (plain, "planner: 1 scenarios in 1 shards, 1 to run\n"))
+        self.assertEqual(planner("sweep", other, calls, "--folder", folder)[1:], (plain, "mpplan: 1 scenarios in 1 shards, 1 to run\n"))
 
     def test_days_have_a_pool_as_a_whole(self):
         """With percentiles for each day, whose calls are those of a queue that is empty when it begins."""
         model, trace, jobs, waits = self.made()
-        told = "planner: desk is a pool: its waits are those of desk_queue\n"
+        told = "mpplan: desk is a pool: its waits are those of desk_queue\n"
         whole, _ = self.line_of(jobs, waits)
         span = next(word[3] for word in words_of(text_of(jobs), "jobs"))
         got = self.tells("days", model, trace, "--every", 1000, "--node", "desk", error=told)
@@ -191,7 +191,7 @@ class Whole(WithPool):
         short = self.file("short.txt", text_of(jobs).partition("\njob ")[0] + "\n")
         told = "desk is a pool: its waits are those of desk_queue"
         for report, figures, lines in (jobs, f"p90 {p90:,}", [told]), (short, f"mean wait {mean:,}", [told, BY_MPSIM]):
-            self.tells("page", report, "--model", model, "--out", page, error="".join(f"planner: {line}\n" for line in lines))
+            self.tells("page", report, "--model", model, "--out", page, error="".join(f"mpplan: {line}\n" for line in lines))
             self.assertEqual([html.unescape(found) for found in re.findall("<p>(.* pool.*)</p>", text_of(page))], lines)
             tree = Tree(text_of(page)).root
             boxes = [element for element in elements(tree, "g") if "data-node" in element[1]]
@@ -215,7 +215,7 @@ class Whole(WithPool):
         out, pool, jobs = (self.folder / item for item in ("o.csv", "o.txt", "o.jobs"))
         self.tells("pool", model, self.folder / "net.csv", "--node", "desk", "--agents", 2, "--by", "agents", "--out", out, "--out-model", pool)
         jobs.write_text("".join(mpsim.run(pool, out, jobs=True).lines()))
-        self.tells("page", jobs, "--model", pool, "--out", page, error="planner: desk is a pool: its waits are those of desk_1 to desk_2\n")
+        self.tells("page", jobs, "--model", pool, "--out", page, error="mpplan: desk is a pool: its waits are those of desk_1 to desk_2\n")
         data = self.data_of(page)
         self.assertEqual(list(data["runs"][0]["kinds"].items())[:3], [("phone", "source"), ("desk", "pool"), ("desk_queue", "split")])
         self.assertEqual(data["runs"][0]["pictures"]["desk"]["waits"]["wait"], sorted(set(waits)))

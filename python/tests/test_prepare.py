@@ -40,9 +40,9 @@ class Example(InFolder):
         self.assertEqual([text_of(item) for item in made[:2]], [text_of(EXPORT, item) for item in ("trace.csv", "left-out.csv")])
         self.assertTrue(text_of(EXPORT, "model.txt").startswith(text_of(made[2])))
         for line in "kind: 0 is 'Störung', 1 is 'Bestellung', 2 is 'Rechnung'", "4 rows are left out", "7 records, 3 sources":
-            self.assertIn(f"planner: {line}\n", err)
+            self.assertIn(f"mpplan: {line}\n", err)
         for line in "Datum is empty (row 7)", "Datum: not of the format %d.%m.%Y (row 9, '31.02.2026')":
-            self.assertIn(f"planner: 1 row: {line}\n", err)
+            self.assertIn(f"mpplan: 1 row: {line}\n", err)
 
     def test_its_run(self):
         report = mpsim.run(EXPORT / "model.txt", EXPORT / "trace.csv")
@@ -55,8 +55,8 @@ class Example(InFolder):
         """One row, one record and one source are reported in the singular."""
         export = self.file("one.csv", "when,who,long\n8:00,a,1\n8:01,a,\n")
         told = planner("prepare", export, "--time", "when", "--source", "who", "--demand", "long")[2].splitlines()
-        self.assertEqual([item for item in told if "row" in item], ["planner: 1 row is left out", "planner: 1 row: long is empty (row 3)"])
-        self.assertEqual(told[-1], "planner: 1 record, 1 source")
+        self.assertEqual([item for item in told if "row" in item], ["mpplan: 1 row is left out", "mpplan: 1 row: long is empty (row 3)"])
+        self.assertEqual(told[-1], "mpplan: 1 record, 1 source")
 
     def test_flights(self):
         """As in public flight data; the option may also come before the export."""
@@ -66,7 +66,7 @@ class Example(InFolder):
         lines = self.folder / "lines.txt"
         status, out, err = planner("prepare", *words, "--source", "ORIGIN", "--zone", "America/Los_Angeles", "--first-lines", lines)
         self.assertEqual((status, out), (0, "source,time,taxi\nsea,300,1260\nsea,86400,720\n"), err)
-        self.assertIn("planner: 1 row: DAY_OF_MONTH: not a day of its month (row 4, '31')\n", err)
+        self.assertIn("mpplan: 1 row: DAY_OF_MONTH: not a day of its month (row 4, '31')\n", err)
         self.assertEqual(settings_in(text_of(lines)), (10**6, "2015-06-30T00:00:00-07:00", "America/Los_Angeles"))
 
     def test_the_output(self):

@@ -1,4 +1,4 @@
-"""The errors of `planner prepare`: one line with the file, the row, the column and the value, or with the option to set."""
+"""The errors of `mpplan prepare`: one line with the file, the row, the column and the value, or with the option to set."""
 
 import unittest
 import unittest.mock
@@ -29,7 +29,7 @@ class Refusals(InFolder):
         export.write_bytes(data)
         time = [] if "--time" in words else ["--time", "when"]
         status, out, err = planner("prepare", export, *time, *words, "--out", self.folder / "trace.csv", "--left-out", self.folder / "left.csv")
-        self.assertEqual((status, out, err), (1, "", f"planner: {line.replace('EXPORT', str(export))}\n"))
+        self.assertEqual((status, out, err), (1, "", f"mpplan: {line.replace('EXPORT', str(export))}\n"))
         self.assertEqual([path.name for path in self.folder.iterdir()], ["export.csv"])
 
     def test_files(self):
@@ -58,8 +58,8 @@ class Refusals(InFolder):
         for bad in ";;", "", '"':
             self.is_refused(f"EXPORT: {bad!r} isn't a delimiter, which is one character (--delimiter)", table(ROW), f"--delimiter={bad}")
         absent = self.folder / "absent.csv"
-        self.assertEqual(planner("prepare", absent, "--time", "x"), (1, "", f"planner: {absent}: No such file or directory\n"))
-        self.assertEqual(planner("prepare", self.folder, "--time", "x"), (1, "", f"planner: {self.folder}: Is a directory\n"))
+        self.assertEqual(planner("prepare", absent, "--time", "x"), (1, "", f"mpplan: {absent}: No such file or directory\n"))
+        self.assertEqual(planner("prepare", self.folder, "--time", "x"), (1, "", f"mpplan: {self.folder}: Is a directory\n"))
 
     def test_options_that_are_needed(self):
         for line, data, *words in (
@@ -185,7 +185,7 @@ class Refusals(InFolder):
             ("no rows are left; 1 row: who: the model has no source b (row 2, 'b')", "--demand", "long=d", "--source", "who"),
             ("no source 'c' for --rename; it has 'b'", "--demand", "long=d", "--source", "who", "--rename", "c=a"),
         ):
-            self.assertEqual(planner(*words, *more), (1, "", f"planner: {export}: {line}\n"))
+            self.assertEqual(planner(*words, *more), (1, "", f"mpplan: {export}: {line}\n"))
         for text, line in (
             ("model 1\nsource Sales\n", "model line 2: word 2 not allowed: source Sales"),
             ("model 1\nsource b\nsever desk d from b\n", "model line 3: word 1 not allowed: sever desk d from b"),
@@ -196,10 +196,10 @@ class Refusals(InFolder):
             model.write_text("model 1\nsource b\nsever desk d from b\n")
             status, _, told = planner(*words, "--source", "who")
             why = f"no program mpsim in {self.folder}; set MPSIM_PROGRAMS to a directory that has it"
-            self.assertEqual((status, told.split("\n", 1)[0]), (0, f"planner: warning: {model} isn't checked: {why}"))
+            self.assertEqual((status, told.split("\n", 1)[0]), (0, f"mpplan: warning: {model} isn't checked: {why}"))
             (self.folder / "trace.csv").unlink()
         model.write_bytes(b"model 1\nsource \xff\n")
-        self.assertEqual(planner(*words), (1, "", f"planner: {model}: line 2: the byte ff isn't valid UTF-8\n"))
+        self.assertEqual(planner(*words), (1, "", f"mpplan: {model}: line 2: the byte ff isn't valid UTF-8\n"))
         self.assertFalse((self.folder / "trace.csv").exists())
 
     def test_the_export_is_not_written_over(self):
@@ -207,12 +207,12 @@ class Refusals(InFolder):
         (self.folder / "link").symlink_to(export)
         for option in "--out", "--left-out", "--first-lines":
             for path in export, self.folder / "link":
-                line = f"planner: {path}: this is the export, which is never overwritten\n"
+                line = f"mpplan: {path}: this is the export, which is never overwritten\n"
                 self.assertEqual(planner("prepare", export, "--time", "when", option, path), (1, "", line))
         self.assertEqual(export.read_bytes(), table(ROW))
         out = self.folder / "out"
         status = planner("prepare", export, "--time", "when", "--out", out, "--left-out", out)
-        self.assertEqual(status, (1, "", f"planner: {out}, {out}: two outputs can't go to one file\n"))
+        self.assertEqual(status, (1, "", f"mpplan: {out}, {out}: two outputs can't go to one file\n"))
 
 
 class Limits(Test):

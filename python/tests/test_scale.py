@@ -124,17 +124,17 @@ class Command(InFolder):
     def test_each_way(self):
         text, told = self.made("--by", "2", "--twins")
         self.assertEqual(text, 'source,time,d,note\na,0,5,\udcff\na,0,5,\udcff\nb,7,6,"x,\ny"\nb,7,6,"x,\ny"\n')
-        self.assertRegex(told, r"^planner: 4 records \(from 2\): each record has one copy, at its own time, so twins arrive together")
+        self.assertRegex(told, r"^mpplan: 4 records \(from 2\): each record has one copy, at its own time, so twins arrive together")
         text, told = self.made("--by", "2", "--shift", "4")
         self.assertEqual([it.split(",")[:2] for it in text.split("\n") if it[:2] in ("a,", "b,")], [["a", "0"], ["b", "3"], ["a", "4"], ["b", "7"]])
-        self.assertEqual(told, "planner: 4 records (from 2): each record has one copy, 4 ticks later; copies past the end wrap round to the start\n")
+        self.assertEqual(told, "mpplan: 4 records (from 2): each record has one copy, 4 ticks later; copies past the end wrap round to the start\n")
         told = self.made("--by", "6/2", "--shift", "3", "--source", "b")[1]
         more = "each record of b has 2 copies, each 3 ticks after the one before; copies past the end wrap round to the start"
-        self.assertEqual(told, f"planner: 4 records (from 2): {more}\n")
+        self.assertEqual(told, f"mpplan: 4 records (from 2): {more}\n")
         told = self.made("--by", "3/2", "--shift", "4")[1]
         more = "every 2 records of a source become 3, each copy 4 ticks after the one before; copies past the end wrap round to the start"
-        self.assertEqual(told, f"planner: 3 records (from 2): {more}\n")
-        self.assertEqual(self.made("--by", "1", "--twins")[1], "planner: 2 records (from 2): each record is kept as it was\n")
+        self.assertEqual(told, f"mpplan: 3 records (from 2): {more}\n")
+        self.assertEqual(self.made("--by", "1", "--twins")[1], "mpplan: 2 records (from 2): each record is kept as it was\n")
         text, told = self.made("--by", "7/2", "--times")
         self.assertIn("\nb,2,6,", text)
         self.assertIn("each time is 2/7 of its old value: the same jobs arrive faster", told)
@@ -142,7 +142,7 @@ class Command(InFolder):
         self.assertIn("\nb,10,6,", text)
         self.assertIn("each time is 3/2 of its old value: the same jobs arrive more slowly, and their service times don't change", told)
         self.assertIn(". Days, nights and peaks are longer\n", told)
-        self.assertEqual(self.made("--by", "3/3", "--times")[1], "planner: 2 records (from 2): each record is kept as it was\n")
+        self.assertEqual(self.made("--by", "3/3", "--times")[1], "mpplan: 2 records (from 2): each record is kept as it was\n")
         text, told = self.made("--by", "1/2")
         self.assertEqual(text, "source,time,d,note\na,0,5,\udcff\n")
         self.assertIn("1 record (from 2): every 2 records of a source become 1, at their own times", told)
@@ -161,7 +161,7 @@ class Command(InFolder):
         self.assertEqual(mpsim.run(model, self.folder / "p").jobs, 2)
 
     def test_limits(self):
-        """As many records as mpsim takes, and times up to its limit; more is rejected with the messages of `planner edit`, and nothing is written."""
+        """As many records as mpsim takes, and times up to its limit; more is rejected with the messages of `mpplan edit`, and nothing is written."""
         self.assertEqual((scale.RECORDS, scale.GREATEST_TIME), (1 << 20, 1 << 60))
         more = "--by {}: {} above the limit of {}"
         trace, out = self.file("t.csv", f"source,time,d\na,0,1\nb,3,1\na,{2**58},1\n"), self.folder / "o.csv"

@@ -71,7 +71,7 @@ class Kept(InFolder):
         """The table keeps its nodes when the sweep is continued, unless others are requested."""
         model = self.file("m.txt", "model 2\nsource calls\ntrunk lines {lines} a from calls\n")
         trace, at = self.file("t.csv", "source,time,a\ncalls,0,5\ncalls,1,5\n"), self.folder / "kept"
-        count = "planner: 2 scenarios in 1 shards, {} to run\n"
+        count = "mpplan: 2 scenarios in 1 shards, {} to run\n"
         want = self.tells("sweep", model, trace, "--set", "lines=1,2", "--folder", at, "--node", "lines", error=count.format(1))
         nodes = lambda text: [row.split(",")[5] for row in text.splitlines()]
         self.assertEqual(nodes(want), ["node", "lines", "lines"])

@@ -1,4 +1,4 @@
-"""planner sweep: one table, equal to single runs, however it is run; and what remains if a part of it fails.
+"""mpplan sweep: one table, equal to single runs, however it is run; and what remains if a part of it fails.
 
 GNU parallel and Slurm are replaced by scripts on the PATH that run what they are given: `parallel` each line that it reads, from the last to the
 first, and `sbatch` the script for each task of its array. How the real ones handle a machine that disappears isn't tested here.
@@ -180,7 +180,7 @@ class InMemory(InFolder):
             with self.subTest(line):
                 status, out, lines = self.told(*words)
                 self.assertEqual((status, out, len(lines)), (1, "", 1), lines)
-                self.assertTrue(lines[0].startswith(f"planner: {line}"), lines)
+                self.assertTrue(lines[0].startswith(f"mpplan: {line}"), lines)
         self.assertFalse((self.folder / "x").exists())
 
     def test_nodes_that_are_not_there(self):
@@ -200,7 +200,7 @@ class InMemory(InFolder):
             words = [*models, *[self.trace] * (len(models) == 1), *values, "--node", "calls", "--node", node]
             for more in [], ["--folder", self.at]:
                 told = self.told(*words, *more, settings={"MPSIM_PROGRAMS": str(stand_ins)})
-                self.assertEqual(told, (1, "", [f"planner: {line}"]))
+                self.assertEqual(told, (1, "", [f"mpplan: {line}"]))
         self.assertFalse(ran.exists() or self.at.exists())
         # A pool has a name that no node may have.
         other.write_text(front + "server desk_1 a from desk_queue\nserver desk_2 a from desk_queue.1\n")
@@ -214,7 +214,7 @@ class InMemory(InFolder):
 class Shards(InFolder):
     def test_one_table_however_it_is_run(self):
         words, want = self.variants()
-        count = [f"planner: 200 scenarios in 4 shards, {number} to run" for number in range(5)]
+        count = [f"mpplan: 200 scenarios in 4 shards, {number} to run" for number in range(5)]
         self.assertEqual(self.told(*words, "--folder", self.at), (11, want, [count[4]]))
         for folder, more, log in (
             ("p", ["--parallel=--jobs 2"], "--no-notice --halt never --jobs 2\n"),
@@ -238,17 +238,17 @@ class Shards(InFolder):
         for way, shard in (["--parallel"], 4), (["--slurm"], 3):
             at = self.folder / way[0]
             status, out, lines = self.told(*words, "--folder", at, *way, settings={"MPSIM_PROGRAMS": str(folder)})
-            lines = [line for line in lines if line.startswith("planner: ")]
+            lines = [line for line in lines if line.startswith("mpplan: ")]
             self.assertTrue(killed.exists())
             self.assertEqual(status, 1)
             self.assertEqual(lines[1:3], [
-                f"planner: shard {shard}: it left nothing: not started, or killed, or its disk was full, or its machine disappeared",
-                f"planner: 1 of 4 shards are missing from the table: planner sweep --folder {at} --resume runs them",
+                f"mpplan: shard {shard}: it left nothing: not started, or killed, or its disk was full, or its machine disappeared",
+                f"mpplan: 1 of 4 shards are missing from the table: mpplan sweep --folder {at} --resume runs them",
             ])
             of_shard = {str(number) for number in range(64 * shard - 64, 64 * shard)}
             rest = [line for line in want.splitlines(keepends=True) if line.split(",")[2] not in of_shard]
             self.assertEqual(out, "".join(rest))
-            self.assertEqual(self.told("--folder", at, "--resume", *way), (11, want, ["planner: 200 scenarios in 4 shards, 1 to run"]))
+            self.assertEqual(self.told("--folder", at, "--resume", *way), (11, want, ["mpplan: 200 scenarios in 4 shards, 1 to run"]))
             self.assertEqual([path for path in at.rglob("*") if path.suffix in (".part", ".failed")], [])
             killed.unlink()
 
@@ -260,9 +260,9 @@ class Shards(InFolder):
         # Its caller must have started before it is stopped.
         stand_in(folder, "mpsweep", f"echo scenario 1 status 0; sleep 1; echo >{self.folder}/runs; exec sleep 60")
         settings = {"MPSIM_PROGRAMS": str(folder)}
-        for number, status, last in (signal.SIGINT, 130, ["planner: stopped"]), (signal.SIGTERM, 143, []):
+        for number, status, last in (signal.SIGINT, 130, ["mpplan: stopped"]), (signal.SIGTERM, 143, []):
             for way in ["--folder", self.at], ["--folder", self.at, "--shard", "1"]:
-                first = [] if "--shard" in way else ["planner: 70 scenarios in 2 shards, 2 to run"]
+                first = [] if "--shard" in way else ["mpplan: 70 scenarios in 2 shards, 2 to run"]
                 begin = [] if "--shard" in way else words if not self.at.exists() else ["--resume"]
                 with self.begun(*begin, *way, settings=settings, preexec_fn=heeds_signals) as process:
                     self.wait_for(self.folder / "runs")
@@ -295,15 +295,15 @@ class Shards(InFolder):
         for way in [], ["--parallel"]:
             status, out, lines = self.told("--folder", self.at, "--resume", *way)
             self.assertEqual(status, 1)
-            self.assertIn(f"planner: shards 1, 3: {socket.gethostname()}: {self.trace}: the file has changed since the sweep began", "; ".join(
+            self.assertIn(f"mpplan: shards 1, 3: {socket.gethostname()}: {self.trace}: the file has changed since the sweep began", "; ".join(
                 [re.sub("shard 1: ", "shards 1, 3: ", line) for line in lines if "shard 3:" not in line]))
         self.trace.write_text(text_of(self.trace).replace("calls,999,1,1\n", ""))
         for settings, why in (
             ({"MPSIM_PROGRAMS": "/nowhere"}, "no program mpsweep in /nowhere; set MPSIM_PROGRAMS to a directory that has it"),
         ):
             status, _, lines = self.told("--folder", self.at, "--resume", settings=settings)
-            self.assertEqual((status, lines[1:3]), (1, [f"planner: shard {item}: {why}" for item in (1, 3)]))
-            self.assertIn(f"planner: shards 1, 3: {socket.gethostname()}: {why}", lines)
+            self.assertEqual((status, lines[1:3]), (1, [f"mpplan: shard {item}: {why}" for item in (1, 3)]))
+            self.assertIn(f"mpplan: shards 1, 3: {socket.gethostname()}: {why}", lines)
         self.assertEqual(self.told("--folder", self.at, "--resume")[:2], (11, want))
         self.assertEqual([path for path in self.at.rglob("*.failed")], [])
 
@@ -312,7 +312,7 @@ class Shards(InFolder):
         for way, name in ("--parallel", "parallel"), ("--slurm", "sbatch"):
             status, _, lines = self.told(*words, "--folder", self.folder / name, way, settings={"PATH": "/nowhere"})
             self.assertEqual((status, len(lines)), (1, 2))
-            self.assertTrue(lines[1].startswith(f"planner: the command {name} isn't on the PATH: {way} requires "), lines)
+            self.assertTrue(lines[1].startswith(f"mpplan: the command {name} isn't on the PATH: {way} requires "), lines)
 
     def test_damaged_files(self):
         """Emptied, filled with zeros, cut, one digit changed, a scenario removed, another shard's: each is reported, left out, and run again."""
@@ -332,7 +332,7 @@ class Shards(InFolder):
             self.assertNotEqual(text, texts[shard])
             pathlib.Path(folder.file(shard)).write_bytes(text)
         status, out, lines = self.told("--folder", self.at, "--table")
-        self.assertEqual((status, lines[0]), (1, "planner: shards 1-6: damaged"))
+        self.assertEqual((status, lines[0]), (1, "mpplan: shards 1-6: damaged"))
         self.assertEqual(out, "".join(line for line in want.splitlines(keepends=True) if line.split(",")[2] not in {str(it) for it in range(384)}))
         status, out, lines = self.told("--folder", self.at, "--resume")
         self.assertEqual((status, out, sum(line.endswith("it is run again") for line in lines)), (11, want, 6))
@@ -348,11 +348,11 @@ class Shards(InFolder):
                 self.assertNotEqual(other, text)
                 plan.write_text(other)
                 told = self.told("--folder", self.at, "--resume")
-                self.assertEqual(told, (1, "", [f"planner: {self.at}/plan.json: not the plan of a sweep, or damaged"]))
+                self.assertEqual(told, (1, "", [f"mpplan: {self.at}/plan.json: not the plan of a sweep, or damaged"]))
         plan.write_text(text)
         self.told(self.model, self.trace, "--set", "lines=1..70", "--folder", "other")
         plan.write_text((self.folder / "other" / "plan.json").read_text())
-        self.assertEqual(self.told("--folder", self.at, "--table")[2][0], "planner: shards 1-2: damaged")
+        self.assertEqual(self.told("--folder", self.at, "--table")[2][0], "mpplan: shards 1-2: damaged")
 
     def test_no_room(self):
         """A disk that takes no more than 8 kB of a file: named files are complete, and nothing else is left."""

@@ -22,7 +22,7 @@ from mpsim.planner.sojourns import table as sojourn_table
 
 CALLS = EXAMPLES / "callcentre"
 JOBS, REPORT, SWEEP = CALLS / "jobs.txt", CALLS / "report.txt", EXAMPLES / "sweep" / "report.txt"
-NO_TICK = "the length of a tick is unknown: give --tick and --start, or {} whose first lines planner prepare wrote"
+NO_TICK = "the length of a tick is unknown: give --tick and --start, or {} whose first lines mpplan prepare wrote"
 NO_JOBS = f"{REPORT}: the report has no job lines: run mpsim with --jobs"
 
 
@@ -101,9 +101,9 @@ class Service(InFolder):
         pool, sweep, page = ("--node", "desk", "--agents", 2), (MODEL, TRACE), (JOBS, "--out", self.folder / "page.html")
         for words in ("service", JOBS), ("hours", JOBS), ("pool", MODEL, TRACE, *pool), ("sojourns", JOBS), ("sweep", *sweep), ("page", *page):
             for text, why in ("-1", "-1: expected a number of ticks, 0 or more"), ("1.5", "1.5: expected a number of ticks, 0 or more"):
-                self.refuses(f"argument --within: {why} (see planner {words[0]} --help)", *words, f"--within={text}", status=2)
+                self.refuses(f"argument --within: {why} (see mpplan {words[0]} --help)", *words, f"--within={text}", status=2)
         self.refuses("/absent: cannot read the model", "service", "/absent", "/absent", status=6)
-        self.assertEqual(planner("service", "/absent"), (1, "", "planner: /absent: No such file or directory\n"))
+        self.assertEqual(planner("service", "/absent"), (1, "", "mpplan: /absent: No such file or directory\n"))
 
 
 class Sojourns(InFolder):
@@ -218,17 +218,17 @@ class Table(InFolder):
                 path = self.file(f"{name}.txt", altered)
                 status, out, line = planner("table", path)
                 self.assertEqual((status, out, line.count("\n")), (1, "", 1))
-                self.assertRegex(line, f"^planner: {path}: {told}")
+                self.assertRegex(line, f"^mpplan: {path}: {told}")
         self.refuses(NO_JOBS.replace(f"{REPORT}: ", ""), "table", REPORT, "--of", "visits")
         self.refuses("--labels needs a sweep, but this is a single report", "table", REPORT, "--labels", "a")
         self.refuses(f"{self.folder}/absent: No such file or directory", "table", self.folder / "absent")
 
     def test_outputs_that_fail(self):
         """A full disk gives one line; a reader that has gone gives none."""
-        words = ["sh", "-c", '"$@"', "sh", sys.executable, "-B", ROOT / "tools" / "planner", "table", MODEL, TRACE, "--of", "visits"]
+        words = ["sh", "-c", '"$@"', "sh", sys.executable, "-B", ROOT / "mpplan", "table", MODEL, TRACE, "--of", "visits"]
         words[2] = '"$@" >/dev/full'
         ran = subprocess.run(words, stdout=subprocess.PIPE, stderr=subprocess.PIPE, text=True)
-        self.assertEqual((ran.returncode, ran.stdout, ran.stderr), (1, "", "planner: standard output: No space left on device\n"))
+        self.assertEqual((ran.returncode, ran.stdout, ran.stderr), (1, "", "mpplan: standard output: No space left on device\n"))
         words[2] = '{ "$@"; echo $? >&2; } | head -1'
         words[8:10] = [self.file("m.txt", DESK), self.file("t.csv", "source,time,d\n" + 20000 * "door,0,0\n")]
         ran = subprocess.run(words, stdout=subprocess.PIPE, stderr=subprocess.PIPE, text=True)
@@ -282,7 +282,7 @@ class Compare(InFolder):
         some = self.file("some.txt", text_of(refused) + others)
         status, out, err = planner("compare", some, "--csv")
         self.assertEqual((status, out.split("\n")[0].split(",")[:2]), (0, ["node", "2"]))
-        self.assertEqual(err, "planner: 1 is left out, because it was refused: mpsim: model line 1: expected model 1 or model 2\n")
+        self.assertEqual(err, "mpplan: 1 is left out, because it was refused: mpsim: model line 1: expected model 1 or model 2\n")
 
 
 class Run(InFolder):
@@ -302,8 +302,8 @@ class Run(InFolder):
             ("one", [20260399], None),
         ):
             trace = self.file(f"{name}.csv", "source,time\n" + "".join(f"a,{time}\n" for time in times))
-            said = f"its times look like {looks}, but are read as ticks: planner prepare converts them"
-            told = self.tells("run", model, trace, error=f"planner: warning: {trace}: {said}\n" if looks else "")
+            said = f"its times look like {looks}, but are read as ticks: mpplan prepare converts them"
+            told = self.tells("run", model, trace, error=f"mpplan: warning: {trace}: {said}\n" if looks else "")
             self.assertIn(f"span {max(times)}\n", told)
 
     def test_refusals(self):

@@ -118,7 +118,7 @@ class Project(Test):
     def test_commands(self):
         """Each is an existing function."""
         commands = {name: it.strip('"').split(":") for name, it in self.section("project.scripts").items()}
-        self.assertEqual(sorted(commands), [*NAMES, "planner"])
+        self.assertEqual(sorted(commands), sorted([*NAMES, "mpplan"]))
         for module, function in commands.values():
             self.assertTrue(callable(getattr(importlib.import_module(module), function)))
 
@@ -152,7 +152,7 @@ class Layout(Test):
                 (f"import mpsim; print(mpsim.run({str(MODEL)!r}, {str(TRACE)!r}), end='')", text_of(EXAMPLES, "callcentre", "report.txt")),
                 ("from mpsim import programs; print(programs.find('mpedit'))", f"{os.path.realpath(folder)}/mpsim/bin/mpedit\n"),
                 (f"import mpsim; print(len(mpsim.run({str(MODEL)!r}, {str(TRACE)!r})._repr_html_()) > 9000)", "True\n"),
-                ("import mpsim.planner; mpsim.planner.main(['--version'])", f"planner {importlib.import_module('mpsim').__version__}\n"),
+                ("import mpsim.planner; mpsim.planner.main(['--version'])", f"mpplan {importlib.import_module('mpsim').__version__}\n"),
             ):
                 ran = subprocess.run([sys.executable, "-B", "-c", script], stdout=subprocess.PIPE, text=True, env=surroundings, cwd=folder)
                 self.assertEqual((ran.returncode, ran.stdout), (0, wanted))
@@ -196,7 +196,7 @@ class Wheel(Test):
             return subprocess.run(words, stdout=subprocess.PIPE, stderr=subprocess.DEVNULL, text=True, env=surroundings, cwd=home)
 
         report = text_of(EXAMPLES, "callcentre", "report.txt")
-        self.assertEqual(told("planner", "run", MODEL, TRACE, "--page", "page.html").stdout, report)
+        self.assertEqual(told("mpplan", "run", MODEL, TRACE, "--page", "page.html").stdout, report)
         self.assertTrue(text_of(home, "page.html").startswith("<!doctype html>"))
         self.assertEqual(told("mpsim", MODEL, TRACE).stdout, report)
         self.assertEqual(told("mpsim").returncode, 2)

@@ -19,7 +19,7 @@ ONE_HEAP = "glibc.malloc.arena_max=1"
 
 def find(name):
     """Returns the path of a program (str): in the directory that MPSIM_PROGRAMS names; else in the wheel, in the clone around this file, or on the
-    PATH. Raises ProgramError if it isn't found. A clone's programs are built by their scripts, such as ./mpsim, not here."""
+    PATH. Raises ProgramError if it isn't found. A clone's programs are built by build.py, not here."""
     given = os.environ.get("MPSIM_PROGRAMS")
     clone = os.path.join(HERE, "..", "..", "..", "crates", name, "out")
     for folder in [given] if given else [os.path.join(HERE, "bin"), clone]:
@@ -28,7 +28,7 @@ def find(name):
             return file
     found = None if given else shutil.which(name)
     if found is None:
-        where = given or f"this package, in a clone around it (where ./{name} builds it), or on the PATH"
+        where = given or f"this package, in a clone around it (where ./build.py {name} builds it), or on the PATH"
         raise ProgramError(f"no program {name} in {where}; set MPSIM_PROGRAMS to a directory that has it")
     return found
 

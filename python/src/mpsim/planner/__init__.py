@@ -1,8 +1,8 @@
-"""The command `planner`, which takes a planner from an export to a decision.
+"""The command `mpplan`, which takes a planner from an export to a decision.
 
 Each name in COMMANDS is a subcommand and a module of this package, whose functions can be called from Python too. The module has `EXAMPLE`, an
 example command line; `words(parser)`, which declares the arguments; and `main(args)`, which runs the command and returns its status, None for 0. It
-raises an Error of a program, a ReportError, an OSError, or a ValueError whose message names the file, row, column and value. `planner` prints any of
+raises an Error of a program, a ReportError, an OSError, or a ValueError whose message names the file, row, column and value. `mpplan` prints any of
 them as one line.
 """
 
@@ -26,7 +26,7 @@ COMMANDS = {
 
 
 def main(argv=None):
-    """Runs `planner` with these arguments (by default those of the command line) and returns its status: 0; that of a program that refused or failed;
+    """Runs `mpplan` with these arguments (by default those of the command line) and returns its status: 0; that of a program that refused or failed;
     2 for invalid arguments; 130 for Ctrl-C; 141 if the reader of the output has gone; 1 otherwise."""
     try:
         from .command import ended

@@ -1,4 +1,4 @@
-"""Runs the command `planner` as `python3 -m mpsim.planner`."""
+"""Runs the command `mpplan` as `python3 -m mpsim.planner`."""
 
 import sys
 

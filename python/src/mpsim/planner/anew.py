@@ -1,4 +1,4 @@
-"""Finds the pools in a model and recomputes their agents and waits for part of a trace that `planner pool` made."""
+"""Finds the pools in a model and recomputes their agents and waits for part of a trace that `mpplan pool` made."""
 
 import contextlib
 from typing import NamedTuple
@@ -22,7 +22,7 @@ class Standing(NamedTuple):
 
 
 def standing(model, trace):
-    """Returns the pools (list of Standing) in a model whose lines are those that `planner pool` writes, upstream pools first.
+    """Returns the pools (list of Standing) in a model whose lines are those that `mpplan pool` writes, upstream pools first.
 
     A trunk group that loses a call of the trace (Trace) isn't a pool, since the trace was made for another number of agents; if the trace is
     rejected, it counts as one. The model is any that `mpsim.run` accepts. An invalid model, or one that can't be read twice, has no pools.

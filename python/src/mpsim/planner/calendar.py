@@ -27,7 +27,7 @@ def of(args, model=None):
         # A report doesn't contain its model.
         is_report = "reports" in args or "report" in args and args.trace is None
         where = "a --model" if is_report else "a model"
-        raise ValueError(f"the length of a tick is unknown: give --tick and --start, or {where} whose first lines planner prepare wrote")
+        raise ValueError(f"the length of a tick is unknown: give --tick and --start, or {where} whose first lines mpplan prepare wrote")
     if args.start:
         given("--start", iso, args.start)
     return Calendar(given("--tick", tick_of, args.tick) if args.tick else tick, args.start or start, args.zone or zone)
@@ -104,7 +104,7 @@ class Calendar:
 
     def __init__(self, tick, start=None, zone=None):
         if tick is None:
-            raise ValueError("the length of a tick is unknown; a model whose first lines `planner prepare` wrote gives it")
+            raise ValueError("the length of a tick is unknown; a model whose first lines `mpplan prepare` wrote gives it")
         self.tick, self.place, self.is_dated = tick, Zone(zone), start is not None
         if zone and not self.is_dated:
             raise ValueError(f"the zone {zone} needs the date of time 0, on which clock changes depend: give --start")

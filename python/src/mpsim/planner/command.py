@@ -1,4 +1,4 @@
-"""Parses the arguments of `planner`, runs the command, and turns any error into one line and a status."""
+"""Parses the arguments of `mpplan`, runs the command, and turns any error into one line and a status."""
 
 import argparse
 import contextlib
@@ -36,14 +36,14 @@ class _Parser(argparse.ArgumentParser):
         self.register("action", None, _Once)
 
     def error(self, message):
-        self.exit(2, f"planner: {message} (see {self.prog} --help)\n")
+        self.exit(2, f"mpplan: {message} (see {self.prog} --help)\n")
 
 
 def _parser(first):
-    """Returns the argument parser. It loads only the module of the command in `first`, because a sweep starts `planner` for each shard."""
+    """Returns the argument parser. It loads only the module of the command in `first`, because a sweep starts `mpplan` for each shard."""
     says = "Prepare traces for mpsim, run it, and tabulate its reports: from an export to a staffing decision."
-    parser = _Parser(prog="planner", description=says, allow_abbrev=False)
-    parser.add_argument("--version", action="version", version=f"planner {__version__}")
+    parser = _Parser(prog="mpplan", description=says, allow_abbrev=False)
+    parser.add_argument("--version", action="version", version=f"mpplan {__version__}")
     commands = parser.add_subparsers(dest="command", metavar="COMMAND", required=True)
     for name, says in COMMANDS.items():
         one = commands.add_parser(name, help=says, description=f"{says[0].upper()}{says[1:]}.", allow_abbrev=False)

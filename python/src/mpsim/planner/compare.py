@@ -8,8 +8,8 @@ from ..sweeps import Sweep, load
 from .files import say, written
 from .pooled import pool_lines, pools, with_pools
 
-EXAMPLE = """planner compare today.txt tomorrow.txt --figure p90
-         planner compare sweep.txt --figure lost --node desk --csv >lost.csv"""
+EXAMPLE = """mpplan compare today.txt tomorrow.txt --figure p90
+         mpplan compare sweep.txt --figure lost --node desk --csv >lost.csv"""
 
 
 def words(parser):

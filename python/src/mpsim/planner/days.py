@@ -17,7 +17,7 @@ from .table import table
 from .times import DAY, clock
 from .traces import Trace, locating_errors
 
-EXAMPLE = "planner days model.txt trace.csv --open 8:00 >days.csv"
+EXAMPLE = "mpplan days model.txt trace.csv --open 8:00 >days.csv"
 
 
 class Day(NamedTuple):

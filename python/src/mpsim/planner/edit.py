@@ -16,7 +16,7 @@ from .prepare import GREATEST_TIME, RECORDS
 from .progress import uncollected
 from .traces import Trace, fields_up_to, is_utf8, pool_warning
 
-EXAMPLE = "planner edit trace.csv changes.csv --out edited.csv"
+EXAMPLE = "mpplan edit trace.csv changes.csv --out edited.csv"
 # The most bytes of edits that mpedit accepts.
 BYTES = 1 << 24
 # A change that computes a number from the old one.

@@ -1,4 +1,4 @@
-"""Runs shards with GNU parallel or Slurm, which decide where and when; each shard is a call of `planner`."""
+"""Runs shards with GNU parallel or Slurm, which decide where and when; each shard is a call of `mpplan`."""
 
 import os
 import re
@@ -26,7 +26,7 @@ def _run(words, what, given=None):
     try:
         process.communicate(None if given is None else given.encode(errors="surrogateescape"))
     finally:
-        # If `planner` is interrupted, the command must start no further shard.
+        # If `mpplan` is interrupted, the command must start no further shard.
         if process.poll() is None:
             process.terminate()
             process.wait()

@@ -11,7 +11,7 @@ import sys
 def say(line):
     """Prints a line on stderr, if there is one."""
     with contextlib.suppress(OSError, AttributeError):
-        sys.stderr.write(f"planner: {line}\n")
+        sys.stderr.write(f"mpplan: {line}\n")
         sys.stderr.flush()
 
 

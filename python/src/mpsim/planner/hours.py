@@ -9,7 +9,7 @@ from .files import text_of, written
 from .service import PERCENTS, figure_words, figures, heads
 from .times import DAY, SECOND, WEEKDAYS
 
-EXAMPLE = "planner hours model.txt trace.csv --node desk --within 20 >hours.csv"
+EXAMPLE = "mpplan hours model.txt trace.csv --node desk --within 20 >hours.csv"
 # The most days in a table, about a hundred years. A longer span means that the times aren't ticks.
 DAYS = 36525
 

@@ -25,7 +25,7 @@ def judged_text(path, warn):
     braces, it isn't checked, and `warn` is called with that. Raises what `text_of` does, and what `mpsim.run` does, with the path."""
     text = text_of(path)
     if found := in_braces(text):
-        warn(f"warning: {path} isn't checked: {found[0]} gets its values from planner sweep --set")
+        warn(f"warning: {path} isn't checked: {found[0]} gets its values from mpplan sweep --set")
         return text
     try:
         programs.find("mpsim")

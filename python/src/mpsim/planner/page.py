@@ -1,4 +1,4 @@
-"""The command `planner page`: makes an HTML page from existing reports."""
+"""The command `mpplan page`: makes an HTML page from existing reports."""
 
 from .. import page
 from ..model import nodes_of
@@ -10,7 +10,7 @@ from .scenarios import labels_of
 from .service import ticks
 from .times import SECOND, moment
 
-EXAMPLE = "planner page jobs.txt --model model.txt --out run.html"
+EXAMPLE = "mpplan page jobs.txt --model model.txt --out run.html"
 
 
 def words(parser):

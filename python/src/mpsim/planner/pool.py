@@ -23,9 +23,9 @@ from .progress import Progress
 from .service import PERCENTS, figure_words, figures, heads
 from .traces import Trace, locating_errors
 
-EXAMPLE = """planner pool model.txt trace.csv --node desk --agents 8..15 --within 20
-         planner pool model.txt trace.csv --node desk --agents 12 --out pooled.csv --out-model pooled.txt
-         planner pool --report jobs.txt --node desk --within 20"""
+EXAMPLE = """mpplan pool model.txt trace.csv --node desk --agents 8..15 --within 20
+         mpplan pool model.txt trace.csv --node desk --agents 12 --out pooled.csv --out-model pooled.txt
+         mpplan pool --report jobs.txt --node desk --within 20"""
 # The limits of a model: servers of a trunk group, nodes, and outputs of a split, each of which may lead to an agent.
 TRUNK, NODES, OUTPUTS = 255, 64, 8
 

@@ -1,4 +1,4 @@
-"""Finds pools in reports and models by the names that `planner pool` gives their nodes, and treats all agents of a pool together."""
+"""Finds pools in reports and models by the names that `mpplan pool` gives their nodes, and treats all agents of a pool together."""
 
 import contextlib
 from array import array
@@ -46,7 +46,7 @@ def pooled(report, pool):
         names = ", ".join(node.name for node in report.nodes)
         raise ValueError(f"the report has no pool {pool!r}, neither as a trunk group nor as a server per agent; its nodes are {names}")
     if len(agents) > 1 and queue_name(pool) not in report:
-        more = f"which planner pool would have put upstream of the servers {agent_name(pool, 1)} to {agent_name(pool, len(agents))}"
+        more = f"which mpplan pool would have put upstream of the servers {agent_name(pool, 1)} to {agent_name(pool, len(agents))}"
         raise ValueError(f"the report has no pool {pool!r}: it lacks the node {queue_name(pool)}, {more}")
     # A pool of one agent has no split.
     return _of_agents(pool, report.visits.get(queue_name(pool), agents[0]), agents)
@@ -85,7 +85,7 @@ def _named_as_pools(report):
 
 
 def pools(report):
-    """Returns the pools of a report (list of str), in the order of its nodes, found by the names that `planner pool` gives: a trunk group after a
+    """Returns the pools of a report (list of str), in the order of its nodes, found by the names that `mpplan pool` gives: a trunk group after a
     delay, or servers after a split. A trunk group that loses a call isn't a pool: its trace was made for another number of agents.
 
     >>> import mpsim

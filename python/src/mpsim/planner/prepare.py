@@ -22,7 +22,7 @@ from .traces import fields_up_to
 from .zones import TWICE, Zone
 
 EXAMPLE = (
-    "planner prepare calls.csv --time Zeit --source Abteilung --demand 'Dauer=talk:min' --zone Europe/Berlin --out trace.csv --first-lines model.txt"
+    "mpplan prepare calls.csv --time Zeit --source Abteilung --demand 'Dauer=talk:min' --zone Europe/Berlin --out trace.csv --first-lines model.txt"
 )
 # The limits of a trace and a model.
 RECORDS, GREATEST_TIME, SOURCES = 1 << 20, 1 << 60, 63
@@ -31,7 +31,7 @@ LINES, FIELD = 20, 1 << 17
 
 
 def words(parser):
-    """Declares the arguments of `planner prepare`."""
+    """Declares the arguments of `mpplan prepare`."""
     add = parser.add_argument
     add("export", help="the export: a file, or /dev/stdin")
     add("--time", required=True, metavar="COLUMN", help="column with the time at which a job arrives")
@@ -103,7 +103,7 @@ def prepare(
 ):
     """Returns the trace (Prepared) made from an export, which is a path or bytes.
 
-    The other arguments are the options of `planner prepare`, as texts, except that `day` is a list of three, `model` is the text of a model, and
+    The other arguments are the options of `mpplan prepare`, as texts, except that `day` is a list of three, `model` is the text of a model, and
     `left_out` is an open file for the rows left out. Raises OSError if the export can't be read, and ValueError for an invalid option, if another is
     needed, or if no rows are left.
 
@@ -366,7 +366,7 @@ def _sort(made, rows, ticks):
 
 
 def main(args):
-    """Runs `planner prepare`."""
+    """Runs `mpplan prepare`."""
     options = {name: value for name, value in vars(args).items() if name not in ("command", "main", "export", "first_lines", "out_model", "out")}
     judge_outputs([args.out, args.left_out, args.first_lines, args.out_model], {"export": [args.export], "model": [args.model]})
     if args.out_model and not args.model:

@@ -45,7 +45,7 @@ class Prepared:
             yield text
 
     def first_lines(self):
-        """Returns the first lines of a model for this trace. `planner days`, `hours` and others take the tick and time 0 from them, the next
+        """Returns the first lines of a model for this trace. `mpplan days`, `hours` and others take the tick and time 0 from them, the next
         `prepare` the codes."""
         codes = [line_of(*item) for item in self.codes.items()]
         return first_lines(self.tick, self.zero, self.zone, self.header[2:], self.names, filter(None, codes))

@@ -17,7 +17,7 @@ def words(parser, what="a report with job lines"):
 
 def places(parser, several=""):
     parser.add_argument("--node", action="append", default=[], metavar="NAME", help=f"a node, or a pool by its name{several}")
-    says = f"a pool that planner pool made: all its agents together{several}"
+    says = f"a pool that mpplan pool made: all its agents together{several}"
     parser.add_argument("--pool", action="append", default=[], metavar="NAME", help=says)
 
 

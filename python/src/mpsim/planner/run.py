@@ -1,4 +1,4 @@
-"""The command `planner run`: runs a model and prints its report, warns about times that look like clocks, and can write a page."""
+"""The command `mpplan run`: runs a model and prints its report, warns about times that look like clocks, and can write a page."""
 
 import csv
 import itertools
@@ -10,7 +10,7 @@ from .files import judge_outputs, say, text_of, written
 from .formats import looks_like_clocks
 from .page import axes, print_pools
 
-EXAMPLE = "planner run model.txt trace.csv --page run.html --tick 1s"
+EXAMPLE = "mpplan run model.txt trace.csv --page run.html --tick 1s"
 # The number of records examined.
 LOOKED_AT = 1000
 
@@ -45,7 +45,7 @@ def main(args):
         axes(args, text_of(args.model))
     looks = warned(args.trace)
     if looks:
-        say(f"warning: {args.trace}: its times look like {looks}, but are read as ticks: planner prepare converts them")
+        say(f"warning: {args.trace}: its times look like {looks}, but are read as ticks: mpplan prepare converts them")
     report = runs.run(args.model, args.trace, jobs=bool(args.jobs or args.page))
     times = axes(args, report.model) if args.page else {}
     with written() as file:

@@ -8,7 +8,7 @@ from .files import counted, judge_outputs, say, written
 from .prepare import GREATEST_TIME, RECORDS
 from .traces import Trace, pool_warning
 
-EXAMPLE = "planner scale trace.csv --by 5/4 --shift 604800 --out more.csv"
+EXAMPLE = "mpplan scale trace.csv --by 5/4 --shift 604800 --out more.csv"
 TIMES = (
     "each time is {n}/{k} of its old value: the same jobs arrive {faster}, and their service times don't change. "
     "Days, nights and peaks are {shorter}"

@@ -8,7 +8,7 @@ from ..node_visits import HELD, LOST, percentile_of
 from . import reports
 from .files import written
 
-EXAMPLE = "planner service jobs.txt --node desk --within 20 --percentile 95"
+EXAMPLE = "mpplan service jobs.txt --node desk --within 20 --percentile 95"
 PERCENTS = 50, 90, 95, 99
 
 

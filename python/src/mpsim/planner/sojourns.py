@@ -10,7 +10,7 @@ from . import reports
 from .files import written
 from .service import PERCENTS, figure_words
 
-EXAMPLE = "planner sojourns model.txt trace.csv --by source --within 300"
+EXAMPLE = "mpplan sojourns model.txt trace.csv --by source --within 300"
 
 
 class Sojourn(NamedTuple):

@@ -1,4 +1,4 @@
-"""The command `planner sweep`: runs many variants of a model over one or more traces, here or on other machines, and makes one table."""
+"""The command `mpplan sweep`: runs many variants of a model over one or more traces, here or on other machines, and makes one table."""
 
 import csv
 import os
@@ -16,9 +16,9 @@ from .scenarios import Plan, files_of, sets_of
 from .service import ticks
 from .traces import header_of, pool_warning
 
-EXAMPLE = """planner sweep model.txt trace.csv --set agents=20..40 --page sweep.html >table.csv
-         planner sweep model.txt monday.csv --trace tuesday.csv --set agents=20..40 --folder sweep --parallel='--jobs 4' >table.csv
-         planner sweep --folder sweep --resume >table.csv"""
+EXAMPLE = """mpplan sweep model.txt trace.csv --set agents=20..40 --page sweep.html >table.csv
+         mpplan sweep model.txt monday.csv --trace tuesday.csv --set agents=20..40 --folder sweep --parallel='--jobs 4' >table.csv
+         mpplan sweep --folder sweep --resume >table.csv"""
 
 
 def words(parser):
@@ -113,7 +113,7 @@ def _in_memory(args):
                 if args.page:
                     kept[_label(plan, trace, at)] = it
                 progress(done)
-    _print_pools(pool_notes, "give planner sweep --within")
+    _print_pools(pool_notes, "give mpplan sweep --within")
     if args.page:
         kept.save(args.page, title=" ".join(args.set) or None, within=args.within)
     return 11 if refused else 0
@@ -190,7 +190,7 @@ def _print_missing(folder, damaged):
         say(f"{'shards' if len(listed) > 1 else 'shard'} {ranges(listed)}: {why}")
     missing = sum(map(len, whys.values()))
     if missing:
-        again = f"planner sweep --folder {shlex.quote(folder.path)} --resume"
+        again = f"mpplan sweep --folder {shlex.quote(folder.path)} --resume"
         say(f"{missing:,} of {folder.plan.shards:,} shards are missing from the table: {again} runs them")
         parts = len(folder.parts())
         if parts:
@@ -223,7 +223,7 @@ def _in_folder(args):
         for at, row in enumerate(shards.gather(folder, damaged, pool_notes, nodes)):
             writer.writerow(row)
             refused = refused or at > 0 and row[status] != 0
-    _print_pools(pool_notes, "give planner sweep --within, without --folder")
+    _print_pools(pool_notes, "give mpplan sweep --within, without --folder")
     return 1 if _print_missing(folder, damaged) else 11 if refused else 0
 
 

@@ -9,9 +9,9 @@ from ..sweeps import Sweep, load
 from .files import say, written
 from .pooled import names_of, pool_lines, visits_at, with_pools
 
-EXAMPLE = """planner table report.txt >nodes.csv
-         planner table model.txt trace.csv --of visits --node desk >visits.csv
-         mpsweep trace.csv agents-*.txt | planner table /dev/stdin --node desk --labels agents-*.txt >table.csv"""
+EXAMPLE = """mpplan table report.txt >nodes.csv
+         mpplan table model.txt trace.csv --of visits --node desk >visits.csv
+         mpsweep trace.csv agents-*.txt | mpplan table /dev/stdin --node desk --labels agents-*.txt >table.csv"""
 
 
 def words(parser):

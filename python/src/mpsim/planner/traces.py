@@ -127,7 +127,7 @@ class Trace:
 
 
 def pool_warning(path, header):
-    """Returns a warning (str) about a trace made by `planner pool`, given by its path and header, that will be run in another way; None for any other
+    """Returns a warning (str) about a trace made by `mpplan pool`, given by its path and header, that will be run in another way; None for any other
     trace.
 
     >>> from mpsim.planner.traces import pool_warning

@@ -1,6 +1,6 @@
-# Bash completions for planner. Source this file, or install it as `planner` in the directory of completions.
-# Written by check/planner_words.py.
-_planner() {
+# Bash completions for mpplan. Source this file, or install it as `mpplan` in the directory of completions.
+# Written by check/mpplan_words.py.
+_mpplan() {
     local word=${COMP_WORDS[COMP_CWORD]} i choices='' given=' ' options='' repeated=' ' left=''
     COMPREPLY=()
     if ((COMP_CWORD == 1)); then
@@ -92,4 +92,4 @@ _planner() {
     fi
     compopt -o default
 }
-complete -F _planner planner
+complete -F _mpplan mpplan

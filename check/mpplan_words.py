@@ -1,9 +1,9 @@
 #!/usr/bin/env python3
-"""Writes the man page's COMMANDS and the completions of `planner` from its argument parsers.
+"""Writes the man page's COMMANDS and the completions of `mpplan` from its argument parsers.
 
-usage: check/planner_words.py     in any directory
+usage: check/mpplan_words.py     in any directory
 
-Writes the section COMMANDS of docs/planner.1, and completions/planner.bash and completions/_planner. Run it whenever an argument or a help text
+Writes the section COMMANDS of docs/mpplan.1, and completions/mpplan.bash and completions/_mpplan. Run it whenever an argument or a help text
 changes: `check/run options` compares the three files with the parsers.
 """
 import argparse
@@ -18,15 +18,15 @@ sys.dont_write_bytecode = True
 from mpsim.planner import COMMANDS, command
 from mpsim.planner.service import Once
 
-MANUAL, BASH, ZSH = ROOT / "docs" / "planner.1", ROOT / "completions" / "planner.bash", ROOT / "completions" / "_planner"
+MANUAL, BASH, ZSH = ROOT / "docs" / "mpplan.1", ROOT / "completions" / "mpplan.bash", ROOT / "completions" / "_mpplan"
 # Values with these names are files. Options with one of these actions may be repeated.
 FILES, REPEATED = ("FILE", "FOLDER", "MODEL"), (argparse._AppendAction, argparse._ExtendAction, Once)
-# Options of `planner` itself, without a command.
+# Options of `mpplan` itself, without a command.
 OWN = "--help", "--version"
 
-BASH_SCRIPT = """# Bash completions for planner. Source this file, or install it as `planner` in the directory of completions.
-# Written by check/planner_words.py.
-_planner() {{
+BASH_SCRIPT = """# Bash completions for mpplan. Source this file, or install it as `mpplan` in the directory of completions.
+# Written by check/mpplan_words.py.
+_mpplan() {{
     local word=${{COMP_WORDS[COMP_CWORD]}} i choices='' given=' ' options='' repeated=' ' left=''
     COMPREPLY=()
     if ((COMP_CWORD == 1)); then
@@ -55,10 +55,10 @@ _planner() {{
     fi
     compopt -o default
 }}
-complete -F _planner planner
+complete -F _mpplan mpplan
 """
-ZSH_SCRIPT = """#compdef planner
-# Zsh completions for planner. Put this file into a directory of fpath. Written by check/planner_words.py.
+ZSH_SCRIPT = """#compdef mpplan
+# Zsh completions for mpplan. Put this file into a directory of fpath. Written by check/mpplan_words.py.
 local -a commands
 commands=(
 {commands})
@@ -123,7 +123,7 @@ def manual():
     yield ".SH COMMANDS"
     for name, says in COMMANDS.items():
         words = words_of(name)
-        yield from (f".SS {name}", f"{roff(says[0].upper() + says[1:])}.", ".PP", f".B planner {name}")
+        yield from (f".SS {name}", f"{roff(says[0].upper() + says[1:])}.", ".PP", f".B mpplan {name}")
         for word in words:
             if not word.option or word.required:
                 yield term(word)
