@@ -4,7 +4,9 @@ import re
 import shlex
 import shutil
 
+import help_texts
 import mpplan_words
+from help_texts import plain
 from pages import manual_section
 from programs import PROGRAMS, ROOT, Check, run
 
@@ -21,14 +23,6 @@ def forms_of(program):
 def options_of(text):
     """Returns the options that a text names, in order, each once."""
     return sorted(set(re.findall(r"--[a-z]+", text)))
-
-
-def plain(line):
-    """Returns a line of a man page as shown: words in alternating fonts are joined without a space."""
-    macro, *words = shlex.split(line.replace("'", "\\'"))
-    if not macro.startswith("."):
-        return line
-    return ("" if len(macro) == 3 else " ").join(words)
 
 
 def rows_of(page, heading=""):
@@ -48,6 +42,8 @@ def numbers_of(text):
     return set(re.findall(r"\d+", text.replace(",", "")))
 
 
+# What the commands answer without a run, if it is the only argument.
+OWN = ["--help", "--version"]
 # The heading in docs/ERRORS.md above the table of each program.
 ERRORS = {"mpsim": "", "mpsweep": "## `mpsweep`", "mpedit": "## `mpedit`"}
 
@@ -61,26 +57,36 @@ class Options(Check):
                 self.same("docs/ERRORS.md", (line, status), (f"`{program}: usage: {' or '.join(forms)}`", "2"))
                 head = re.findall(r"^# (?:Runs the program:|or) \./(.*)$", text_of(program), flags=re.MULTILINE)
                 self.same(f"the head of the script {program}", head, forms)
-                synopsis = " ".join("\n" if item == ".br" else plain(item) for item in manual_section(program, "SYNOPSIS"))
-                self.same(f"docs/{program}.1", [part.strip() for part in synopsis.split("\n")], forms)
+                self.same(f"docs/{program}.1", help_texts.synopsis(program), forms)
 
     def test_names_of_options(self):
         for program in PROGRAMS:
             with self.subTest(program):
                 options = options_of(" ".join(forms_of(program)))
                 described = "\n".join(item for item in manual_section(program, "OPTIONS") if item.startswith(".B"))
-                self.same(f"docs/{program}.1", options_of(described), options)
+                self.same(f"docs/{program}.1", options_of(described), sorted([*options, *OWN]))
                 self.same(f"completions/_{program}", sorted(re.findall(r"^ *'(--[a-z]+)\[", text_of(f"completions/_{program}"), flags=re.MULTILINE)), options)
+                self.same(f"completions/_{program}, alone", re.findall(r"'\(- \*\)(--[a-z]+)\[", text_of(f"completions/_{program}")), OWN)
                 if (ROOT / "completions" / f"{program}.bash").is_file():
-                    self.same(f"completions/{program}.bash", options_of(text_of(f"completions/{program}.bash")), options)
+                    self.same(f"completions/{program}.bash", options_of(text_of(f"completions/{program}.bash")), sorted([*options, *OWN]))
         self.same("docs/REPORT.md", options_of("".join(words for words, _ in rows_of("docs/REPORT.md", "## Options"))), options_of(" ".join(forms_of("mpsim"))))
+
+    def test_help(self):
+        """It is written from the man pages; the scripts at the root print it, and the version, if nothing else is asked for."""
+        version = text_of("VERSION").strip()
+        for program in PROGRAMS:
+            file = help_texts.file_of(program)
+            self.same(f"{file}: check/help_texts.py writes it", file.read_text(), help_texts.help_of(program))
+            self.did(run(ROOT / program, "--help", folder="/"), 0, file)
+            self.did(run(ROOT / program, "--version", folder="/"), 0, f"{program} {version}\n")
+            self.same("lines that are too long", [line for line in file.read_text().splitlines() if len(line) > 79 and not line.startswith(("  $ ", "usage: "))], [])
 
     def test_what_bash_completes(self):
         """All options that aren't given yet; both forms of the report; otherwise files."""
         if not shutil.which("bash"):
             self.skipTest("no bash here")
         options = options_of(" ".join(forms_of("mpsim")))
-        for before, wanted in (["-"], options), (["--jobs", "-"], [it for it in options if it != "--jobs"]), (["--report", ""], ["1", "2"]), (["--block", ""], []):
+        for before, wanted in (["-"], sorted([*options, *OWN])), (["--jobs", "-"], [it for it in options if it != "--jobs"]), (["--report", ""], ["1", "2"]), (["--block", ""], []):
             words = " ".join(shlex.quote(item) for item in ["mpsim", *before])
             script = f"source completions/mpsim.bash; COMP_WORDS=({words}); COMP_CWORD={len(before)}; _mpsim; echo ${{COMPREPLY[@]}}"
             self.same(f"bash after {words}", sorted(run("bash", "-c", script).out.decode().split()), wanted)

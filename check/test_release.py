@@ -88,6 +88,9 @@ class Release(Check):
         self.runs(bin / "mpedit", *files, edited / "edits.txt", out=edited / "report.txt")
         for name in PROGRAMS:
             self.runs(bin / name, status=2, line=run(name).line)
+            self.runs(bin / name, "--help", out=ROOT / "python" / "src" / "mpsim" / "help" / f"{name}.txt")
+            self.runs(bin / name, "--version", out=f"{name} {VERSION}\n")
+            self.runs(bin / name, "--help", "x", status=2, line=run(name).line)
 
     def test_the_archive_runs_anywhere(self):
         tree = self.unpacked()
@@ -171,9 +174,9 @@ class Release(Check):
     def test_what_is_refused(self):
         top = self.clone("top", 0o022)
         release, settings = top / "tools" / "release", {"MPSIM_PROGRAMS": str(top / "programs")}
-        self.refuses(1, "release: there is no program mpsim: ./mpsim builds it", release, folder=top, settings={"MPSIM_PROGRAMS": ""})
+        self.refuses(1, "release: there is no program mpsim: ./build.py mpsim builds it", release, folder=top, settings={"MPSIM_PROGRAMS": ""})
         (top / "programs" / "mpedit").unlink()
-        self.did(run(release, folder=top, settings=settings), 1, "", "release: there is no program mpedit: ./mpedit builds it\n")
+        self.did(run(release, folder=top, settings=settings), 1, "", "release: there is no program mpedit: ./build.py mpedit builds it\n")
         (top / "VERSION").write_text("9.9\n")
         self.did(run(release, folder=top, settings=settings), 1, "", "release: CHANGELOG.md has no heading with the version 9.9 and its date\n")
         self.holds("nothing is written", not (top / "dist").exists())
@@ -192,5 +195,5 @@ class Release(Check):
         ran = run(top / "tools" / "release", "to", folder=top, settings=settings)
         self.same(f"{ran.command}\n{ran.line.decode()}", (ran.status, (top / "to" / ARCHIVE).is_file()), (0, True))
         (top / "crates" / "mpsweep" / "src" / "main.rt").write_text("two\n")
-        line = "release: mpsweep is out of date with its sources: ./mpsweep rebuilds it"
+        line = "release: mpsweep is out of date with its sources: ./build.py mpsweep rebuilds it"
         self.refuses(1, line, top / "tools" / "release", "to", folder=top, settings=settings)

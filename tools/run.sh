@@ -1,7 +1,8 @@
 # Runs the program `name` of the clone `root` with the arguments of the script at the root that sources this file, from any directory and through links.
 # If nothing has changed since the last check, it runs at once. Otherwise build.py compares the program with its sources, and proves and builds it if
 # they differ or it is missing. RT names the toolchain's command, if rt is not on the PATH.
-program=$root/crates/$name/out/$name
+program=$root/crates/$name/out/$name package=$root/python/src/mpsim version=$root/VERSION
+. "$root/tools/answers.sh"
 
 if [ ! -x "$program" ] || ! . "$root/tools/looks.sh" | cmp -s - "$program.looks"; then
     if command -v python3 >/dev/null; then

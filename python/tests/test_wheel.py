@@ -130,7 +130,7 @@ class Project(Test):
         self.assertEqual(found["version"], importlib.import_module("mpsim").__version__)
         found = [path for path in (SOURCES / "mpsim").rglob("*") if path.is_file() and path.suffix != ".pyc" and path.parent.name != "bin"]
         data = sorted(item.name for item in found if item.suffix != ".py")
-        named = ["compared.html", "figures.js", "network.html", "page.css", "page.html", "page.js", "pictures.js", "piece.css"]
+        named = ["compared.html", "figures.js", "mpedit.txt", "mpsim.txt", "mpsweep.txt", "network.html", "page.css", "page.html", "page.js", "pictures.js", "piece.css"]
         self.assertEqual(data, named)
         if not (ROOT / ".git").exists() or not shutil.which("git"):
             self.skipTest("it is no clone of git, or git isn't there")
@@ -200,6 +200,10 @@ class Wheel(Test):
         self.assertTrue(text_of(home, "page.html").startswith("<!doctype html>"))
         self.assertEqual(told("mpsim", MODEL, TRACE).stdout, report)
         self.assertEqual(told("mpsim").returncode, 2)
+        for name in NAMES:
+            self.assertEqual(told(name, "--help").stdout, text_of(SOURCES, "mpsim", "help", f"{name}.txt"))
+            self.assertEqual(told(name, "--version").stdout, f"{name} {importlib.import_module('mpsim').__version__}\n")
+            self.assertEqual(told(name, "--help", "--version").returncode, 2)
         self.assertEqual(told("mpsweep", TRACE, MODEL).stdout, "scenario 1 status 0\n" + report)
         self.assertTrue(told("mpedit", MODEL, TRACE, os.devnull).stdout.startswith(report))
         self.assertEqual(told("mpsim", "--made", "7", "--report", "1").stdout, text_of(EXAMPLES, "made-7.txt"))

@@ -1,10 +1,11 @@
-"""Finds the three programs, sets up their environment, and provides the wheel's commands."""
+"""Finds the three programs, sets up their environment, and provides the wheel's commands, which answer --help and --version."""
 
 import os
 import resource
 import shutil
 import sys
 
+from . import __version__
 from .errors import ProgramError
 
 HERE = os.path.dirname(os.path.abspath(__file__))
@@ -39,7 +40,21 @@ def surroundings():
     return {"GLIBC_TUNABLES": TUNABLES if is_free else ONE_HEAP, **os.environ}
 
 
+def _answer(name):
+    """Prints the help or the version if the only argument asks for it, and returns whether it does, as the scripts of a clone and of a release do."""
+    if sys.argv[1:] == ["--help"]:
+        with open(os.path.join(HERE, "help", f"{name}.txt"), encoding="ascii") as text:
+            print(text.read(), end="")
+    elif sys.argv[1:] == ["--version"]:
+        print(name, __version__)
+    else:
+        return False
+    return True
+
+
 def _become(name):
+    if _answer(name):
+        return
     # The program replaces this process, so that signals, pipes and the status are its own.
     try:
         file = find(name)
