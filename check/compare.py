@@ -213,7 +213,7 @@ def main() -> int:
     options = parser.parse_args()
     program = (options.program or ROOT / 'crates' / options.tool / 'out' / options.tool).resolve()
     if not program.is_file():
-        parser.error(f'{program} is not there: ./{options.tool} builds it when it is called first')
+        parser.error(f'{program} is not there: ./build.py {options.tool} builds it')
     folder = options.keep or Path(tempfile.gettempdir()) / f'mpsim-differs-{options.seed}'
     return compare(Comparison(options.tool, program), options.seed, options.count, options.threads, folder)
 

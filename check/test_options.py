@@ -3,12 +3,17 @@ docs/REPORT.md and docs/EDITS.md; and that those of `mpplan` are those of its pa
 import re
 import shlex
 import shutil
+import sys
 
 import help_texts
 import mpplan_words
 from help_texts import plain
 from pages import manual_section
 from programs import PROGRAMS, ROOT, Check, run
+
+
+sys.path.insert(0, str(ROOT / "tools"))
+from unproved import VALUED, usage
 
 
 def text_of(name):
@@ -58,6 +63,7 @@ class Options(Check):
                 head = re.findall(r"^# (?:Runs the program:|or) \./(.*)$", text_of(program), flags=re.MULTILINE)
                 self.same(f"the head of the script {program}", head, forms)
                 self.same(f"docs/{program}.1", help_texts.synopsis(program), forms)
+                self.same(f"{program} without arguments, with nothing built", usage(program), f"usage: {' or '.join(forms)}")
 
     def test_names_of_options(self):
         for program in PROGRAMS:
@@ -80,6 +86,12 @@ class Options(Check):
             self.did(run(ROOT / program, "--help", folder="/"), 0, file)
             self.did(run(ROOT / program, "--version", folder="/"), 0, f"{program} {version}\n")
             self.same("lines that are too long", [line for line in file.read_text().splitlines() if len(line) > 79 and not line.startswith(("  $ ", "usage: "))], [])
+
+    def test_options_with_values(self):
+        """tools/unproved.py knows which arguments name no file."""
+        for program in PROGRAMS:
+            found = re.findall(r"(--[a-z]+) [A-Z]", " ".join(forms_of(program)))
+            self.same(program, sorted(VALUED[program]), sorted(set(found)))
 
     def test_what_bash_completes(self):
         """All options that aren't given yet; both forms of the report; otherwise files."""
