@@ -55,7 +55,7 @@ _mpplan() {{
     fi
     compopt -o default
 }}
-complete -F _mpplan mpplan
+complete -F _mpplan mpplan ./mpplan
 """
 ZSH_SCRIPT = """#compdef mpplan
 # Zsh completions for mpplan. Put this file into a directory of fpath. Written by check/mpplan_words.py.

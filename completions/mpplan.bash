@@ -92,4 +92,4 @@ _mpplan() {
     fi
     compopt -o default
 }
-complete -F _mpplan mpplan
+complete -F _mpplan mpplan ./mpplan
