@@ -178,7 +178,8 @@ class Planner(Check):
     def test_zsh_reads_them(self):
         if not shutil.which("zsh"):
             self.skipTest("no zsh here")
-        self.did(run("zsh", "-n", mpplan_words.ZSH))
+        for file in mpplan_words.ZSH, *(ROOT / "completions" / f"_{program}" for program in PROGRAMS):
+            self.did(run("zsh", "-n", file))
 
     def test_words_of_its_own(self):
         described = "\n".join(item for item in manual_section("mpplan", "OPTIONS") if item.startswith(".B"))
