@@ -1,5 +1,6 @@
 """Exports, and the traces made from them."""
 
+import functools
 import io
 import random
 import time
@@ -13,13 +14,15 @@ from ground import EXAMPLES, Test, text_of
 import mpsim
 from mpsim.planner.calendar import settings_in
 from mpsim.planner.exports import Export, found_delimiter, found_encoding
-from mpsim.planner.prepare import prepare
+from mpsim.planner.prepare import prepare as prepare_strictly
 from mpsim.planner.records import Records
 from mpsim.planner.times import Unread
 
+# Many tables below have rows that are left out.
+prepare = functools.partial(prepare_strictly, left_out_most="100%")
 EXPORT = EXAMPLES / "export"
 ASKED = ["--date", "Datum", "--time", "Uhrzeit", "--source", "Warteschlange"]
-ASKED += ["--demand", "Gesprächsdauer (min)=talk:min", "--demand", "Nachbearbeitung=wrap", "--code", "Anliegen=kind", "--zone", "Europe/Berlin"]
+ASKED += ["--demand", "Gesprächsdauer (min)=talk:min", "--demand", "Nachbearbeitung=wrap", "--code", "Anliegen=kind", "--zone", "Europe/Berlin", "--left-out-most", "40%"]
 
 
 def table(*rows, header="when,who,long"):
@@ -54,7 +57,7 @@ class Example(InFolder):
     def test_one_of_each(self):
         """One row, one record and one source are reported in the singular."""
         export = self.file("one.csv", "when,who,long\n8:00,a,1\n8:01,a,\n")
-        told = planner("prepare", export, "--time", "when", "--source", "who", "--demand", "long")[2].splitlines()
+        told = planner("prepare", export, "--time", "when", "--source", "who", "--demand", "long", "--left-out-most", "50%")[2].splitlines()
         self.assertEqual([item for item in told if "row" in item], ["planner: 1 row is left out", "planner: 1 row: long is empty (row 3)"])
         self.assertEqual(told[-1], "planner: 1 record, 1 source")
 
@@ -64,7 +67,7 @@ class Example(InFolder):
         export = self.file("flights.csv", table(*rows, header="YEAR,MONTH,DAY_OF_MONTH,CRS_DEP_TIME,ORIGIN,TAXI_OUT").decode())
         words = "--day", "YEAR", "MONTH", "DAY_OF_MONTH", export, "--time", "CRS_DEP_TIME", "--format", "hmm", "--demand", "TAXI_OUT=taxi:min"
         lines = self.folder / "lines.txt"
-        status, out, err = planner("prepare", *words, "--source", "ORIGIN", "--zone", "America/Los_Angeles", "--first-lines", lines)
+        status, out, err = planner("prepare", *words, "--source", "ORIGIN", "--zone", "America/Los_Angeles", "--first-lines", lines, "--left-out-most", "40%")
         self.assertEqual((status, out), (0, "source,time,taxi\nsea,300,1260\nsea,86400,720\n"), err)
         self.assertIn("planner: 1 row: DAY_OF_MONTH: not a day of its month (row 4, '31')\n", err)
         self.assertEqual(settings_in(text_of(lines)), (10**6, "2015-06-30T00:00:00-07:00", "America/Los_Angeles"))

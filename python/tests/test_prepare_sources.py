@@ -4,9 +4,7 @@ import time
 import unittest
 
 from ground import Test
-from test_prepare import table
-
-from mpsim.planner.prepare import prepare
+from test_prepare import prepare, table
 
 
 class Sources(Test):

@@ -1,5 +1,6 @@
 """The errors of `planner prepare`: one line with the file, the row, the column and the value, or with the option to set."""
 
+import functools
 import unittest
 import unittest.mock
 
@@ -8,8 +9,10 @@ from ground import ROOT, Test, programs_in, text_of
 
 from mpsim.planner import prepare as module
 from mpsim.planner import prepared
+from mpsim.planner import rows as rows_module
 
-prepare = module.prepare
+# Some tables below have rows that are left out.
+prepare = functools.partial(module.prepare, left_out_most="100%")
 
 MODEL = "model 1\nsource a\nserver desk d from a\n"
 ROW = "8:00,a,1"
@@ -236,10 +239,10 @@ class Limits(Test):
     def test_records_and_bytes(self):
         """The limits are those of docs/ERRORS.md; smaller ones are tried."""
         errors = text_of(ROOT, "docs", "ERRORS.md").replace(",", "")
-        for limit in module.RECORDS, prepared.BYTES:
+        for limit in rows_module.RECORDS, prepared.BYTES:
             self.assertRegex(errors, rf"\b{limit}\b")
-        with unittest.mock.patch.object(module, "RECORDS", 3), unittest.mock.patch.object(prepared, "BYTES", 33):
-            with self.assertRaisesRegex(ValueError, "more than 3 records, the limit of a trace: shorten the export"):
+        with unittest.mock.patch.object(rows_module, "RECORDS", 3), unittest.mock.patch.object(prepared, "BYTES", 33):
+            with self.assertRaisesRegex(ValueError, "more than 3 records, the limit of a trace: choose a part with --from, --until or --where"):
                 prepare(table(*[ROW] * 4), "when")
             # Each record has `jobs,0` and a line feed, with the value two more bytes; the header has 11 or 13.
             self.assertEqual(sum(map(len, prepare(table(*[ROW] * 3), "when").lines())), 12 + 21)

@@ -78,14 +78,27 @@ def _found_date(texts, mark, rest, clock):
     if _matches(rf"\d{{4}}{re.escape(mark)}\d{{1,2}}{re.escape(mark)}\d{{1,2}}{rest}", texts):
         return f"%Y{mark}%m{mark}%d{clock}"
     if not (found := _matches(two + four + rest, texts)):
-        raise ValueError(f"{texts[0]!r} has a two-digit year: the format may be {f'%d{mark}%m{mark}%y{clock}'!r}")
-    day, month = f"%d{mark}%m{mark}%Y{clock}", f"%m{mark}%d{mark}%Y{clock}"
+        short = _matches(rf"{two}(\d\d){rest}", texts)
+        like = " or ".join(map(repr, _orders(short, mark, "%y", clock) if short else [f"%d{mark}%m{mark}%y{clock}"]))
+        raise ValueError(f"{texts[0]!r} has a two-digit year: the format may be {like}")
+    like = _orders(found, mark, "%Y", clock)
+    if len(like) == 1:
+        return like[0]
+    raise ValueError(f"{texts[0]!r} could begin with the day or with the month: the format is {' or '.join(map(repr, like))}")
+
+
+def _orders(found, mark, year, clock):
+    """Returns the formats (list of str) that dates may have whose first two numbers were found: with the day first, the month first, or, if both are
+    above 12 and the year has two digits, the year."""
+    day, month = f"%d{mark}%m{mark}{year}{clock}", f"%m{mark}%d{mark}{year}{clock}"
     first, second = max(int(item[1]) for item in found), max(int(item[2]) for item in found)
     if second <= 12 and (first > 12 or mark == "."):
-        return day
+        return [day]
     if first <= 12 < second:
-        return month
-    raise ValueError(f"{texts[0]!r} could begin with the day or with the month: the format is {day!r} or {month!r}")
+        return [month]
+    if year == "%y" and min(first, second) > 12:
+        return [f"%y{mark}%m{mark}%d{clock}"]
+    return [day, month]
 
 
 def judged_format(form):

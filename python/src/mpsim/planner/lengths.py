@@ -57,7 +57,7 @@ class Lengths:
         self.ticks = Cache(self._work)
 
     def _work(self, text):
-        length, tick = self._length(text)
+        length, tick = self.length(text)
         ticks, left = divmod(length, tick)
         ticks += 2 * left >= tick
         if ticks > GREATEST_VALUE:
@@ -65,8 +65,8 @@ class Lengths:
         self.rounded += left > 0
         return ticks
 
-    def _length(self, text):
-        """Returns a length and a tick (int), both in a fraction of a microsecond in which they are whole."""
+    def length(self, text):
+        """Returns a length and a tick (int), both in a fraction of a microsecond in which they are whole. Raises Unread and Asks."""
         text = text.strip()
         if not text:
             raise Unread("empty")

@@ -4,12 +4,13 @@ from difflib import get_close_matches
 
 from ..model import columns, sources
 from .codes import codes_in
+from .conditions import parsed
 from .formats import found_format, judged_format
 from .lengths import GREATEST_VALUE, Lengths, found_decimal
 from .moments import Moments
 from .names import TAKEN, is_name, name_for
 from .records import Code, Constant, Dates, Demand, End, Numbers, Records, Sum, Times
-from .times import given, length
+from .times import clock, given, iso, length
 from .zones import Zone
 
 # The most columns of a trace.
@@ -26,10 +27,17 @@ class Plan:
     def __init__(self, export, place, per, format, decimal, model):
         self.export, self.place, self.per, self.decimal, self.model = export, place, per, decimal, model
         self.format = judged_format(format) if format else None
-        self.notes, self.warned, self.columns = list(export.notes), [], []
+        self.notes, self.warned, self.columns, self.conditions = list(export.notes), [], [], []
+        self._sample = export.sample
+
+    def where(self, words):
+        """Sets the conditions on rows. Formats are then detected from the rows that meet them."""
+        self.conditions = [parsed(word, self.export, self._mark) for word in words]
+        if self.conditions:
+            self._sample = [row for row in self._sample if all(condition.is_met(row) for condition in self.conditions)]
 
     def _texts(self, column):
-        return [row[column] for row in self.export.sample]
+        return [row[column] for row in self._sample]
 
     def _moments(self, column, form, option="--format"):
         name = self.export.header[column]
@@ -181,6 +189,20 @@ class Plan:
         if renamed and column is None:
             raise ValueError("--rename requires a column for --source")
         self.records = Records(len(header), self.time, self.answered, self.columns, column, only, renamed, known)
+        self.records.conditions = self.conditions
+
+    def between(self, begins, until):
+        """Sets the times between which jobs arrive."""
+        self.records.begins, self.records.ends = (text and self._bound(option, text) for option, text in (("--from", begins), ("--until", until)))
+
+    def _bound(self, option, text):
+        """Returns the moment of --from or --until."""
+        if self.is_ticks:
+            raise ValueError(f"{option} {text}: it can't be used with times in ticks")
+        if not self.has_day:
+            return given(option, clock, text)
+        wall, offset = given(option, iso, text)
+        return wall - offset if offset is not None else self.place.first(wall)
 
     def judge_renames(self):
         """Checks the names given with --rename once all rows are read; names of sources whose rows were all left out are valid too. Returns a note

@@ -213,15 +213,20 @@ class Left(ValueError):
         self.column, self.why = column, why
 
 
+class Unwanted(Exception):
+    """A row that a condition excludes."""
+
+
 class Records:
     """Makes records from rows. `width` is the number of fields in the header, `time` the arrival (Times), `answered` the beginnings of services with
     an `End` (list of Times), `values` the columns of the trace. `source` is a column, or `only` the name that all records get; `renamed` has given
-    names, and `known` the allowed ones (None for any)."""
+    names, and `known` the allowed ones (None for any). Rows that don't meet all `conditions` (list of Condition), and those that arrive before `begins`
+    or not before `ends` (moments or None), are excluded."""
 
     def __init__(self, width, time, answered, values, source=None, only=None, renamed=None, known=None):
         self.width, self.time, self.answered, self.values = width, time, answered, values
         self.source, self.only, self.known = source, only, known
-        self.renamed, self.names = renamed or {}, {}
+        self.renamed, self.names, self.conditions, self.begins, self.ends = renamed or {}, {}, [], None, None
         self._taken = set(self.renamed.values())
         self._named = Cache(self._name_of)
         self._codes = [at for at, it in enumerate(values) if it.code]
@@ -244,9 +249,12 @@ class Records:
         may; nothing visible has changed then."""
         if self.time.dates or self.answered or set(map(len, rows)) != {self.width}:
             raise Unread("one by one")
+        if not all(condition.holds(row) for condition in self.conditions for row in rows):
+            raise Unread("one by one")
         columns = list(zip(*rows))
         stamps = self.time.how.many(columns[self.time.column])
-        if not -MOST < min(stamps) <= max(stamps) < MOST:
+        first, last = min(stamps), max(stamps)
+        if not -MOST < first <= last < MOST or not self._is_within(first) or not self._is_within(last):
             raise Unread("one by one")
         values = [value.many(columns) for value in self.values]
         named = [self.only] * len(rows) if self.source is None else list(map(self._named.__getitem__, columns[self.source]))
@@ -254,15 +262,26 @@ class Records:
             values[at] = list(map(self.values[at].code, rows))
         return [named, stamps, *values]
 
+    def _is_within(self, stamp):
+        return (self.begins is None or stamp >= self.begins) and (self.ends is None or stamp < self.ends)
+
     def of(self, row):
-        """Returns a record: a list of the source, the moment, and the values. Raises Left if the row can't be read, and Asks, with the `column`."""
+        """Returns a record: a list of the source, the moment, and the values. Raises Left if the row can't be read, Unwanted if it is excluded, and
+        Asks, with the `column`."""
         if len(row) != self.width and (len(row) < self.width or any(row[self.width :])):
             raise Left(None, f"the number of fields isn't the header's {self.width}")
         at = self.time.column
         try:
+            for condition in self.conditions:
+                at = condition.column
+                if not condition.holds(row):
+                    raise Unwanted
+            at = self.time.column
             stamp = self.time.first(row)
             if not -MOST < stamp < MOST:
                 raise Unread("out of the range of times")
+            if not self._is_within(stamp):
+                raise Unwanted
             begun = [stamp]
             for item in self.answered:
                 at = item.column
