@@ -7,7 +7,9 @@ from commands import InFolder, planner
 from ground import Test
 from test_prepare import table
 
+from mpsim.planner.calendar import Calendar, settings_in
 from mpsim.planner.formats import found_format
+from mpsim.planner.lengths import Lengths
 from mpsim.planner.prepare import prepare
 from mpsim.planner.rows import TooManyLeft
 
@@ -111,6 +113,66 @@ class Zeros(Test):
         self.assertEqual((made.values[0].tolist(), any("services" in item for item in made.told)), ([5], False))
         self.assertIn("2 rows excluded by --where, --from or --until", made.told)
         self.assertIn("d: 1 service of 0 ticks", prepare(table("8:00,8:00", "8:00,8:01", header="when,end"), "when", end=["end=d"]).told)
+
+
+class HoursThatOccurTwice(Test):
+    """In Berlin on 25 October 2026 the hour from 2:00 occurs twice."""
+
+    def made(self, *rows, twice="first", **options):
+        rows = [row.replace("@", "2026-10-25 0") for row in rows]
+        return prepare(table(*rows, header="when,end"), "when", end=["end=d"], zone="Europe/Berlin", twice=twice, begin="2026-10-25", **options)
+
+    def test_a_service_with_two_lengths(self):
+        """By the first hour it is 73 minutes long, by the second 13."""
+        says = "row 2, column 'end': '2026-10-25 03:08': the service is 780 or 4380 ticks long, since an hour occurs twice: give --twice order"
+        with self.assertRaisesRegex(ValueError, says):
+            self.made("@2:55,@3:08")
+        self.assertEqual(self.made("@2:55,@3:08", twice="second").values[0].tolist(), [780])
+        # Those of one length in either hour, or that fit only one.
+        for twice in "first", "second":
+            made = self.made("@1:50,@1:59", "@2:10,@2:20", "@4:00,@6:00", "@1:00,@4:00", twice=twice)
+            self.assertEqual(made.values[0].tolist(), [4 * 3600, 540, 600, 7200])
+        self.assertEqual(self.made("@2:50,@2:10").values[0].tolist(), [1200])
+
+    def test_rows_in_order_of_their_ends(self):
+        """As a telephone system writes them: when a call ends."""
+        rows = "@1:50,@2:05", "@2:20,@2:30", "@2:05,@2:35", "@2:40,@2:59", "@2:55,@2:01", "@2:03,@2:08", "@2:58,@2:10", "@2:30,@3:08", "@2:55,@3:10"
+        made = self.made(*rows, twice="order", tick="1min")
+        arrivals = [110, 125, 140, 160, 175, 178, 183, 210, 235]
+        self.assertEqual((list(made.times), made.values[0].tolist()), (arrivals, [15, 30, 10, 19, 6, 12, 5, 38, 15]))
+        self.assertIn("rows are in order of 'end'", made.told)
+
+    def test_rows_in_order_of_their_arrivals(self):
+        rows = "@1:50,@2:05", "@2:20,@2:50", "@2:25,@2:30", "@2:55,@2:05", "@2:01,@2:03", "@2:30,@3:01"
+        made = self.made(*rows, twice="order", tick="1min")
+        self.assertEqual((list(made.times), made.values[0].tolist()), ([110, 140, 145, 175, 181, 210], [15, 30, 5, 10, 2, 31]))
+
+
+class Nanoseconds(Test):
+    def test_packets(self):
+        """Frames of 64 and 1518 bytes at 10 Gb/s take 51.2 and 1214.4 ns."""
+        rows = table("1772438417.123456789,64", "1772438417.123456791,1518", "1772438418,0", header="at,bytes")
+        made = prepare(rows, "at", format="unix", demand=["bytes=length:bytes@10Gbps"], tick="1ns", begin="first")
+        self.assertEqual([list(row) for row in made.rows()], [["jobs", 0, 51], ["jobs", 2, 1214], ["jobs", 876543211, 0]])
+        self.assertEqual(made.first_lines().splitlines()[1], "# a tick is 1ns, time 0 is 2026-03-02T08:00:17.123456789+00:00")
+        self.assertEqual(settings_in(made.first_lines())[:2], (1, "2026-03-02T08:00:17.123456789+00:00"))
+        self.assertEqual(Calendar(1, "2026-03-02T08:00:17.123456789").wall(1) % 10**9, 123456790)
+        iso = table("2026-03-02T08:00:17.123456789Z,1", "2026-03-02T08:00:17.123456791Z,1", header="at,bytes")
+        self.assertEqual(list(prepare(iso, "at", tick="1ns", begin="first").times), [0, 2])
+
+    def test_rates(self):
+        for unit, text, ticks in (
+            ("bytes@10Gbps", "1250000000", 10**9),
+            ("bits@1bps", "3", 3 * 10**9),
+            ("bytes@2.5Gbps", "1", 3),
+            ("bytes@1.544Mbps", "193", 10**6),
+            ("bits@3Mbps", "1", 333),
+            ("bytes@1Tbps", "9,000", 72),
+        ):
+            self.assertEqual(Lengths(unit, ".", 1).ticks[text], ticks, unit)
+        for bad in "bytes@0bps", "bytes@Gbps", "bytes@10", "furlongs@1bps", "bytes@10gbps":
+            with self.assertRaisesRegex(ValueError, f"unknown unit '{bad}': it is one of .*, or data at a rate such as bytes@10Gbps"):
+                Lengths(bad, ".", 1)
 
 
 class Conditions(Test):

@@ -24,7 +24,7 @@ from mpsim.planner.progress import Progress
 from mpsim.planner.traces import Trace
 
 EXPORT = EXAMPLES / "export" / "calls.csv"
-ASKED = [EXPORT, "--date", "Datum", "--time", "Uhrzeit", "--source", "Warteschlange"]
+ASKED = [EXPORT, "--date", "Datum", "--time", "Uhrzeit", "--source", "Warteschlange", "--left-out-most", "40%"]
 COMMAND = [sys.executable, "-B", ROOT / "tools" / "planner"]
 
 

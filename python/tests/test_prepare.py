@@ -70,7 +70,7 @@ class Example(InFolder):
         status, out, err = planner("prepare", *words, "--source", "ORIGIN", "--zone", "America/Los_Angeles", "--first-lines", lines, "--left-out-most", "40%")
         self.assertEqual((status, out), (0, "source,time,taxi\nsea,300,1260\nsea,86400,720\n"), err)
         self.assertIn("planner: 1 row: DAY_OF_MONTH: not a day of its month (row 4, '31')\n", err)
-        self.assertEqual(settings_in(text_of(lines)), (10**6, "2015-06-30T00:00:00-07:00", "America/Los_Angeles"))
+        self.assertEqual(settings_in(text_of(lines)), (10**9, "2015-06-30T00:00:00-07:00", "America/Los_Angeles"))
 
     def test_the_output(self):
         status, out, err = planner("prepare", EXPORT / "calls.csv", *ASKED)
@@ -253,7 +253,7 @@ class Times(Test):
         self.assertEqual(times("2026-03-02 00:30", begin="day", zone="Europe/Berlin"), [1800])
         self.assertEqual(times("2026-03-02 00:30", begin="0:15", zone="Europe/Berlin"), [900])
         made = prepare(table("2026-03-02 08:30,a,1"), "when", zone="Europe/Berlin")
-        self.assertEqual(settings_in(made.first_lines()), (10**6, "2026-03-02T08:00:00+01:00", "Europe/Berlin"))
+        self.assertEqual(settings_in(made.first_lines()), (10**9, "2026-03-02T08:00:00+01:00", "Europe/Berlin"))
         self.assertEqual(prepare(table("2026-03-02 08:30,a,1"), "when").zero, "2026-03-02T08:00:00")
         self.assertEqual(prepare(table("2026-03-02T08:30+01:00,a,1"), "when").zero, "2026-03-02T07:00:00+00:00")
         self.assertEqual(prepare(table("1772436600,a,1"), "when", format="unix").zero, "2026-03-02T07:00:00+00:00")

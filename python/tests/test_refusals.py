@@ -104,7 +104,7 @@ class Refusals(InFolder):
                 "column 'when': 'Summe' isn't written like '01.10.2026'; if you give a format, such rows are left out (--format)",
                 table("01.10.2026,a,1", "Summe,,9", "02.10.2026,a,1"),
             ),
-            ("times are before the year 1 or after the year 9999: is --format right?", table("1772436600000,a,1"), "--format", "unix"),
+            ("no rows are left; 1 row: when: out of the range of times (row 2, '1772436600000')", table("1772436600000,a,1"), "--format", "unix"),
             ("--answered requires --end", table(ROW), "--answered", "when"),
             ("column 'when' isn't only a time of day, so --date can't be used", table("2026-03-02,a,1"), "--date", "when"),
             ("column 'when' isn't only a time of day, so --day can't be used", table("2026-03-02,a,1"), *DAY),
@@ -129,7 +129,7 @@ class Refusals(InFolder):
             ("the column's name 'from' is reserved", table(ROW), "--demand", "long=from"),
             ("the column's name 'd' is already taken", table(ROW), "--demand", "long=d", "--constant", "d=1s"),
             (
-                "unknown unit 'fortnight': it is one of us, ms, s, sec, min, h, d, ticks, h:mm, m:ss, h:mm:ss, excel",
+                "unknown unit 'fortnight': it is one of ns, us, ms, s, sec, min, h, d, ticks, h:mm, m:ss, h:mm:ss, excel, or data at a rate such as bytes@10Gbps",
                 table(ROW),
                 "--demand",
                 "long:fortnight",
@@ -137,7 +137,7 @@ class Refusals(InFolder):
             ("--constant wrap: expected NAME=LENGTH, e.g. wrap=90s", table(ROW), "--constant", "wrap"),
             ("--constant wrap 1.5s is not a whole number of ticks", table(ROW), "--constant", "wrap=1.5s"),
             (
-                "--constant wrap long: not a length of time: expected a number and one of us, ms, s, sec, min, h, d",
+                "--constant wrap long: not a length of time: expected a number and one of ns, us, ms, s, sec, min, h, d",
                 table(ROW),
                 "--constant",
                 "wrap=long",
@@ -172,7 +172,7 @@ class Refusals(InFolder):
     def test_options(self):
         for line, *words in (
             ("--tick 0s: a tick must be longer than 0", "--tick", "0s"),
-            ("--tick 1: not a length of time: expected a number and one of us, ms, s, sec, min, h, d", "--tick", "1"),
+            ("--tick 1: not a length of time: expected a number and one of ns, us, ms, s, sec, min, h, d", "--tick", "1"),
             ("--skip -1: expected a number of lines, 0 or more", "--skip=-1"),
             ("this machine has no time zone 'Berlin'; their names look like Europe/Berlin", "--zone", "Berlin"),
         ):

@@ -175,7 +175,7 @@ class Export:
         """Splits COLUMN[=NAME][:UNIT] into the column's index, its name in the trace or None, and the unit or None. A column's name may contain these
         characters too. Raises ValueError as `column` does."""
         for column in sorted(self.header, key=len, reverse=True):
-            found = re.fullmatch(r"(?:=(\w+))?" + (r"(?::([\w:]+))?" if has_unit else "()"), word[len(column) :])
+            found = re.fullmatch(r"(?:=(\w+))?" + (r"(?::([\w:@.]+))?" if has_unit else "()"), word[len(column) :])
             if column and word.startswith(column) and found:
                 return self.column(column), found[1], found[2] or None
         raise ValueError(f"no column {re.split('[=:]', word)[0]!r}; it has {', '.join(map(repr, self.header))}")

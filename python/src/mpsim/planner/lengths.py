@@ -1,6 +1,7 @@
 """Reads columns of lengths of time: numbers in a unit, with either decimal mark, and h:mm:ss."""
 
 import re
+from fractions import Fraction
 
 from .times import HOUR, MINUTE, SECOND, UNITS, Asks, Cache, Unread, excel
 
@@ -38,6 +39,17 @@ def found_decimal(texts):
     return marks.pop() if marks else None
 
 
+# Data sent at a rate, such as bytes@10Gbps.
+_RATE = re.compile(r"(bits|bytes)@(\d{1,6}(?:\.\d{1,3})?)([kMGT]?)bps", re.ASCII)
+
+
+def _bits_per_second(unit):
+    """Returns how many bits there are in a piece of data of a unit such as bytes@10Gbps, and how many are sent per second; None for another unit."""
+    found = _RATE.fullmatch(unit)
+    rate = found and Fraction(found[2]) * 1000 ** " kMGT".index(found[3] or " ")
+    return (8 if found[1] == "bytes" else 1, rate) if rate else None
+
+
 class Lengths:
     """A column of lengths of time in a unit, with a decimal mark ("." or ",", None if unknown).
 
@@ -47,10 +59,15 @@ class Lengths:
     NAMES = *UNITS, "ticks", "h:mm", "m:ss", "h:mm:ss", "excel"
 
     def __init__(self, unit, decimal, tick):
-        if unit not in self.NAMES:
-            raise ValueError(f"unknown unit {unit!r}: it is one of {', '.join(self.NAMES)}")
+        rate = _bits_per_second(unit)
+        if unit not in self.NAMES and not rate:
+            raise ValueError(f"unknown unit {unit!r}: it is one of {', '.join(self.NAMES)}, or data at a rate such as bytes@10Gbps")
         self.unit, self.decimal, self.tick, self.rounded = unit, decimal, tick, 0
         self.per = tick if unit == "ticks" else UNITS.get(unit, SECOND)
+        # The lengths of data are fractions of a nanosecond.
+        self.parts = 1
+        if rate:
+            self.per, self.parts = (rate[0] * SECOND / rate[1]).as_integer_ratio()
         # Thousands come in groups of three, so that a decimal point can't be mistaken for a separator.
         gaps = _GAPS + {".": ",", ",": "."}.get(decimal, "")
         self._number = re.compile(rf"([0-9]+|[0-9]{{1,3}}(?:[{gaps}][0-9]{{3}})+)(?:{re.escape(decimal or '.')}([0-9]+))?")
@@ -66,7 +83,7 @@ class Lengths:
         return ticks
 
     def length(self, text):
-        """Returns a length and a tick (int), both in a fraction of a microsecond in which they are whole. Raises Unread and Asks."""
+        """Returns a length and a tick (int), both in a fraction of a nanosecond in which they are whole. Raises Unread and Asks."""
         text = text.strip()
         if not text:
             raise Unread("empty")
@@ -82,7 +99,7 @@ class Lengths:
         if not found:
             raise Unread(f"not a number with a decimal {'comma' if self.decimal == ',' else 'point'}")
         rest = found[2] or ""
-        return int(re.sub(r"\D", "", found[1]) + rest) * self.per, 10 ** len(rest) * self.tick
+        return int(re.sub(r"\D", "", found[1]) + rest) * self.per, 10 ** len(rest) * self.tick * self.parts
 
     def _of_span(self, text):
         found = SPAN.fullmatch(text)
@@ -92,4 +109,4 @@ class Lengths:
             raise Asks("this could be h:mm or m:ss: give the unit")
         first, second = (MINUTE, SECOND) if found[3] is None and self.unit == "m:ss" else (HOUR, MINUTE)
         whole = int(found[1]) * first + int(found[2]) * second + int(found[3] or 0) * SECOND
-        return 1000 * whole + int((found[4] or "0").ljust(9, "0")), 1000 * self.tick
+        return whole + int((found[4] or "0").ljust(9, "0")), self.tick

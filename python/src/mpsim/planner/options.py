@@ -22,7 +22,7 @@ def _times(add):
     add("--day", nargs=3, metavar=("YEAR", "MONTH", "DAY"), help=says)
     add("--zone", metavar="NAME", help="time zone of times without an offset, e.g. Europe/Berlin; without it every day has 24 hours")
     add("--twice", choices=list(TWICE), help="which hour is meant when clocks are set back; order: the second from where times in the file go back")
-    add("--tick", metavar="LENGTH", help="length of a tick, e.g. 1s, 100ms or 1min; default: from the comments of --model, or 1s")
+    add("--tick", metavar="LENGTH", help="length of a tick, e.g. 1s, 100ms, 1ns or 1min; default: from the comments of --model, or 1s")
     begins = "time 0: hour (the last full hour before the first job, the default), day, first, a time of day such as 8:00, or an ISO 8601 time"
     add("--begin", default="hour", metavar="WHEN", help=begins)
 
@@ -30,7 +30,7 @@ def _times(add):
 def _columns(add):
     add("--source", metavar="COLUMN", help="column with the source of a job, or one name for all jobs")
     units = f"UNIT is one of {', '.join(Lengths.NAMES)}, by default s"
-    says = f"column with a service time; {units}; columns of one NAME are added up"
+    says = f"column with a service time; {units}, or data at a rate, e.g. bytes@10Gbps; columns of one NAME are added up"
     add("--demand", action="append", default=[], metavar="COLUMN[=NAME][:UNIT]", help=says)
     says = "column with the end of a service, which begins at --answered, or else at --time"
     add("--end", action="append", default=[], metavar="COLUMN[=NAME]", help=says)

@@ -1,6 +1,8 @@
 """Decides how to read the columns of an export: what is given, what is detected, and what must be asked for."""
 
+import contextlib
 from difflib import get_close_matches
+from itertools import islice
 
 from ..model import columns, sources
 from .codes import codes_in
@@ -20,7 +22,7 @@ LISTED = 20
 
 
 class Plan:
-    """How to read the columns of an Export, in a Zone, with a tick (int, microseconds). `notes` and `warned` (lists of str) are notes on what was
+    """How to read the columns of an Export, in a Zone, with a tick (int, nanoseconds). `notes` and `warned` (lists of str) are notes on what was
     detected. The texts are options of `planner prepare`; `model` is a model's text or None. Raises ValueError for an invalid option, and if another
     is needed."""
 
@@ -34,7 +36,7 @@ class Plan:
         """Sets the conditions on rows. Formats are then detected from the rows that meet them."""
         self.conditions = [parsed(word, self.export, self._mark) for word in words]
         if self.conditions:
-            self._sample = [row for row in self._sample if all(condition.is_met(row) for condition in self.conditions)]
+            self._sample = [row for row in self._sample if all(condition.is_met(row) for condition in self.conditions)] or self._sample
 
     def _texts(self, column):
         return [row[column] for row in self._sample]
@@ -189,7 +191,27 @@ class Plan:
         if renamed and column is None:
             raise ValueError("--rename requires a column for --source")
         self.records = Records(len(header), self.time, self.answered, self.columns, column, only, renamed, known)
-        self.records.conditions = self.conditions
+        self.records.conditions, self.records.ended = self.conditions, self._in_order_of()
+
+    def _in_order_of(self):
+        """Returns the ends of services (Times) if the rows are in order of those and not of the arrivals, which matters for --twice order; else
+        None."""
+        ends = [column.times for column in self.columns if isinstance(column, End) and not column.times.how.is_of_day]
+        if self.place.twice != "order" or self.time.dates or len(ends) != 1:
+            return None
+        found = [self._descents(times) for times in (self.time, ends[0])]
+        if found[1] < found[0]:
+            self.notes.append(f"rows are in order of {self.export.header[ends[0].column]!r}")
+            return ends[0]
+        return None
+
+    def _descents(self, times):
+        """Returns how often times of the sample go back, by a clock that never changes."""
+        how, found = Moments(times.how.form, Zone()), []
+        for text in self._texts(times.column):
+            with contextlib.suppress(ValueError, OverflowError):
+                found.append(how.of(text))
+        return sum(later < earlier for earlier, later in zip(found, islice(found, 1, None)))
 
     def between(self, begins, until):
         """Sets the times between which jobs arrive."""

@@ -96,7 +96,7 @@ def prepare(
 
 
 def _tick(tick, model):
-    """Returns the microseconds of a tick: the one given, else the model's, else a second."""
+    """Returns the nanoseconds of a tick: the one given, else the model's, else a second."""
     known, _, _ = settings_in(model or "")
     per = given("--tick", tick_of, tick) if tick else known or SECOND
     if known not in (None, per):

@@ -17,7 +17,7 @@ class Prepared:
     `header` (list of str) has the column names; `sources` (list of str), `times` (array of int, ticks) and `values` (list of arrays of int) are the
     records in output order; `names` are the sources in the order of the model. `told` and `warned` (lists of str) say what was done, `unlike` (list
     of str) where the first lines of the model differ from those of this trace, and `left` (dict) how many rows were left out, by reason. `tick` (int,
-    microseconds), `zero` (ISO 8601 text or None) and `zone` (str or None) define the ticks; `codes` has the number of each word by column (dict of
+    nanoseconds), `zero` (ISO 8601 text or None) and `zone` (str or None) define the ticks; `codes` has the number of each word by column (dict of
     dicts)."""
 
     def __init__(self, header, names, tick, zone):

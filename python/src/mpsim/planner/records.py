@@ -4,10 +4,14 @@ import re
 
 from .lengths import GREATEST_VALUE
 from .names import name_for
-from .times import DAY, Asks, Cache, Unread, day_of
+from .times import DAY, HOUR, Asks, Cache, Unread, day_of
 
-# Moments are stored as 64-bit integers.
-MOST = 1 << 62
+# Moments are stored as 64-bit integers, which reach from 1684 to 2255.
+MOST = 9 * 10**18
+
+
+# Clocks are set back by half an hour or more: a shorter service is the shortest there may be.
+REPEATED = HOUR // 2
 
 
 class Dates:
@@ -17,7 +21,7 @@ class Dates:
         self.column, self.how = column, how
 
     def midnight(self, row):
-        """Returns the wall-clock midnight of a row's day (int, microseconds since 1970). Raises Unread or Asks, with the `column`."""
+        """Returns the wall-clock midnight of a row's day (int, nanoseconds since 1970). Raises Unread or Asks, with the `column`."""
         try:
             return self.how.dates[row[self.column]]
         except ValueError as error:
@@ -70,11 +74,11 @@ class Times:
         self.column, self.how, self.zone, self.dates = column, how, zone, dates
         self._seen = {}
 
-    def first(self, row):
-        """Returns the moment of a row. Without a date it is on day 0."""
+    def first(self, row, until=None):
+        """Returns the moment of a row; if its hour occurs twice, the last that isn't after `until`, if given. Without a date it is on day 0."""
         if self.dates is None:
-            return self.how.of(row[self.column])
-        return self.zone.utc(self.dates.midnight(row) + self.how.of(row[self.column]), self._seen)
+            return self.how.of(row[self.column], None, until)
+        return self.zone.utc(self.dates.midnight(row) + self.how.of(row[self.column]), self._seen, None, until)
 
     def later(self, row, than):
         """Returns the moment of a row at or after another one. A time of day is its next occurrence."""
@@ -158,10 +162,26 @@ class End:
         end = self.times.later(row, begin)
         if end < begin:
             raise Unread("before the service begins")
-        ticks = (2 * (end - begin) + self.tick) // (2 * self.tick)
+        if self.times.zone.name and end - begin >= REPEATED:
+            self._judge(begin, end)
+        return self._ticks(end - begin)
+
+    def _ticks(self, length):
+        ticks = (2 * length + self.tick) // (2 * self.tick)
         if ticks > GREATEST_VALUE:
             raise Unread("above 2^36 ticks")
         return ticks
+
+    def _judge(self, begin, end):
+        """Raises Asks if the service would be shorter with its beginning or its end in the other of two hours that a clock shows alike."""
+        zone = self.times.zone
+        if zone.twice not in ("first", "second"):
+            return
+        begins, ends = zone.both(begin), zone.both(end)
+        least = min(last - first for first in begins for last in ends if first <= last)
+        if least < end - begin:
+            lengths = f"{self._ticks(least)} or {self._ticks(end - begin)} ticks"
+            raise Asks(f"the service is {lengths} long, since an hour occurs twice: give --twice order, for rows in order of --time or of --end")
 
     def many(self, columns):
         raise Unread("one by one")
@@ -221,12 +241,14 @@ class Records:
     """Makes records from rows. `width` is the number of fields in the header, `time` the arrival (Times), `answered` the beginnings of services with
     an `End` (list of Times), `values` the columns of the trace. `source` is a column, or `only` the name that all records get; `renamed` has given
     names, and `known` the allowed ones (None for any). Rows that don't meet all `conditions` (list of Condition), and those that arrive before `begins`
-    or not before `ends` (moments or None), are excluded."""
+    or not before `ends` (moments or None), are excluded. `ended` (Times or None) are the ends of services that the rows are in order of: they say which
+    hour is meant if it occurs twice."""
 
     def __init__(self, width, time, answered, values, source=None, only=None, renamed=None, known=None):
         self.width, self.time, self.answered, self.values = width, time, answered, values
         self.source, self.only, self.known = source, only, known
         self.renamed, self.names, self.conditions, self.begins, self.ends = renamed or {}, {}, [], None, None
+        self.ended = None
         self._taken = set(self.renamed.values())
         self._named = Cache(self._name_of)
         self._codes = [at for at, it in enumerate(values) if it.code]
@@ -247,7 +269,7 @@ class Records:
     def many(self, rows):
         """Returns records as columns (sources, moments, and each of the values) for rows that need no individual treatment. Raises ValueError if one
         may; nothing visible has changed then."""
-        if self.time.dates or self.answered or set(map(len, rows)) != {self.width}:
+        if self.time.dates or self.answered or self.ended or set(map(len, rows)) != {self.width}:
             raise Unread("one by one")
         if not all(condition.holds(row) for condition in self.conditions for row in rows):
             raise Unread("one by one")
@@ -276,8 +298,12 @@ class Records:
                 at = condition.column
                 if not condition.holds(row):
                     raise Unwanted
+            until = None
+            if self.ended is not None and row[self.ended.column].strip():
+                at = self.ended.column
+                until = self.ended.first(row)
             at = self.time.column
-            stamp = self.time.first(row)
+            stamp = self.time.first(row, until)
             if not -MOST < stamp < MOST:
                 raise Unread("out of the range of times")
             if not self._is_within(stamp):
