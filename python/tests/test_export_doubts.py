@@ -27,7 +27,8 @@ class Far(Test):
             ("2026-11-02 08:00:00", None, "235 days after the rest, which span 9 days"),
         ):
             for rows in [f"{far},a,1", *DAYS], [f"{far},a,1", f"{far},a,2", *DAYS]:
-                with self.subTest(far), self.assertRaisesRegex(ValueError, says if len(rows) == 51 else says.replace("its record lies", "the first 2 records lie")):
+                two = says.replace("its record lies", "the first 2 records lie")
+                with self.subTest(far), self.assertRaisesRegex(ValueError, says if len(rows) == 51 else two):
                     prepare(table(*rows), "when", zone=zone)
             self.assertEqual(len(prepare(table(f"{far},a,1", *DAYS), "when", zone=zone, far=True)), 51)
             self.assertEqual(len(prepare(table(f"{far},a,1", *DAYS), "when", zone=zone, begins="2026-03-02", until="2026-03-12")), 50)
@@ -82,7 +83,8 @@ class LeftOut(InFolder):
         self.assertFalse((self.folder / "trace.csv").exists())
         self.assertEqual(planner(*words, "--left-out-most", "99.9%")[0], 0)
         for bad in "101%", "x", "-1":
-            self.assertEqual(planner(*words, f"--left-out-most={bad}")[::2], (1, f"planner: {export}: --left-out-most {bad}: expected a percentage from 0% to 100%\n"))
+            status, _, err = planner(*words, f"--left-out-most={bad}")
+            self.assertEqual((status, err.partition(": --")[2]), (1, f"left-out-most {bad}: expected a percentage from 0% to 100%\n"))
 
 
 class Duplicates(Test):

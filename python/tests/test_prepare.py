@@ -22,7 +22,8 @@ from mpsim.planner.times import Unread
 prepare = functools.partial(prepare_strictly, left_out_most="100%")
 EXPORT = EXAMPLES / "export"
 ASKED = ["--date", "Datum", "--time", "Uhrzeit", "--source", "Warteschlange"]
-ASKED += ["--demand", "Gesprächsdauer (min)=talk:min", "--demand", "Nachbearbeitung=wrap", "--code", "Anliegen=kind", "--zone", "Europe/Berlin", "--left-out-most", "40%"]
+ASKED += ["--demand", "Gesprächsdauer (min)=talk:min", "--demand", "Nachbearbeitung=wrap", "--code", "Anliegen=kind"]
+ASKED += ["--zone", "Europe/Berlin", "--left-out-most", "40%"]
 
 
 def table(*rows, header="when,who,long"):
@@ -65,9 +66,10 @@ class Example(InFolder):
         """As in public flight data; the option may also come before the export."""
         rows = "2015,6,30,2400,SEA,12", "2015,6,30,5,SEA,21", "2015,6,31,5,SEA,1"
         export = self.file("flights.csv", table(*rows, header="YEAR,MONTH,DAY_OF_MONTH,CRS_DEP_TIME,ORIGIN,TAXI_OUT").decode())
-        words = "--day", "YEAR", "MONTH", "DAY_OF_MONTH", export, "--time", "CRS_DEP_TIME", "--format", "hmm", "--demand", "TAXI_OUT=taxi:min"
+        words = ["--day", "YEAR", "MONTH", "DAY_OF_MONTH", export, "--time", "CRS_DEP_TIME", "--format", "hmm", "--demand", "TAXI_OUT=taxi:min"]
+        words += ["--left-out-most", "40%"]
         lines = self.folder / "lines.txt"
-        status, out, err = planner("prepare", *words, "--source", "ORIGIN", "--zone", "America/Los_Angeles", "--first-lines", lines, "--left-out-most", "40%")
+        status, out, err = planner("prepare", *words, "--source", "ORIGIN", "--zone", "America/Los_Angeles", "--first-lines", lines)
         self.assertEqual((status, out), (0, "source,time,taxi\nsea,300,1260\nsea,86400,720\n"), err)
         self.assertIn("planner: 1 row: DAY_OF_MONTH: not a day of its month (row 4, '31')\n", err)
         self.assertEqual(settings_in(text_of(lines)), (10**9, "2015-06-30T00:00:00-07:00", "America/Los_Angeles"))

@@ -47,7 +47,7 @@ class Refusals(InFolder):
             ("when\n8:00\n".encode("utf-16-le"), "it has NUL bytes: is it UTF-16 without a byte order mark? Give --encoding, e.g. utf-16-le"),
             (b"\xef\xbb\xbfwhen\n8:00\n\xff\n", "line 3: the byte ff isn't valid UTF-8, although the file has a UTF-8 byte order mark (--encoding)"),
             (b"when;a,b\n8:00;1,2\n", "the delimiter could be ';' or ',' (--delimiter)"),
-            (table(ROW, '8:01,a,"1' + "x" * 200000), "after row 1: field larger than field limit (131072): is a closing quote missing?"),
+            (table(ROW, '8:01,a,"1' + "x" * 200000), "row 3: field larger than field limit (131072): is a closing quote missing?"),
             (b'when,"' + b"x" * 200000, "row 1: field larger than field limit (131072): is a closing quote missing?"),
         ):
             self.is_refused(f"EXPORT: {line}", data)
@@ -129,7 +129,8 @@ class Refusals(InFolder):
             ("the column's name 'from' is reserved", table(ROW), "--demand", "long=from"),
             ("the column's name 'd' is already taken", table(ROW), "--demand", "long=d", "--constant", "d=1s"),
             (
-                "unknown unit 'fortnight': it is one of ns, us, ms, s, sec, min, h, d, ticks, h:mm, m:ss, h:mm:ss, excel, or data at a rate such as bytes@10Gbps",
+                "unknown unit 'fortnight': it is one of ns, us, ms, s, sec, min, h, d, ticks, h:mm, m:ss, h:mm:ss, excel, or "
+                "data at a rate such as bytes@10Gbps",
                 table(ROW),
                 "--demand",
                 "long:fortnight",
@@ -173,7 +174,7 @@ class Refusals(InFolder):
         for line, *words in (
             ("--tick 0s: a tick must be longer than 0", "--tick", "0s"),
             ("--tick 1: not a length of time: expected a number and one of ns, us, ms, s, sec, min, h, d", "--tick", "1"),
-            ("--skip -1: expected a number of lines, 0 or more", "--skip=-1"),
+            ("EXPORT: --skip -1: expected a number of lines, 0 or more", "--skip=-1"),
             ("this machine has no time zone 'Berlin'; their names look like Europe/Berlin", "--zone", "Berlin"),
         ):
             self.is_refused(line, table(ROW), *words)

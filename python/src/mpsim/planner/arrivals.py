@@ -1,7 +1,6 @@
 """Chooses time 0 of a trace and turns the moments of its records into ticks."""
 
 from array import array
-from bisect import bisect_left, bisect_right
 from itertools import islice
 
 from .calendar import length_text
@@ -85,15 +84,14 @@ def judge_far(plan, rows):
     is_early = begin > ordered[0]
     if not is_early and end == ordered[-1]:
         return
-    at = rows.row_of(stamps.index(ordered[0] if is_early else ordered[-1]))
-    far = sum(stamp < begin if is_early else stamp > end for stamp in stamps)
-    gap = begin - ordered[bisect_left(ordered, begin) - 1] if is_early else ordered[bisect_right(ordered, end)] - end
-    which = f"{'the first' if is_early else 'the last'} {counted(far, 'record')}" if far > 1 else "its record"
+    far = [at for at, stamp in enumerate(stamps) if (stamp < begin if is_early else stamp > end)]
+    gap = begin - max(stamps[at] for at in far) if is_early else min(stamps[at] for at in far) - end
+    which = f"{'the first' if is_early else 'the last'} {len(far):,} records lie" if len(far) > 1 else "its record lies"
+    where = f"{which} {counted(gap // DAY, 'day')} {'before' if is_early else 'after'} the rest, which span {counted((end - begin) // DAY, 'day')}"
     bound = f"--from {_day(plan, begin)}" if is_early else f"--until {_day(plan, end + DAY)}"
-    raise ValueError(
-        f"row {at}: {plan.place.shown(ordered[0] if is_early else ordered[-1])}: {which} lie{'' if far > 1 else 's'} {counted(gap // DAY, 'day')} "
-        f"{'before' if is_early else 'after'} the rest, which span {counted((end - begin) // DAY, 'day')}: leave out such rows with {bound}, or keep them with --far"
-    )
+    at = min(far, key=stamps.__getitem__) if is_early else max(far, key=stamps.__getitem__)
+    shown = plan.place.shown(stamps[at])
+    raise ValueError(f"row {rows.row_of(at)}: {shown}: {where}: leave out such rows with {bound}, or keep them with --far")
 
 
 def _far(ordered, few):

@@ -17,7 +17,7 @@ def words(parser):
     says = f"figure to compare: one of {', '.join(FIGURES)}; default: p90"
     parser.add_argument("--figure", choices=FIGURES, default="p90", metavar="FIGURE", help=says)
     parser.add_argument("--node", action="append", default=[], metavar="NAME", help="only this node or pool; may be repeated")
-    parser.add_argument("--csv", action="store_true", help="write CSV, with the differences in columns of their own; --format and --csv-style do so too")
+    parser.add_argument("--csv", action="store_true", help="write CSV, with a column per difference; so do --format and --csv-style")
     sheets.words(parser)
 
 

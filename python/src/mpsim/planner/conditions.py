@@ -4,6 +4,7 @@ import operator
 import re
 from fractions import Fraction
 
+from .files import listed
 from .lengths import Lengths
 from .times import Cache, Unread
 
@@ -60,4 +61,4 @@ def parsed(word, export, mark):
             except (Unread, ValueError) as error:
                 raise ValueError(f"--where {word}: {error}") from None
     signs = ", ".join(Condition.SIGNS)
-    raise ValueError(f"--where {word}: expected COLUMN, one of {signs}, and a value; the columns are {', '.join(map(repr, export.header))}")
+    raise ValueError(f"--where {word}: expected COLUMN, one of {signs}, and a value; the columns are {listed(export.header)}")

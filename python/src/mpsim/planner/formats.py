@@ -3,6 +3,7 @@
 import re
 from datetime import datetime, timezone
 
+from .files import quoted
 from .times import CLOCK, ISO_DAY, ISO_REST, RFC_DAY, RFC_REST
 
 # Plain numbers don't show what they mean.
@@ -57,7 +58,7 @@ def found_format(texts):
         if _matches(pattern, some):
             return form
     if _matches(r"\d+(?:[.,]\d+)?", some):
-        raise ValueError(f"{texts[0]!r} is a number: the format is one of {', '.join(NUMBERS)}, or a strptime format such as %H.%M")
+        raise ValueError(f"{quoted(texts[0])} is a number: the format is one of {', '.join(NUMBERS)}, or a strptime format such as %H.%M")
     for form, pattern in _PLAIN.items():
         if _matches(pattern, some):
             return form
@@ -68,8 +69,8 @@ def found_format(texts):
         are = [bool(re.fullmatch(pattern, item, re.ASCII)) for item in some]
         if 2 * sum(are) > len(are):
             odd, like = some[are.index(False)], some[are.index(True)]
-            raise ValueError(f"{odd!r} isn't written like {like!r}; if you give a format, such rows are left out")
-    raise ValueError(f"the format of {texts[0]!r} can't be detected")
+            raise ValueError(f"{quoted(odd)} isn't written like {quoted(like)}; if you give a format, such rows are left out")
+    raise ValueError(f"the format of {quoted(texts[0])} can't be detected")
 
 
 def _found_date(texts, mark, rest, clock):
@@ -80,11 +81,11 @@ def _found_date(texts, mark, rest, clock):
     if not (found := _matches(two + four + rest, texts)):
         short = _matches(rf"{two}(\d\d){rest}", texts)
         like = " or ".join(map(repr, _orders(short, mark, "%y", clock) if short else [f"%d{mark}%m{mark}%y{clock}"]))
-        raise ValueError(f"{texts[0]!r} has a two-digit year: the format may be {like}")
+        raise ValueError(f"{quoted(texts[0])} has a two-digit year: the format may be {like}")
     like = _orders(found, mark, "%Y", clock)
     if len(like) == 1:
         return like[0]
-    raise ValueError(f"{texts[0]!r} could begin with the day or with the month: the format is {' or '.join(map(repr, like))}")
+    raise ValueError(f"{quoted(texts[0])} could begin with the day or with the month: the format is {' or '.join(map(repr, like))}")
 
 
 def _orders(found, mark, year, clock):

@@ -3,7 +3,8 @@
 import re
 from fractions import Fraction
 
-from .times import HOUR, MINUTE, SECOND, UNITS, Asks, Cache, Unread, excel
+from .files import quoted
+from .times import HOUR, MINUTE, SECOND, UNITS, Asks, Cache, Unread, excel, there
 
 # The limit of a trace.
 GREATEST_VALUE = 1 << 36
@@ -35,7 +36,7 @@ def found_decimal(texts):
     if len(marks) > 1:
         raise ValueError("its numbers use both decimal commas and decimal points")
     if not marks and doubtful is not None:
-        raise ValueError(f"{doubtful!r} could be thousands or a decimal fraction")
+        raise ValueError(f"{quoted(doubtful)} could be thousands or a decimal fraction")
     return marks.pop() if marks else None
 
 
@@ -84,9 +85,7 @@ class Lengths:
 
     def length(self, text):
         """Returns a length and a tick (int), both in a fraction of a nanosecond in which they are whole. Raises Unread and Asks."""
-        text = text.strip()
-        if not text:
-            raise Unread("empty")
+        text = there(text)
         if text[0] in "-\u2212":
             raise Unread("below 0")
         if ":" in text or self.unit == "h:mm:ss":

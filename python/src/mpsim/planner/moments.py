@@ -5,7 +5,8 @@ from datetime import datetime
 from operator import add, methodcaller
 
 from .formats import is_of_day
-from .times import DAY, HOUR, SECOND, SPREADSHEET, Asks, Cache, Unread, at_utc, clock, excel, hmm, hmmss, iso_day, iso_rest, nanos, rfc_day, rfc_rest
+from .times import DAY, HOUR, SECOND, SPREADSHEET, Asks, Cache, Unread, at_utc, clock, excel, hmm, hmmss
+from .times import iso_day, iso_rest, nanos, rfc_day, rfc_rest, there
 
 _MIDNIGHT = nanos(datetime(1900, 1, 1))
 # Formats that clock() reads like strptime, in a twelfth of the time.
@@ -84,10 +85,10 @@ def _parts_of(form):
 class Moments:
     """A column of times in one format, in a Zone.
 
-    `of(text, than, until)` returns the moment of a text (int, nanoseconds since 1970; wall-clock time without a zone or an offset); `than` is a moment
-    before which it can't be, `until` one after which it can't be, or None. If the format has only a time of day (`is_of_day`), it is nanoseconds since midnight; for the format ticks it
-    is a number of ticks. It raises Unread for an invalid text, and Asks. `has_offsets` and `has_none` record what was met; for the format clock,
-    `halves` has True for times with AM or PM and False for times that may lack it."""
+    `of(text, than, until)` returns the moment of a text (int, nanoseconds since 1970; wall-clock time without a zone or an offset), which isn't
+    before `than` nor after `until`, unless they are None. If the format has only a time of day (`is_of_day`), it is nanoseconds since midnight; for
+    the format ticks it is a number of ticks. It raises Unread for an invalid text, and Asks. `has_offsets` and `has_none` record what was met;
+    for the format clock, `halves` has True for times with AM or PM and False for times that may lack it."""
 
     def __init__(self, form, zone):
         self.form, self.zone, self.is_of_day = form, zone, is_of_day(form)
@@ -115,7 +116,7 @@ class Moments:
         self.is_of_day = True
         named = {"clock": self._clock, "hmm": hmm, "hmmss": hmmss, "excel": self._part_of_day}
         read = (lambda text: (named[self.form](text), None)) if self.form in named else _clock_as(self.form)
-        cache = Cache(lambda text: read(_there(text))[0])
+        cache = Cache(lambda text: read(there(text))[0])
         self.of = lambda text, than=None, until=None: cache[text]
 
     def is_one(self, text):
@@ -139,7 +140,7 @@ class Moments:
         return value
 
     def _of_number(self, text, than=None, until=None):
-        text = _there(text)
+        text = there(text)
         if text.isdigit() and text.isascii():
             return int(text) * self._unit
         whole, _, rest = text.partition(".")
@@ -149,7 +150,7 @@ class Moments:
 
     def _of_spreadsheet(self, text, than=None, until=None):
         self.has_none = True
-        return self.zone.utc(excel(_there(text)) + SPREADSHEET, self._seen, than, until)
+        return self.zone.utc(excel(there(text)) + SPREADSHEET, self._seen, than, until)
 
     def _met(self, rest):
         """Reads what follows the day, and records whether it has an offset."""
@@ -159,7 +160,7 @@ class Moments:
         return since, offset
 
     def _of_parts(self, text, than=None, until=None):
-        text = _there(text)
+        text = there(text)
         try:
             day, rest = self._parts[0](text)
         except ValueError:
@@ -192,7 +193,7 @@ class Moments:
         return since - (offset or 0)
 
     def _of_whole(self, text, than=None, until=None):
-        found = _read_as(self.form)(_there(text))
+        found = _read_as(self.form)(there(text))
         if found.tzinfo is not None:
             self.has_offsets = True
             return at_utc(found)
@@ -201,7 +202,7 @@ class Moments:
 
     def _date(self, text):
         """Returns the wall-clock midnight of a date."""
-        text = _there(text)
+        text = there(text)
         if self.form == "excel":
             value = excel(text) + SPREADSHEET
         elif self.is_of_day or self._unit:
@@ -214,11 +215,3 @@ class Moments:
         if value % DAY:
             raise Unread("a date with a time")
         return value
-
-
-def _there(text):
-    """Strips a text. Raises Unread if nothing is left."""
-    text = text.strip()
-    if not text:
-        raise Unread("empty")
-    return text

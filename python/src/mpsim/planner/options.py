@@ -12,7 +12,7 @@ def words(parser):
 
 
 def _times(add):
-    add("export", help="the export: a file, or /dev/stdin")
+    add("export", help="the export: a file, also packed (.gz, .bz2, .xz, .zip) or a spreadsheet (.xlsx), or - for standard input")
     add("--time", required=True, metavar="COLUMN", help="column with the time at which a job arrives")
     says = f"format of the times: a strptime format, iso, rfc, clock (h:mm:ss) or {', '.join(NUMBERS)}; default: detected"
     add("--format", metavar="FORMAT", help=says)
@@ -61,6 +61,7 @@ def _file(add):
     says = "text encoding; default: detected (UTF-8, UTF-16 with a byte order mark, or Windows-1252, a superset of printable Latin-1)"
     add("--encoding", metavar="NAME", help=says)
     add("--skip", type=int, default=0, metavar="N", help="number of lines to skip before the header")
+    add("--sheet", metavar="NAME", help="the sheet of a spreadsheet; default: the only one")
     add("--header", metavar="NAMES", help="column names, separated by commas, for an export without a header")
 
 
@@ -70,4 +71,4 @@ def _outputs(add):
     add("--left-out", metavar="FILE", help="write the rows that are left out, with their number and the reason")
     add("--first-lines", metavar="FILE", help="write the first lines of a model for this trace")
     add("--out-model", metavar="FILE", help="write a copy of --model with the tick, time 0 and codes of this trace")
-    add("--out", metavar="FILE", help="write the trace here; default: standard output")
+    add("--out", metavar="FILE", help="write the trace here; default: - (standard output)")

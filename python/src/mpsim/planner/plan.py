@@ -7,6 +7,7 @@ from itertools import islice
 from ..model import columns, sources
 from .codes import codes_in
 from .conditions import parsed
+from .files import listed
 from .formats import found_format, judged_format
 from .lengths import GREATEST_VALUE, Lengths, found_decimal
 from .moments import Moments
@@ -181,7 +182,7 @@ class Plan:
         if source in header:
             column, only = self.export.column(source), None
         elif not is_name(only) or source and only.casefold() in map(str.casefold, header):
-            raise ValueError(f"no column {source!r} for --source; it has {', '.join(map(repr, header))}")
+            raise ValueError(f"no column {source!r} for --source; it has {listed(header)}")
         elif known is not None and only not in known:
             raise ValueError(f"the model has no source {only} (--source)")
         elif source:
@@ -192,6 +193,8 @@ class Plan:
             raise ValueError("--rename requires a column for --source")
         self.records = Records(len(header), self.time, self.answered, self.columns, column, only, renamed, known)
         self.records.conditions, self.records.ended = self.conditions, self._in_order_of()
+        # The rows from which formats were detected aren't needed any more.
+        self._sample = self.export.sample = []
 
     def _in_order_of(self):
         """Returns the ends of services (Times) if the rows are in order of those and not of the arrivals, which matters for --twice order; else

@@ -7,17 +7,19 @@ from itertools import islice
 
 from .arrivals import judge_far, ticks
 from .calendar import Calendar, length_text, tick_of, settings_in
-from .exports import Export
-from .files import all_written, bytes_of, counted, judge_outputs, say, written
+from .exports import LINES, Export
+from .files import all_written, counted, judge_outputs, say, written
 from .models import judged_text
 from .names import name_for
 from .options import words
 from .plan import Plan
 from .prepared import Prepared
 from .records import Code, Demand, End, Sum
-from .rows import LINES, Rows, TooManyLeft
+from .rows import Rows, TooManyLeft
+from .streams import Stream
 from .times import HOUR, SECOND, given
 from .traces import fields_up_to
+from .workbooks import Workbook
 from .zones import Zone
 
 EXAMPLE = (
@@ -62,6 +64,7 @@ def prepare(
     far=False,
     duplicates=None,
     left_out_most="5%",
+    sheet=None,
 ):
     """Returns the trace (Prepared) made from an export, which is a path or bytes.
 
@@ -74,13 +77,10 @@ def prepare(
     [('desk', 5, 30), ('desk', 17, 90)]
     """
     per, place = _tick(tick, model), Zone(zone, twice)
-    if skip < 0:
-        raise ValueError(f"--skip {skip}: expected a number of lines, 0 or more")
     name = "the export" if isinstance(export, (bytes, bytearray)) else os.fspath(export)
-    data = bytes(export) if isinstance(export, (bytes, bytearray)) else bytes_of(export)
     try:
-        with fields_up_to(FIELD):
-            plan = Plan(Export(data, encoding, delimiter, skip, header), place, per, format, decimal, model)
+        with fields_up_to(FIELD), Stream(export) as stream:
+            plan = Plan(_table(stream, encoding, delimiter, sheet, skip, header), place, per, format, decimal, model)
             plan.where(where)
             plan.times(time, date, date_format, day, [answered] if isinstance(answered, str) else answered)
             plan.values(demand, end, constant, code, empty)
@@ -93,6 +93,17 @@ def prepare(
         raise (TooManyLeft if isinstance(error, TooManyLeft) else ValueError)(f"{name}: {error}") from None
     except OverflowError:
         raise ValueError(f"{name}: times are before the year 1 or after the year 9999: is --format right?") from None
+
+
+def _table(stream, encoding, delimiter, sheet, skip, header):
+    """Returns the table that a file contains (Export or Workbook)."""
+    if not stream.is_workbook:
+        if sheet is not None:
+            raise ValueError(f"--sheet {sheet}: this isn't a spreadsheet")
+        return Export(stream, encoding, delimiter, skip, header)
+    if encoding or delimiter:
+        raise ValueError("--encoding and --delimiter can't be used with a spreadsheet")
+    return Workbook(stream, sheet, skip, header)
 
 
 def _tick(tick, model):
@@ -235,6 +246,8 @@ def _sort(made, rows, ticks):
 def main(args):
     """Runs `planner prepare`."""
     options = {name: value for name, value in vars(args).items() if name not in ("command", "main", "export", "first_lines", "out_model", "out")}
+    # Standard output, as without --out.
+    args.out = None if args.out == "-" else args.out
     judge_outputs([args.out, args.left_out, args.first_lines, args.out_model], {"export": [args.export], "model": [args.model]})
     if args.out_model and not args.model:
         raise ValueError("--out-model requires --model")

@@ -240,9 +240,9 @@ class Unwanted(Exception):
 class Records:
     """Makes records from rows. `width` is the number of fields in the header, `time` the arrival (Times), `answered` the beginnings of services with
     an `End` (list of Times), `values` the columns of the trace. `source` is a column, or `only` the name that all records get; `renamed` has given
-    names, and `known` the allowed ones (None for any). Rows that don't meet all `conditions` (list of Condition), and those that arrive before `begins`
-    or not before `ends` (moments or None), are excluded. `ended` (Times or None) are the ends of services that the rows are in order of: they say which
-    hour is meant if it occurs twice."""
+    names, and `known` the allowed ones (None for any). Rows that don't meet all `conditions` (list of Condition), and those that arrive before
+    `begins` or not before `ends` (moments or None), are excluded. `ended` (Times or None) are ends of services if the rows are in their order, which
+    says which hour is meant if it occurs twice."""
 
     def __init__(self, width, time, answered, values, source=None, only=None, renamed=None, known=None):
         self.width, self.time, self.answered, self.values = width, time, answered, values

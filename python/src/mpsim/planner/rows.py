@@ -6,15 +6,15 @@ from array import array
 from bisect import bisect_right
 from itertools import compress, islice
 
-from .files import counted
+from .exports import LINES
+from .files import counted, quoted
 from .prepared import CHUNK
 from .progress import Progress, uncollected
 from .records import Left, Unwanted
+from .sheets import Writer
 from .times import Asks
 
 RECORDS = 1 << 20
-# A field with more lines is reported: an unclosed quote makes one field of the rest.
-LINES = 20
 
 
 class TooManyLeft(ValueError):
@@ -32,7 +32,7 @@ class Rows:
         self.plan, self.left, self.unwanted, self.long = plan, {}, 0, 0
         self.sources, self.stamps, self.values = [], array("q"), [array("q") for _ in plan.columns]
         self._hashes, self._runs = array("q"), []
-        self._writer = csv.writer(left_out, lineterminator="\n") if left_out is not None else None
+        self._writer = Writer(left_out) if left_out is not None else None
 
     def read(self):
         """Reads all rows. Raises ValueError if the export is too long or needs another option."""
@@ -71,7 +71,7 @@ class Rows:
             except Left as error:
                 self._leave(number, error, row)
             except Asks as error:
-                raise ValueError(f"row {number}, column {plan.export.header[error.column]!r}: {row[error.column]!r}: {error}") from None
+                raise ValueError(f"row {number}, column {plan.export.header[error.column]!r}: {quoted(row[error.column])}: {error}") from None
         self._add(numbers, kept, zip(*records))
 
     def _add(self, numbers, rows, columns):
@@ -93,7 +93,7 @@ class Rows:
         if error.column is not None:
             name = self.plan.export.header[error.column]
             why = f"{name} is empty" if why == "empty" else f"{name}: {why}"
-            first += f", {row[error.column]!r}" if row[error.column].strip() else ""
+            first += f", {quoted(row[error.column])}" if row[error.column].strip() else ""
         self.left.setdefault(why, [0, first])[0] += 1
         if self._writer:
             self._writer.writerow([number, why, *row])

@@ -14,6 +14,18 @@ class Unread(ValueError):
     """A field that can't be read. The message is the reason, the same for all rows that fail alike."""
 
 
+# A longer field is no time and no number. Python reads no number of 5,000 digits.
+LONGEST = 200
+
+
+def there(text):
+    """Strips a text. Raises Unread if nothing is left, or too much."""
+    text = text.strip()
+    if not text or len(text) > LONGEST:
+        raise Unread("empty" if not text else f"longer than {LONGEST} characters")
+    return text
+
+
 class Asks(ValueError):
     """A field whose meaning can't be known. The message names the option that says it."""
 
