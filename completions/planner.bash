@@ -11,7 +11,7 @@ _planner() {
         prepare)
             options='--time --format --date --date-format --day --zone --twice --tick --begin --source --demand --end --answered --constant
                 --code --empty --rename --where --from --until --far --duplicates --left-out-most --decimal --delimiter --encoding --skip
-                --header --model --left-out --first-lines --out-model --out --help'
+                --sheet --header --model --left-out --first-lines --out-model --out --help'
             repeated=' --demand --end --answered --constant --code --rename --where '
             ;;
         scale)
@@ -88,8 +88,8 @@ _planner() {
         sweep.--csv-style) choices='plain excel-de' ;;
         *.--agents | *.--answered | *.--begin | *.--by | *.--close | *.--code | *.--constant | *.--date | *.--date-format | *.--day | \
             *.--delimiter | *.--demand | *.--empty | *.--encoding | *.--end | *.--every | *.--format | *.--from | *.--header | *.--labels | \
-            *.--left-out-most | *.--node | *.--open | *.--percentile | *.--pool | *.--rename | *.--set | *.--shard | *.--shift | *.--skip | \
-            *.--source | *.--start | *.--tick | *.--time | *.--title | *.--until | *.--where | *.--within | *.--zone) return ;;
+            *.--left-out-most | *.--node | *.--open | *.--percentile | *.--pool | *.--rename | *.--set | *.--shard | *.--sheet | *.--shift | \
+            *.--skip | *.--source | *.--start | *.--tick | *.--time | *.--title | *.--until | *.--where | *.--within | *.--zone) return ;;
     esac
     if [[ $choices ]]; then
         COMPREPLY=($(compgen -W "$choices" -- "$word"))

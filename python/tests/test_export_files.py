@@ -116,7 +116,7 @@ class Workbooks(InFolder):
             ["when", "clock", "who", "long", "wrap", None],
             [datetime(2026, 3, 2, 8, 0, 17), time(8, 0, 17), "Büro", timedelta(minutes=3, seconds=30), 1.5],
             [],
-            [datetime(2026, 3, 2, 8, 1), time(8, 1), "=1", timedelta(hours=25), 90],
+            [datetime(2026, 3, 2, 8, 1), time(8, 1), "x=1", timedelta(hours=25), 90],
             [datetime(2026, 3, 2, 8, 2), time(8, 2), "x", None, 3],
         ]
         path = self.book(("March", rows))

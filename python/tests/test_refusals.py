@@ -67,7 +67,7 @@ class Refusals(InFolder):
     def test_options_that_are_needed(self):
         for line, data, *words in (
             ("no column 'Zeit'; it has 'when', 'who', 'long'", table(ROW), "--time", "Zeit"),
-            ("two columns are called 'when': rename one of them", b"when,when\n8:00,9:00\n"),
+            ("two columns are called 'when': write #1 or #2", b"when,when\n8:00,9:00\n"),
             (
                 "column 'when': '03/02/2026' could begin with the day or with the month: the format is '%d/%m/%Y' or '%m/%d/%Y' (--format)",
                 table("03/02/2026,a,1"),

@@ -6,7 +6,7 @@ import itertools
 import re
 from collections import Counter
 
-from .files import counted, listed
+from .files import counted, listed, quoted
 from .streams import Stream, judge_text
 
 DELIMITERS = ";\t,|"
@@ -120,20 +120,33 @@ class Table:
 
     def column(self, name):
         """Returns the index of a column by its name. Raises ValueError unless exactly one column has it."""
-        if self.header.count(name) > 1:
-            raise ValueError(f"two columns are called {name!r}: rename one of them")
-        if name not in self.header or not name:
-            raise ValueError(f"no column {name!r}; it has {listed(self.header)}")
-        return self.header.index(name)
+        numbers = [f"#{at}" for at, item in enumerate(self.header, 1) if item == name]
+        if len(numbers) > 1:
+            raise ValueError(f"two columns are called {name!r}: write {' or '.join(numbers)}")
+        if numbers and name:
+            return self.header.index(name)
+        if re.fullmatch(r"#[1-9]\d{0,4}", name) and int(name[1:]) <= len(self.header):
+            return int(name[1:]) - 1
+        raise ValueError(f"no column {quoted(name)}; it has {listed(self.header)}{self._hint(name)}")
+
+    def _hint(self, name):
+        """Returns a hint (str) at the row that looks like the header, if the first rows are those of a report."""
+        rows, number = self.rows()
+        for at, row in enumerate(itertools.islice(rows, 50), number):
+            if name and name in map(str.strip, row):
+                return f"; row {at} looks like the header: --skip {at - 1}"
+        return ""
 
     def parse(self, word, has_unit=False):
         """Splits COLUMN[=NAME][:UNIT] into the column's index, its name in the trace or None, and the unit or None. A column's name may contain these
         characters too. Raises ValueError as `column` does."""
-        for column in sorted(self.header, key=len, reverse=True):
+        numbers = re.match(r"#[1-9]\d{0,4}", word)
+        for column in [*sorted(self.header, key=len, reverse=True), *([numbers[0]] if numbers else [])]:
             found = re.fullmatch(r"(?:=(\w+))?" + (r"(?::([\w:@.]+))?" if has_unit else "()"), word[len(column) :])
             if column and word.startswith(column) and found:
                 return self.column(column), found[1], found[2] or None
-        raise ValueError(f"no column {re.split('[=:]', word)[0]!r}; it has {listed(self.header)}")
+        name = re.split("[=:]", word)[0]
+        raise ValueError(f"no column {quoted(name)}; it has {listed(self.header)}{self._hint(name)}")
 
 
 class Export(Table):

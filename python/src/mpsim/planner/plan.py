@@ -7,13 +7,15 @@ from itertools import islice
 from ..model import columns, sources
 from .codes import codes_in
 from .conditions import parsed
+from .expressions import Expression, terms
 from .files import listed
 from .formats import found_format, judged_format
 from .lengths import GREATEST_VALUE, Lengths, found_decimal
 from .moments import Moments
 from .names import TAKEN, is_name, name_for
-from .records import Code, Constant, Dates, Demand, End, Numbers, Records, Sum, Times
+from .records import Dates, Numbers, Records, Times
 from .times import clock, given, iso, length
+from .values import Code, Constant, Demand, End, Sum
 from .zones import Zone
 
 # The most columns of a trace.
@@ -52,9 +54,9 @@ class Plan:
             self.notes.append(f"column {name!r} is read as {form}")
         return Moments(form, self.place)
 
-    def _more_times(self, name):
-        """Returns another column of times. It uses the given format if its texts have it."""
-        column = self.export.column(name)
+    def _more_times(self, column):
+        """Returns another column of times, given its index. It uses the given format if its texts have it."""
+        name = self.export.header[column]
         texts = [text for text in self._texts(column) if text.strip()][:100]
         form = self.format if self.format and 10 * sum(map(Moments(self.format, Zone()).is_one, texts)) >= 9 * len(texts) else None
         how = self._moments(column, form)
@@ -93,12 +95,13 @@ class Plan:
         if date_format and not date:
             raise ValueError("--date-format requires --date")
         self.time = Times(column, how, self.place, dates)
-        self.answered = list(map(self._more_times, answered))
+        self.answered = [self._more_times(self.export.column(name)) for name in answered]
 
     def readers(self):
         """Returns all columns of times."""
-        ends = [column.times for column in self.columns if isinstance(column, End)]
-        return [self.time, *self.answered, *ends]
+        parts = [part for column in self.columns for part in getattr(column, "parts", [column])]
+        ends = [part.times for part in parts if isinstance(part, End)]
+        return [self.time, *self.answered, *ends, *(times for part in parts if isinstance(part, Expression) for _, times in part.times)]
 
     def _named(self, name, column=None):
         """Returns the name of a column of the trace, by default made from its name in the export."""
@@ -124,23 +127,23 @@ class Plan:
         empty = None if empty is None else self._ticks("--empty", empty)
         for word in demand:
             self._demand(word, empty)
-        for item in self.columns:
-            if isinstance(item, Sum):
-                self.notes.append(f"{item.name} is the sum of {' and '.join(repr(self.export.header[part.column]) for part in item.parts)}")
         if self.answered and not end:
             raise ValueError("--answered requires --end")
         if len(self.answered) not in (0, 1, len(end)):
             raise ValueError(f"--answered is given {len(self.answered)} times for {len(end)} of --end: give it once, or once per --end")
         for number, word in enumerate(end, 1):
             column, name, _ = self.export.parse(word)
-            times = self._more_times(self.export.header[column])
+            times = self._more_times(column)
             begin = min(number, len(self.answered))
-            self.columns.append(End(self._named(name, column), times, 1 if self.is_ticks else self.per, empty, begin))
+            self._add(End(name or self._named(name, column), times, 1 if self.is_ticks else self.per, empty, begin))
         for word in constant:
             name, equals, value = word.partition("=")
             if not equals:
                 raise ValueError(f"--constant {word}: expected NAME=LENGTH, e.g. wrap=90s")
             self.columns.append(Constant(self._named(name), self._ticks(f"--constant {name}", value)))
+        for item in self.columns:
+            if isinstance(item, Sum):
+                self.notes.append(f"{item.name} is the sum of {' and '.join(repr(self.export.header[part.column]) for part in item.parts)}")
         known = codes_in(self.model or "")
         for word in code:
             column, name, _ = self.export.parse(word)
@@ -154,16 +157,47 @@ class Plan:
 
     def _demand(self, word, empty):
         """Adds a column of service times, or adds it to a column of the same name."""
-        column, name, unit = self.export.parse(word, has_unit=True)
+        try:
+            column, name, unit = self.export.parse(word, has_unit=True)
+        except ValueError:
+            found = terms(word, self.export)
+            if found is None:
+                raise
+            return self._add(self._expression(word, *found, empty))
         how = Lengths(unit or "s", self._mark(column), self.per)
         at = next((at for at, it in enumerate(self.columns) if it.name == name), None)
-        if at is None:
-            self.columns.append(Demand(self._named(name, column), column, how, empty))
-            return
-        parts = [*getattr(self.columns[at], "parts", [self.columns[at]]), Demand(name, column, how, empty)]
-        if column in [part.column for part in parts[:-1]]:
+        known = [part.column for part in getattr(self.columns[at], "parts", [self.columns[at]])] if at is not None else []
+        if column in known:
             raise ValueError(f"--demand {word}: the column {self.export.header[column]!r} is already part of {name}")
-        self.columns[at] = Sum(parts)
+        return self._add(Demand(name or self._named(name, column), column, how, empty))
+
+    def _add(self, value):
+        """Adds a column of the trace, or adds it to a column of service times of the same name."""
+        at = next((at for at, it in enumerate(self.columns) if it.name == value.name), None)
+        if at is None or isinstance(self.columns[at], (Constant, Code)):
+            self._named(value.name)
+            self.columns.append(value)
+        else:
+            self.columns[at] = Sum([*getattr(self.columns[at], "parts", [self.columns[at]]), value])
+
+    def _expression(self, word, name, found, empty):
+        """Returns the Expression with these terms. Columns that look like those of --time are times."""
+        times, lengths = [], []
+        for sign, column, unit in found:
+            if unit is None and self._is_time(column):
+                times.append((sign, self._more_times(column)))
+            else:
+                lengths.append((sign, column, Lengths(unit or "s", self._mark(column), self.per)))
+        if sum(sign for sign, _ in times) != 0:
+            raise ValueError(f"--demand {word}: as many times must be subtracted as are added; a service time may need its unit, e.g. Wrap:s")
+        if self.is_ticks and times:
+            raise ValueError(f"--demand {word}: times in ticks can't be subtracted")
+        return Expression(name, times, lengths, self.per, empty)
+
+    def _is_time(self, column):
+        how = Moments(self.time.how.form, Zone())
+        texts = [text for text in self._texts(column) if text.strip()][:100]
+        return 2 * sum(map(how.is_one, texts)) > len(texts)
 
     def _mark(self, column):
         try:

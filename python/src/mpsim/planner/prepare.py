@@ -8,17 +8,18 @@ from itertools import islice
 from .arrivals import judge_far, ticks
 from .calendar import Calendar, length_text, tick_of, settings_in
 from .exports import LINES, Export
+from .expressions import Expression
 from .files import all_written, counted, judge_outputs, say, written
 from .models import judged_text
 from .names import name_for
 from .options import words
 from .plan import Plan
 from .prepared import Prepared
-from .records import Code, Demand, End, Sum
 from .rows import Rows, TooManyLeft
 from .streams import Stream
 from .times import HOUR, SECOND, given
 from .traces import fields_up_to
+from .values import Code, Demand, End, Sum
 from .workbooks import Workbook
 from .zones import Zone
 
@@ -198,10 +199,10 @@ def _judge_zero(plan, made):
 
 def _note_values(plan, rows, made):
     for it, values in zip(plan.columns, rows.values):
-        if isinstance(it, (Demand, Sum, End)) and (zeros := values.count(0)):
+        if isinstance(it, (Demand, Sum, End, Expression)) and (zeros := values.count(0)):
             where = f": --where '{plan.export.header[it.column]}>0' leaves them out" if isinstance(it, Demand) else ""
             made.told.append(f"{it.name}: {counted(zeros, 'service')} of 0 ticks{where}")
-        if isinstance(it, (Demand, Sum)) and it.rounded:
+        if isinstance(it, (Demand, Sum, Expression)) and it.rounded:
             made.told.append(f"{it.name}: {counted(it.rounded, 'different value')} between two ticks, rounded to the nearest")
         elif isinstance(it, Code):
             made.codes[it.name] = it.codes

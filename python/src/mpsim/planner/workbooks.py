@@ -3,15 +3,17 @@
 from datetime import date, datetime, time, timedelta
 from itertools import islice
 
-from .exports import SAMPLE, Table
+from .exports import Table
 
+# The number of rows examined to detect formats; cells have types, so few are enough.
+SAMPLE = 1 << 11
 # Some versions of openpyxl read a length of more than a day as a date of January or February 1900.
 DAY_0, MARCH = datetime(1899, 12, 31), datetime(1900, 3, 1)
 
 
 class Workbook(Table):
-    """An export that is a spreadsheet, from a Stream; `sheet` (str) is the name of the sheet to read, by default the only one. Its cells become texts:
-    dates and times in ISO 8601, a length of time in h:mm:ss. Raises ValueError as Export does, and if openpyxl is missing."""
+    """An export that is a spreadsheet, from a Stream; `sheet` (str) is the name of the sheet to read, by default the only one. Its cells become
+    texts: dates and times in ISO 8601, a length of time in h:mm:ss. Raises ValueError as Export does, and if openpyxl is missing."""
 
     def __init__(self, stream, sheet=None, skip=0, header=None):
         try:
