@@ -168,4 +168,4 @@ class Planner(Check):
         found = run(ROOT / "tools" / "planner", "--help").out.decode()
         self.same("its help", re.findall(r"^  (?:-h, )?(--[a-z-]+)", found, flags=re.MULTILINE), list(planner_words.OWN))
         page = re.findall(r"^\.B (\d+)$", "\n".join(manual_section("planner", "EXIT STATUS")), flags=re.MULTILINE)
-        self.same("statuses", page, ["0", "1", "2", "11", "130", "141"])
+        self.same("statuses", page, ["0", "1", "2", "11", "13", "130", "141"])

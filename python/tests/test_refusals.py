@@ -165,6 +165,8 @@ class Refusals(InFolder):
             (
                 "no rows are left; 2 rows: when: not a time of day; the first is row 2, '25:00'; 1 row: when is empty (row 3)",
                 table("25:00,a,1", ",a,1", "25:01,a,1"),
+                "--format",
+                "clock",
             ),
         ):
             with self.subTest(line):
@@ -222,7 +224,7 @@ class Refusals(InFolder):
 class Limits(Test):
     def test_sources(self):
         rows = [f"8:00,s{number},1" for number in range(64)]
-        with self.assertRaisesRegex(ValueError, "64 sources; the limit of a model is 63: give one name for all, or --rename several to one"):
+        with self.assertRaisesRegex(ValueError, "more than 63 sources, the limit of a model: give one name for all, or --rename several to one"):
             prepare(table(*rows), "when", source="who")
         self.assertEqual(len(prepare(table(*rows[1:]), "when", source="who").names), 63)
 

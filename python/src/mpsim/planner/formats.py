@@ -3,20 +3,21 @@
 import re
 from datetime import datetime, timezone
 
+from . import months
 from .files import quoted
 from .times import CLOCK, ISO_DAY, ISO_REST, RFC_DAY, RFC_REST
 
 # Plain numbers don't show what they mean.
 NUMBERS = "ticks", "unix", "unixms", "hmm", "hmmss", "excel"
-NAMES = "iso", "rfc", "clock", *NUMBERS
+NAMES = "iso", "rfc", "months", "clock", "gtfs", *NUMBERS
 # What may follow a date: its pattern and its directives.
 _CLOCKS = {
     r"": "",
     r"\s\d{1,2}:\d\d": " %H:%M",
     r"\s\d{1,2}:\d\d:\d\d": " %H:%M:%S",
     r"\s\d{1,2}:\d\d:\d\d\.\d{1,6}": " %H:%M:%S.%f",
-    r"\s\d{1,2}:\d\d\s[AaPp][Mm]": " %I:%M %p",
-    r"\s\d{1,2}:\d\d:\d\d\s[AaPp][Mm]": " %I:%M:%S %p",
+    r"\s\d{1,2}:\d\d\s?[AaPp]\.?\s?[Mm]\.?": " %I:%M %p",
+    r"\s\d{1,2}:\d\d:\d\d\s?[AaPp]\.?\s?[Mm]\.?": " %I:%M:%S %p",
 }
 _DATE = r"(?:19|20)\d\d(?:0[1-9]|1[0-2])(?:0[1-9]|[12]\d|3[01])"
 _HOUR = r"(?:[01]\d|2[0-3])[0-5]\d"
@@ -50,7 +51,7 @@ def found_format(texts):
     >>> found_format(["02.03.2026 08:00:17", "02.03.2026 08:00:05"])
     '%d.%m.%Y %H:%M:%S'
     """
-    texts = [text.strip() for text in texts if text.strip()]
+    texts = [text.strip().replace("\u202f", " ").replace("\u00a0", " ") for text in texts if text.strip()]
     if not texts:
         raise ValueError("there is no time from which to detect the format")
     some = texts[:1000]
@@ -61,10 +62,15 @@ def found_format(texts):
         raise ValueError(f"{quoted(texts[0])} is a number: the format is one of {', '.join(NUMBERS)}, or a strptime format such as %H.%M")
     for form, pattern in _PLAIN.items():
         if _matches(pattern, some):
+            late = next((text for text in texts if re.match(r"(?:2[5-9]|3\d):[0-5]\d", text)), None) if form == "clock" else None
+            if late:
+                raise ValueError(f"{quoted(late)} has an hour above 24: the format is gtfs, if hours go on after midnight, or clock")
             return form
     for pattern, (mark, rest, clock) in _DATES.items():
         if _matches(pattern, some):
             return _found_date(texts, mark, rest, clock)
+    if 10 * sum(map(months.is_one, some)) >= 9 * len(some):
+        return "months"
     for pattern in (*_PACKED, *_PLAIN.values(), *_DATES):
         are = [bool(re.fullmatch(pattern, item, re.ASCII)) for item in some]
         if 2 * sum(are) > len(are):
@@ -121,7 +127,7 @@ def judged_format(form):
 
 def is_of_day(form):
     """Returns whether a format contains only a time of day."""
-    return form in ("clock", "hmm", "hmmss") or "%" in form and not re.search("%[YyjdcxGDF]", form)
+    return form in ("clock", "gtfs", "hmm", "hmmss") or "%" in form and not re.search("%[YyjdcxGDF]", form)
 
 
 def looks_like_clocks(values):

@@ -3,6 +3,7 @@
 import re
 from fractions import Fraction
 
+from .durations import duration
 from .files import quoted
 from .times import HOUR, MINUTE, SECOND, UNITS, Asks, Cache, Unread, excel, there
 
@@ -40,6 +41,8 @@ def found_decimal(texts):
     return marks.pop() if marks else None
 
 
+# As a spreadsheet shows a number in a narrow column.
+_POWER = re.compile(r"\d(?:[.,]\d{1,15})?[Ee]\+\d{1,2}", re.ASCII)
 # Data sent at a rate, such as bytes@10Gbps.
 _RATE = re.compile(r"(bits|bytes)@(\d{1,6}(?:\.\d{1,3})?)([kMGT]?)bps", re.ASCII)
 
@@ -86,8 +89,14 @@ class Lengths:
     def length(self, text):
         """Returns a length and a tick (int), both in a fraction of a nanosecond in which they are whole. Raises Unread and Asks."""
         text = there(text)
-        if text[0] in "-\u2212":
+        if text[0] in "-\u2212" or text[-1] in "-\u2212":
             raise Unread("below 0")
+        if not text[0].isdigit() or not text[-1].isdigit() or "day" in text:
+            if (found := duration(text)) is not None:
+                return found.numerator, found.denominator * self.tick
+        if found := _POWER.fullmatch(text):
+            value = Fraction(text.replace(",", ".")) * self.per / self.parts
+            return value.numerator, value.denominator * self.tick
         if ":" in text or self.unit == "h:mm:ss":
             return self._of_span(text)
         if self.unit == "excel":

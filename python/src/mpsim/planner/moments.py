@@ -4,8 +4,9 @@ import re
 from datetime import datetime
 from operator import add, methodcaller
 
+from . import months
 from .formats import is_of_day
-from .times import DAY, HOUR, SECOND, SPREADSHEET, Asks, Cache, Unread, at_utc, clock, excel, hmm, hmmss
+from .times import DAY, HOUR, SECOND, SPREADSHEET, Asks, Cache, Unread, at_utc, clock, excel, gtfs, hmm, hmmss
 from .times import iso_day, iso_rest, nanos, rfc_day, rfc_rest, there
 
 _MIDNIGHT = nanos(datetime(1900, 1, 1))
@@ -40,7 +41,7 @@ def _day_as(form):
 
 def _half_day(text):
     """Returns the nanoseconds since midnight of a time with AM or PM, such as `1:30 pm`. Raises Unread."""
-    if not re.search("[AaPp]\\.?[Mm]", text):
+    if not re.search("[AaPp]\\.?\\s?[Mm]", text):
         raise Unread("a time without AM or PM")
     return clock(text)
 
@@ -74,6 +75,8 @@ def _parts_of(form):
         return _iso_parts, iso_day, iso_rest
     if form == "rfc":
         return _rfc_parts, rfc_day, rfc_rest
+    if form == "months":
+        return months.parts, months.day, lambda rest: (clock(rest) if rest else 0, None)
     if form == "%Y%m%d%H%M%S":
         return _packed_parts, _day_as("%Y%m%d"), _clock_as("%H%M%S")
     day, _, rest = form.partition(" ")
@@ -114,7 +117,7 @@ class Moments:
     def make_of_day(self):
         """Reads spreadsheet numbers as fractions of a day, for times whose day is in another column."""
         self.is_of_day = True
-        named = {"clock": self._clock, "hmm": hmm, "hmmss": hmmss, "excel": self._part_of_day}
+        named = {"clock": self._clock, "gtfs": gtfs, "hmm": hmm, "hmmss": hmmss, "excel": self._part_of_day}
         read = (lambda text: (named[self.form](text), None)) if self.form in named else _clock_as(self.form)
         cache = Cache(lambda text: read(there(text))[0])
         self.of = lambda text, than=None, until=None: cache[text]
@@ -143,6 +146,8 @@ class Moments:
         text = there(text)
         if text.isdigit() and text.isascii():
             return int(text) * self._unit
+        if "E+" in text.upper():
+            raise Unread("a rounded number: export the column with all its digits")
         whole, _, rest = text.partition(".")
         if self.form == "ticks" or not (whole.isdigit() and rest.isdigit() and text.isascii()):
             raise Unread("not a whole number" if self.form == "ticks" else "not a number")

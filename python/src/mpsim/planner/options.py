@@ -30,7 +30,8 @@ def _times(add):
 def _columns(add):
     add("--source", metavar="COLUMN", help="column with the source of a job, or one name for all jobs")
     units = f"UNIT is one of {', '.join(Lengths.NAMES)}, by default s"
-    says = f"column with a service time; {units}, or data at a rate, e.g. bytes@10Gbps; columns of one NAME are added up; or a sum or difference, e.g. talk=End-Answered+Wrap"
+    units += ", or data at a rate, e.g. bytes@10Gbps"
+    says = f"column with a service time, or e.g. talk=End-Answered+Wrap; {units}; columns of one NAME are added up"
     add("--demand", action="append", default=[], metavar="COLUMN[=NAME][:UNIT]", help=says)
     says = "column with the end of a service, which begins at --answered, or else at --time"
     add("--end", action="append", default=[], metavar="COLUMN[=NAME]", help=says)

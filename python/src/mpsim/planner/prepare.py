@@ -11,7 +11,7 @@ from .exports import LINES, Export
 from .expressions import Expression
 from .files import all_written, counted, judge_outputs, say, written
 from .models import judged_text
-from .names import name_for
+from .names import is_like, name_for
 from .options import words
 from .plan import Plan
 from .prepared import Prepared
@@ -26,8 +26,6 @@ from .zones import Zone
 EXAMPLE = (
     "planner prepare calls.csv --time Zeit --source Abteilung --demand 'Dauer=talk:min' --zone Europe/Berlin --out trace.csv --first-lines model.txt"
 )
-# The most sources of a model.
-SOURCES = 63
 # A field with more characters is rejected: an unclosed quote makes one field of the rest.
 FIELD = 1 << 17
 
@@ -141,6 +139,7 @@ def _finished(plan, rows, begin, most, far, duplicates):
     made.told += plan.place.notes()
     _judge_zero(plan, made)
     _note_values(plan, rows, made)
+    made.texts = {new: old for old, new in plan.records.names.items() if new in made.names and not is_like(old, new)}
     made.told += [f"source {old!r} is called {new}" for old, new in plan.records.names.items() if old != new and new in made.names]
     made.warned += _alike(plan.records, made.names)
     _sort(made, rows, at)
@@ -171,8 +170,6 @@ def _judge_repeats(rows, duplicates):
 def _order(plan, used):
     """Returns the sources in the order of the model, or else of the export."""
     found = dict.fromkeys(used)
-    if len(found) > SOURCES:
-        raise ValueError(f"{len(found)} sources; the limit of a model is {SOURCES}: give one name for all, or --rename several to one")
     known = plan.records.known
     return list(found) if known is None else [item for item in known if item in found]
 

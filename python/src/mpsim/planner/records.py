@@ -7,6 +7,8 @@ from .times import DAY, Asks, Cache, Unread, day_of
 
 # Moments are stored as 64-bit integers, which reach from 1684 to 2255.
 MOST = 9 * 10**18
+# The most sources of a model.
+SOURCES = 63
 
 
 class Dates:
@@ -92,6 +94,10 @@ class Times:
         return moment if moment >= than else self.zone.utc(midnight + DAY + value, self._seen, than)
 
 
+class TooManySources(ValueError):
+    """An export has more sources than a model may have."""
+
+
 class Left(ValueError):
     """A row to leave out: the index of the column that can't be read, None for the whole row, and the reason."""
 
@@ -116,8 +122,8 @@ class Records:
         self.source, self.only, self.known = source, only, known
         self.renamed, self.names, self.conditions, self.begins, self.ends = renamed or {}, {}, [], None, None
         self.ended = None
-        self._taken = set(self.renamed.values())
-        self._named = Cache(self._name_of)
+        self._taken, self._used = set(self.renamed.values()), set()
+        self._named, self._numbers = Cache(self._name_of), {}
         self._codes = [at for at, it in enumerate(values) if it.code]
 
     def _name_of(self, text):
@@ -126,11 +132,14 @@ class Records:
             raise Unread("empty")
         if text in self.names:
             return self.names[text]
-        made = self.renamed.get(text) or name_for(text, self._taken)
+        made = self.renamed.get(text) or name_for(text, self._taken, self._numbers)
+        if self.known is None and made not in self._used and len(self._used) >= SOURCES:
+            raise TooManySources(f"more than {SOURCES} sources, the limit of a model: give one name for all, or --rename several to one")
         if self.known is not None and made not in self.known:
             raise Unread(f"the model has no source {made}")
         self.names[text] = made
         self._taken.add(made)
+        self._used.add(made)
         return made
 
     def many(self, rows):

@@ -81,13 +81,15 @@ def at_utc(moment):
     return nanos(moment.replace(tzinfo=None)) - moment.utcoffset() // timedelta(microseconds=1) * 1000
 
 
-CLOCK = re.compile(r"(\d{1,2}):(\d\d)(?::(\d\d)(?:[.,](\d{1,9}))?)?\s*([AaPp]\.?[Mm]\.?)?", re.ASCII)
+CLOCK = re.compile(r"(\d{1,2}):(\d\d)(?::(\d\d)(?:[.,](\d{1,9}))?)?\s*([AaPp]\.?\s?[Mm]\.?)?", re.ASCII)
+# Spaces that a line doesn't break at, as some systems write before AM.
+_SPACES = str.maketrans("\u00a0\u202f", "  ")
 
 
 def clock(text):
     """Returns the nanoseconds since midnight of a text such as `8:05`, `08:05:09`, `08:05:09.250` or `1:30 pm`; 24:00 is the midnight at the end of
     the day, and second 60 the first of the next minute. Raises Unread."""
-    found = CLOCK.fullmatch(text.strip())
+    found = CLOCK.fullmatch(text.translate(_SPACES).strip())
     if not found:
         raise Unread("not h:mm or h:mm:ss")
     hour, minute, second = int(found[1]), int(found[2]), int(found[3] or 0)
@@ -113,6 +115,14 @@ def _packed(text, digits, name):
     return clock(":".join(text[at : at + 2] for at in range(0, digits, 2)))
 
 
+def gtfs(text):
+    """Returns the nanoseconds since midnight of a text such as `25:10:00`, whose hours go on after midnight, up to 99. Raises Unread."""
+    found = re.fullmatch(r"(\d{1,2}):([0-5]\d)(?::([0-5]\d))?", text.strip(), re.ASCII)
+    if not found:
+        raise Unread("not h:mm:ss")
+    return int(found[1]) * HOUR + int(found[2]) * MINUTE + int(found[3] or 0) * SECOND
+
+
 def hmm(text):
     """Returns the nanoseconds since midnight of a number such as 805 or 1430: hours, and two digits of minutes. Raises Unread."""
     return _packed(text, 4, "hmm")
@@ -135,7 +145,13 @@ def excel(text):
 
 
 ISO_DAY = re.compile(r"(\d{4})-(\d\d)-(\d\d)|(\d{4})(\d\d)(\d\d)", re.ASCII)
-ISO_REST = re.compile(r"[T ](\d\d)(?::?(\d\d)(?::?(\d\d)(?:[.,](\d{1,9}))?)?)?\s*(Z|[+-]\d\d(?::?\d\d)?)?", re.ASCII)
+# A name of a zone in brackets, as Java writes it, repeats the offset.
+ISO_REST = re.compile(r"[T ](\d\d)(?::?(\d\d)(?::?(\d\d)(?:[.,](\d{1,9}))?)?)?\s*(Z|[+-]\d\d(?::?\d\d)?|[A-Z]{3,4})?(?:\[[\w/+-]+\])?", re.ASCII)
+
+
+# Hours ahead of UTC for names with one meaning.
+ZONES = {"Z": 0, "UTC": 0, "GMT": 0, "WET": 0, "WEST": 1, "CET": 1, "CEST": 2, "EET": 2, "EEST": 3}
+ZONES.update({"EST": -5, "EDT": -4, "CDT": -5, "MST": -7, "MDT": -6, "PST": -8, "PDT": -7})
 
 
 def day_of(year, month, day):
@@ -148,8 +164,10 @@ def day_of(year, month, day):
 
 def offset_of(text):
     """Returns the nanoseconds by which a clock is ahead of UTC, from `Z`, `+01`, `+0100` or `-05:30`. Raises Unread."""
-    if text == "Z":
-        return 0
+    if text.isalpha():
+        if text not in ZONES:
+            raise Unread(f"the zone {text} isn't known: its name may mean several")
+        return ZONES[text] * HOUR
     digits = text[1:].replace(":", "").ljust(4, "0")
     if int(digits[:2]) > 23 or int(digits[2:]) > 59:
         raise Unread("not an offset from UTC")
@@ -191,7 +209,7 @@ WEEKDAYS = "Monday", "Tuesday", "Wednesday", "Thursday", "Friday", "Saturday", "
 MONTHS = "Jan", "Feb", "Mar", "Apr", "May", "Jun", "Jul", "Aug", "Sep", "Oct", "Nov", "Dec"
 RFC_DAY = re.compile(r"(?:([A-Za-z]{3})\s*,\s*)?(\d{1,2})\s+([A-Za-z]{3})\s+(\d{4})", re.ASCII)
 RFC_REST = re.compile(r"(\d\d?):(\d\d)(?::(\d\d))?\s*([+-]\d{4}|[A-Z]+)?\s*(?:\([^()]*\))?", re.ASCII)
-# Hours ahead of UTC for the names in RFC 2822. Other names have no known meaning.
+# Hours ahead of UTC for the names in RFC 2822. Other names have no known meaning there.
 RFC_ZONES = {"UT": 0, "GMT": 0, "EST": -5, "EDT": -4, "CST": -6, "CDT": -5, "MST": -7, "MDT": -6, "PST": -8, "PDT": -7}
 
 
