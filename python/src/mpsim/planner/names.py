@@ -26,9 +26,7 @@ def name_for(text, taken=(), numbers=None):
     >>> name_for("Verkauf & Büro"), name_for("24h"), name_for("Büro", ["buro"]), name_for("Продажи"), name_for("客服")
     ('verkauf_and_buro', 'x_24h', 'buro_2', 'prodazhi', 'name_1')
     """
-    # Accents of Greek and Cyrillic letters go first, so that the letter is known.
-    bare = "".join(item for item in unicodedata.normalize("NFKD", text[:200].lower()) if not unicodedata.combining(item) or item == "\u0306")
-    letters = "".join(_LETTERS.get(item, item) for item in unicodedata.normalize("NFC", bare))
+    letters = "".join(map(_letter, unicodedata.normalize("NFC", text[:200].lower())))
     plain = unicodedata.normalize("NFKD", letters).encode("ascii", "ignore").decode().lower()
     name = re.sub(r"[^a-z0-9]+", "_", plain).strip("_")
     if not name:
@@ -37,6 +35,11 @@ def name_for(text, taken=(), numbers=None):
         name = "x_" + name
     name = base = name[:32].rstrip("_")
     return _numbered(base, 2, taken, numbers) if name in taken else name
+
+
+def _letter(item):
+    """Returns a letter in Latin ones, without the accent of a Greek or Cyrillic one; others as they are."""
+    return _LETTERS.get(item, _LETTERS.get(unicodedata.normalize("NFD", item)[0], item))
 
 
 def _numbered(base, first, taken, numbers):
