@@ -40,7 +40,9 @@ class Far(Test):
             prepare(table(*rows), "when", where=["who=a"])
 
     def test_what_is_not_far(self):
-        """Two weeks over Christmas; the same days of two months; a clock without a day; ticks."""
+        """Two weeks over Christmas; the same days of two months; a gap that is shorter than the rest; a clock without a day; ticks."""
+        year = [f"2026-{month:02}-01 08:00,a,1" for month in range(1, 8)] + ["2026-11-01 08:00,a,1"]
+        self.assertEqual(len(prepare(table(*year), "when")), 8)
         holidays = ["2025-12-23 08:00,a,1", "2025-12-23 08:01,a,1", "2026-01-07 08:00,a,1"]
         for rows in holidays, DAYS + [item.replace("-03-", "-11-") for item in DAYS]:
             self.assertEqual(len(prepare(table(*rows), "when")), len(rows))
@@ -159,6 +161,8 @@ class Nanoseconds(Test):
         self.assertEqual(made.first_lines().splitlines()[1], "# a tick is 1ns, time 0 is 2026-03-02T08:00:17.123456789+00:00")
         self.assertEqual(settings_in(made.first_lines())[:2], (1, "2026-03-02T08:00:17.123456789+00:00"))
         self.assertEqual(Calendar(1, "2026-03-02T08:00:17.123456789").wall(1) % 10**9, 123456790)
+        made = prepare(rows.replace(b"3456789", b"3456007").replace(b"3456791", b"3456008"), "at", format="unix", tick="1ns", begin="first")
+        self.assertEqual(settings_in(made.first_lines())[:2], (1, "2026-03-02T08:00:17.123456007+00:00"))
         iso = table("2026-03-02T08:00:17.123456789Z,1", "2026-03-02T08:00:17.123456791Z,1", header="at,bytes")
         self.assertEqual(list(prepare(iso, "at", tick="1ns", begin="first").times), [0, 2])
 
