@@ -10,9 +10,9 @@ _mpplan() {
     case ${COMP_WORDS[1]} in
         prepare)
             options='--time --format --date --date-format --day --zone --twice --tick --begin --source --demand --end --answered --constant
-                --code --empty --rename --decimal --delimiter --encoding --skip --header --model --left-out --first-lines --out-model --out
-                --help'
-            repeated=' --demand --end --answered --constant --code --rename '
+                --code --empty --rename --where --from --until --far --duplicates --left-out-most --decimal --delimiter --encoding --skip
+                --sheet --header --model --left-out --first-lines --out-model --out --help'
+            repeated=' --demand --end --answered --constant --code --rename --where '
             ;;
         scale)
             options='--by --shift --times --twins --source --out --help'
@@ -22,38 +22,38 @@ _mpplan() {
             options='--model --out --edits --help'
             ;;
         pool)
-            options='--node --agents --by --out --out-model --report --within --percentile --help'
+            options='--node --agents --by --out --out-model --report --within --percentile --format --csv-style --help'
             repeated=' --within --percentile '
             ;;
         run)
             options='--jobs --page --tick --start --zone --help'
             ;;
         days)
-            options='--node --open --close --every --tick --start --zone --help'
+            options='--node --open --close --every --tick --start --zone --format --csv-style --help'
             repeated=' --node '
             ;;
         table)
-            options='--of --node --labels --help'
+            options='--of --node --labels --format --csv-style --help'
             repeated=' --node '
             ;;
         compare)
-            options='--figure --node --csv --help'
+            options='--figure --node --csv --format --csv-style --help'
             repeated=' --node '
             ;;
         service)
-            options='--node --pool --within --percentile --help'
+            options='--node --pool --within --percentile --format --csv-style --help'
             repeated=' --node --pool --within --percentile '
             ;;
         hours)
-            options='--node --pool --by --model --within --percentile --tick --start --zone --help'
+            options='--node --pool --by --model --within --percentile --tick --start --zone --format --csv-style --help'
             repeated=' --node --pool --within --percentile '
             ;;
         sojourns)
-            options='--by --within --percentile --each --help'
+            options='--by --within --percentile --each --format --csv-style --help'
             repeated=' --within --percentile '
             ;;
         sweep)
-            options='--set --model --trace --node --within --page --folder --parallel --slurm --resume --table --shard --help'
+            options='--set --model --trace --node --within --page --csv-style --folder --parallel --slurm --resume --table --shard --help'
             repeated=' --set --model --trace --node '
             ;;
         page)
@@ -64,16 +64,32 @@ _mpplan() {
     esac
     case ${COMP_WORDS[1]}.${COMP_WORDS[COMP_CWORD-1]} in
         prepare.--twice) choices='first second order' ;;
+        prepare.--duplicates) choices='drop keep' ;;
         prepare.--decimal) choices='. ,' ;;
         pool.--by) choices='trunk agents' ;;
+        pool.--format) choices='csv json md xlsx' ;;
+        pool.--csv-style) choices='plain excel-de' ;;
+        days.--format) choices='csv json md xlsx' ;;
+        days.--csv-style) choices='plain excel-de' ;;
         table.--of) choices='nodes exits visits' ;;
+        table.--format) choices='csv json md xlsx' ;;
+        table.--csv-style) choices='plain excel-de' ;;
         compare.--figure) choices='in out lost held wait max p50 p90 p99 busy area peak util mean_wait mean_time share_lost' ;;
+        compare.--format) choices='csv json md xlsx' ;;
+        compare.--csv-style) choices='plain excel-de' ;;
+        service.--format) choices='csv json md xlsx' ;;
+        service.--csv-style) choices='plain excel-de' ;;
         hours.--by) choices='hour day weekday each' ;;
+        hours.--format) choices='csv json md xlsx' ;;
+        hours.--csv-style) choices='plain excel-de' ;;
         sojourns.--by) choices='both source end all' ;;
+        sojourns.--format) choices='csv json md xlsx' ;;
+        sojourns.--csv-style) choices='plain excel-de' ;;
+        sweep.--csv-style) choices='plain excel-de' ;;
         *.--agents | *.--answered | *.--begin | *.--by | *.--close | *.--code | *.--constant | *.--date | *.--date-format | *.--day | \
-            *.--delimiter | *.--demand | *.--empty | *.--encoding | *.--end | *.--every | *.--format | *.--header | *.--labels | *.--node | \
-            *.--open | *.--percentile | *.--pool | *.--rename | *.--set | *.--shard | *.--shift | *.--skip | *.--source | *.--start | \
-            *.--tick | *.--time | *.--title | *.--within | *.--zone) return ;;
+            *.--delimiter | *.--demand | *.--empty | *.--encoding | *.--end | *.--every | *.--format | *.--from | *.--header | *.--labels | \
+            *.--left-out-most | *.--node | *.--open | *.--percentile | *.--pool | *.--rename | *.--set | *.--shard | *.--sheet | *.--shift | \
+            *.--skip | *.--source | *.--start | *.--tick | *.--time | *.--title | *.--until | *.--where | *.--within | *.--zone) return ;;
     esac
     if [[ $choices ]]; then
         COMPREPLY=($(compgen -W "$choices" -- "$word"))

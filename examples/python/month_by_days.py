@@ -9,7 +9,7 @@ from mpsim.planner.days import by_calendar, days
 from mpsim.planner.traces import Trace
 
 MODEL = "model 1\nsource calls\nserver desk talk from calls\n"
-DAY, HOUR, SECOND = 86400, 3600, 10**6
+DAY, HOUR, SECOND = 86400, 3600, 10**9
 
 
 def drawn():

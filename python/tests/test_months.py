@@ -51,7 +51,7 @@ class Codes(Test):
             ('model 1\n# room: 3 is "x"\n# kind: 4 is "b", 5 is "c"\nsource a\n', f'model 1\n# room: 3 is "x"\n{line}\nsource a\n'),
         ):
             self.assertEqual(with_codes(before, "kind", {"a": 0}), after)
-        self.assertEqual(with_settings("model 1", 10**6, None, None), "model 1\n# a tick is 1s")
+        self.assertEqual(with_settings("model 1", 10**9, None, None), "model 1\n# a tick is 1s")
 
 
 class Months(Test):

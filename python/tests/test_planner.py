@@ -24,8 +24,8 @@ from mpsim.planner.progress import Progress
 from mpsim.planner.traces import Trace
 
 EXPORT = EXAMPLES / "export" / "calls.csv"
-ASKED = [EXPORT, "--date", "Datum", "--time", "Uhrzeit", "--source", "Warteschlange"]
-COMMAND = [sys.executable, "-B", ROOT / "mpplan"]
+ASKED = [EXPORT, "--date", "Datum", "--time", "Uhrzeit", "--source", "Warteschlange", "--left-out-most", "40%"]
+COMMAND = [sys.executable, "-B", ROOT / "tools" / "planner"]
 
 
 class Words(Test):
@@ -81,7 +81,7 @@ class LongFields(InFolder):
             self.assertEqual(csv.field_size_limit(), limit)
         self.assertEqual((text_of(out), text_of(more)), (text_of(trace) + "\n", text_of(trace).replace("door,0", "door,1") + "\ndoor,9,1,c\n"))
         self.assertEqual(Trace.read(trace).rows[1][3], note)
-        line = f"{trace}: after row 1: field larger than field limit ({limit}): is a closing quote missing?"
+        line = f"{trace}: row 3: field larger than field limit ({limit}): is a closing quote missing?"
         self.refuses(line, "prepare", trace, "--time", "time", "--format", "ticks")
         self.assertEqual(csv.field_size_limit(), limit)
 

@@ -1,5 +1,6 @@
 """Exports, and the traces made from them."""
 
+import functools
 import io
 import random
 import time
@@ -13,13 +14,16 @@ from ground import EXAMPLES, Test, text_of
 import mpsim
 from mpsim.planner.calendar import settings_in
 from mpsim.planner.exports import Export, found_delimiter, found_encoding
-from mpsim.planner.prepare import prepare
+from mpsim.planner.prepare import prepare as prepare_strictly
 from mpsim.planner.records import Records
 from mpsim.planner.times import Unread
 
+# Many tables below have rows that are left out.
+prepare = functools.partial(prepare_strictly, left_out_most="100%")
 EXPORT = EXAMPLES / "export"
 ASKED = ["--date", "Datum", "--time", "Uhrzeit", "--source", "Warteschlange"]
-ASKED += ["--demand", "Gesprächsdauer (min)=talk:min", "--demand", "Nachbearbeitung=wrap", "--code", "Anliegen=kind", "--zone", "Europe/Berlin"]
+ASKED += ["--demand", "Gesprächsdauer (min)=talk:min", "--demand", "Nachbearbeitung=wrap", "--code", "Anliegen=kind"]
+ASKED += ["--zone", "Europe/Berlin", "--left-out-most", "40%"]
 
 
 def table(*rows, header="when,who,long"):
@@ -54,20 +58,21 @@ class Example(InFolder):
     def test_one_of_each(self):
         """One row, one record and one source are reported in the singular."""
         export = self.file("one.csv", "when,who,long\n8:00,a,1\n8:01,a,\n")
-        told = planner("prepare", export, "--time", "when", "--source", "who", "--demand", "long")[2].splitlines()
-        self.assertEqual([item for item in told if "row" in item], ["mpplan: 1 row is left out", "mpplan: 1 row: long is empty (row 3)"])
-        self.assertEqual(told[-1], "mpplan: 1 record, 1 source")
+        told = planner("prepare", export, "--time", "when", "--source", "who", "--demand", "long", "--left-out-most", "50%")[2].splitlines()
+        self.assertEqual([item for item in told if "row" in item], ["planner: 1 row is left out", "planner: 1 row: long is empty (row 3)"])
+        self.assertEqual(told[-1], "planner: 1 record, 1 source")
 
     def test_flights(self):
         """As in public flight data; the option may also come before the export."""
         rows = "2015,6,30,2400,SEA,12", "2015,6,30,5,SEA,21", "2015,6,31,5,SEA,1"
         export = self.file("flights.csv", table(*rows, header="YEAR,MONTH,DAY_OF_MONTH,CRS_DEP_TIME,ORIGIN,TAXI_OUT").decode())
-        words = "--day", "YEAR", "MONTH", "DAY_OF_MONTH", export, "--time", "CRS_DEP_TIME", "--format", "hmm", "--demand", "TAXI_OUT=taxi:min"
+        words = ["--day", "YEAR", "MONTH", "DAY_OF_MONTH", export, "--time", "CRS_DEP_TIME", "--format", "hmm", "--demand", "TAXI_OUT=taxi:min"]
+        words += ["--left-out-most", "40%"]
         lines = self.folder / "lines.txt"
         status, out, err = planner("prepare", *words, "--source", "ORIGIN", "--zone", "America/Los_Angeles", "--first-lines", lines)
         self.assertEqual((status, out), (0, "source,time,taxi\nsea,300,1260\nsea,86400,720\n"), err)
-        self.assertIn("mpplan: 1 row: DAY_OF_MONTH: not a day of its month (row 4, '31')\n", err)
-        self.assertEqual(settings_in(text_of(lines)), (10**6, "2015-06-30T00:00:00-07:00", "America/Los_Angeles"))
+        self.assertIn("planner: 1 row: DAY_OF_MONTH: not a day of its month (row 4, '31')\n", err)
+        self.assertEqual(settings_in(text_of(lines)), (10**9, "2015-06-30T00:00:00-07:00", "America/Los_Angeles"))
 
     def test_the_output(self):
         status, out, err = planner("prepare", EXPORT / "calls.csv", *ASKED)
@@ -250,7 +255,7 @@ class Times(Test):
         self.assertEqual(times("2026-03-02 00:30", begin="day", zone="Europe/Berlin"), [1800])
         self.assertEqual(times("2026-03-02 00:30", begin="0:15", zone="Europe/Berlin"), [900])
         made = prepare(table("2026-03-02 08:30,a,1"), "when", zone="Europe/Berlin")
-        self.assertEqual(settings_in(made.first_lines()), (10**6, "2026-03-02T08:00:00+01:00", "Europe/Berlin"))
+        self.assertEqual(settings_in(made.first_lines()), (10**9, "2026-03-02T08:00:00+01:00", "Europe/Berlin"))
         self.assertEqual(prepare(table("2026-03-02 08:30,a,1"), "when").zero, "2026-03-02T08:00:00")
         self.assertEqual(prepare(table("2026-03-02T08:30+01:00,a,1"), "when").zero, "2026-03-02T07:00:00+00:00")
         self.assertEqual(prepare(table("1772436600,a,1"), "when", format="unix").zero, "2026-03-02T07:00:00+00:00")

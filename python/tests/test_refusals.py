@@ -1,5 +1,6 @@
 """The errors of `mpplan prepare`: one line with the file, the row, the column and the value, or with the option to set."""
 
+import functools
 import unittest
 import unittest.mock
 
@@ -8,8 +9,10 @@ from ground import ROOT, Test, programs_in, text_of
 
 from mpsim.planner import prepare as module
 from mpsim.planner import prepared
+from mpsim.planner import rows as rows_module
 
-prepare = module.prepare
+# Some tables below have rows that are left out.
+prepare = functools.partial(module.prepare, left_out_most="100%")
 
 MODEL = "model 1\nsource a\nserver desk d from a\n"
 ROW = "8:00,a,1"
@@ -44,7 +47,7 @@ class Refusals(InFolder):
             ("when\n8:00\n".encode("utf-16-le"), "it has NUL bytes: is it UTF-16 without a byte order mark? Give --encoding, e.g. utf-16-le"),
             (b"\xef\xbb\xbfwhen\n8:00\n\xff\n", "line 3: the byte ff isn't valid UTF-8, although the file has a UTF-8 byte order mark (--encoding)"),
             (b"when;a,b\n8:00;1,2\n", "the delimiter could be ';' or ',' (--delimiter)"),
-            (table(ROW, '8:01,a,"1' + "x" * 200000), "after row 1: field larger than field limit (131072): is a closing quote missing?"),
+            (table(ROW, '8:01,a,"1' + "x" * 200000), "row 3: field larger than field limit (131072): is a closing quote missing?"),
             (b'when,"' + b"x" * 200000, "row 1: field larger than field limit (131072): is a closing quote missing?"),
         ):
             self.is_refused(f"EXPORT: {line}", data)
@@ -64,7 +67,7 @@ class Refusals(InFolder):
     def test_options_that_are_needed(self):
         for line, data, *words in (
             ("no column 'Zeit'; it has 'when', 'who', 'long'", table(ROW), "--time", "Zeit"),
-            ("two columns are called 'when': rename one of them", b"when,when\n8:00,9:00\n"),
+            ("two columns are called 'when': write #1 or #2", b"when,when\n8:00,9:00\n"),
             (
                 "column 'when': '03/02/2026' could begin with the day or with the month: the format is '%d/%m/%Y' or '%m/%d/%Y' (--format)",
                 table("03/02/2026,a,1"),
@@ -101,7 +104,7 @@ class Refusals(InFolder):
                 "column 'when': 'Summe' isn't written like '01.10.2026'; if you give a format, such rows are left out (--format)",
                 table("01.10.2026,a,1", "Summe,,9", "02.10.2026,a,1"),
             ),
-            ("times are before the year 1 or after the year 9999: is --format right?", table("1772436600000,a,1"), "--format", "unix"),
+            ("no rows are left; 1 row: when: out of the range of times (row 2, '1772436600000')", table("1772436600000,a,1"), "--format", "unix"),
             ("--answered requires --end", table(ROW), "--answered", "when"),
             ("column 'when' isn't only a time of day, so --date can't be used", table("2026-03-02,a,1"), "--date", "when"),
             ("column 'when' isn't only a time of day, so --day can't be used", table("2026-03-02,a,1"), *DAY),
@@ -126,7 +129,8 @@ class Refusals(InFolder):
             ("the column's name 'from' is reserved", table(ROW), "--demand", "long=from"),
             ("the column's name 'd' is already taken", table(ROW), "--demand", "long=d", "--constant", "d=1s"),
             (
-                "unknown unit 'fortnight': it is one of us, ms, s, sec, min, h, d, ticks, h:mm, m:ss, h:mm:ss, excel",
+                "unknown unit 'fortnight': it is one of ns, us, ms, s, sec, min, h, d, ticks, h:mm, m:ss, h:mm:ss, excel, or "
+                "data at a rate such as bytes@10Gbps",
                 table(ROW),
                 "--demand",
                 "long:fortnight",
@@ -134,7 +138,7 @@ class Refusals(InFolder):
             ("--constant wrap: expected NAME=LENGTH, e.g. wrap=90s", table(ROW), "--constant", "wrap"),
             ("--constant wrap 1.5s is not a whole number of ticks", table(ROW), "--constant", "wrap=1.5s"),
             (
-                "--constant wrap long: not a length of time: expected a number and one of us, ms, s, sec, min, h, d",
+                "--constant wrap long: not a length of time: expected a number and one of ns, us, ms, s, sec, min, h, d",
                 table(ROW),
                 "--constant",
                 "wrap=long",
@@ -161,6 +165,8 @@ class Refusals(InFolder):
             (
                 "no rows are left; 2 rows: when: not a time of day; the first is row 2, '25:00'; 1 row: when is empty (row 3)",
                 table("25:00,a,1", ",a,1", "25:01,a,1"),
+                "--format",
+                "clock",
             ),
         ):
             with self.subTest(line):
@@ -169,8 +175,8 @@ class Refusals(InFolder):
     def test_options(self):
         for line, *words in (
             ("--tick 0s: a tick must be longer than 0", "--tick", "0s"),
-            ("--tick 1: not a length of time: expected a number and one of us, ms, s, sec, min, h, d", "--tick", "1"),
-            ("--skip -1: expected a number of lines, 0 or more", "--skip=-1"),
+            ("--tick 1: not a length of time: expected a number and one of ns, us, ms, s, sec, min, h, d", "--tick", "1"),
+            ("EXPORT: --skip -1: expected a number of lines, 0 or more", "--skip=-1"),
             ("this machine has no time zone 'Berlin'; their names look like Europe/Berlin", "--zone", "Berlin"),
         ):
             self.is_refused(line, table(ROW), *words)
@@ -218,7 +224,7 @@ class Refusals(InFolder):
 class Limits(Test):
     def test_sources(self):
         rows = [f"8:00,s{number},1" for number in range(64)]
-        with self.assertRaisesRegex(ValueError, "64 sources; the limit of a model is 63: give one name for all, or --rename several to one"):
+        with self.assertRaisesRegex(ValueError, "more than 63 sources, the limit of a model: give one name for all, or --rename several to one"):
             prepare(table(*rows), "when", source="who")
         self.assertEqual(len(prepare(table(*rows[1:]), "when", source="who").names), 63)
 
@@ -236,10 +242,10 @@ class Limits(Test):
     def test_records_and_bytes(self):
         """The limits are those of docs/ERRORS.md; smaller ones are tried."""
         errors = text_of(ROOT, "docs", "ERRORS.md").replace(",", "")
-        for limit in module.RECORDS, prepared.BYTES:
+        for limit in rows_module.RECORDS, prepared.BYTES:
             self.assertRegex(errors, rf"\b{limit}\b")
-        with unittest.mock.patch.object(module, "RECORDS", 3), unittest.mock.patch.object(prepared, "BYTES", 33):
-            with self.assertRaisesRegex(ValueError, "more than 3 records, the limit of a trace: shorten the export"):
+        with unittest.mock.patch.object(rows_module, "RECORDS", 3), unittest.mock.patch.object(prepared, "BYTES", 33):
+            with self.assertRaisesRegex(ValueError, "more than 3 records, the limit of a trace: choose a part with --from, --until or --where"):
                 prepare(table(*[ROW] * 4), "when")
             # Each record has `jobs,0` and a line feed, with the value two more bytes; the header has 11 or 13.
             self.assertEqual(sum(map(len, prepare(table(*[ROW] * 3), "when").lines())), 12 + 21)

@@ -19,6 +19,7 @@ STANDARD |= {"resource"}
 STANDARD |= {"subprocess", "sys", "threading", "time", "typing"}
 # Further modules used by the planner's commands and the pages.
 STANDARD |= {"argparse", "base64", "codecs", "datetime", "difflib", "errno", "functools", "gc", "glob", "hashlib", "heapq", "html", "json", "locale"}
+STANDARD |= {"bz2", "gzip", "lzma", "tempfile", "zipfile", "zlib"}
 STANDARD |= {"math", "operator", "secrets", "shlex", "socket", "stat", "string", "unicodedata", "zoneinfo"}
 
 
@@ -100,6 +101,11 @@ class Examples(Test):
             self.assertIn(name, text)
 
 
+FRAMES, BOOKS = {"pandas", "numpy"}, {"openpyxl"}
+# What modules use if it is there.
+OPTIONAL = {"report": FRAMES, "node_visits": FRAMES, "sweeps": FRAMES, "planner.sheets": BOOKS, "planner.workbooks": BOOKS}
+
+
 def modules_of(tree):
     """Yields the modules that a source imports, except the package's own."""
     for item in ast.walk(tree):
@@ -120,11 +126,11 @@ class Sources(Test):
                 ast.parse(path.read_text(), feature_version=(3, 9))
 
     def test_modules(self):
-        """The package uses only Python's standard library; few files look for what makes a data frame."""
+        """The package uses only Python's standard library; few files look for what makes a data frame or reads a spreadsheet."""
         for name in MODULES:
             found = set(modules_of(ast.parse((SOURCES / "mpsim" / f"{name.replace('.', '/')}.py").read_text())))
             with self.subTest(name):
-                self.assertEqual(found - STANDARD - ({"pandas", "numpy"} if name in ("report", "node_visits", "sweeps") else set()), set())
+                self.assertEqual(found - STANDARD - OPTIONAL.get(name, set()), set())
 
     def test_names(self):
         self.assertEqual(set(mpsim.__all__) - set(dir(mpsim)), set())

@@ -14,13 +14,13 @@ from mpsim.planner.names import is_name, name_for
 from mpsim.planner.times import Asks, Unread, clock, excel, hmm, hmmss, iso, length
 from mpsim.planner.zones import Zone
 
-SECOND = 10**6
+SECOND = 10**9
 EPOCH = datetime(1970, 1, 1, tzinfo=timezone.utc)
 
 
 def utc(*moment):
-    """Returns the microseconds from 1970 to a moment in UTC."""
-    return (datetime(*moment, tzinfo=timezone.utc) - EPOCH) // timedelta(microseconds=1)
+    """Returns the nanoseconds from 1970 to a moment in UTC."""
+    return (datetime(*moment, tzinfo=timezone.utc) - EPOCH) // timedelta(microseconds=1) * 1000
 
 
 class Clocks(Test):
@@ -53,8 +53,8 @@ class Clocks(Test):
 
     def test_length(self):
         texts = "1s", "100ms", "1min", "0.5s", "2 h", "7us", "1d", "1.5sec"
-        self.assertEqual([length(text) for text in texts], [10**6, 10**5, 6 * 10**7, 500000, 72 * 10**8, 7, 864 * 10**8, 1500000])
-        for bad in "1", "s", "1 x", "-1s", "0.5us", "1,5s", "":
+        self.assertEqual([length(text) for text in texts], [10**9, 10**8, 6 * 10**10, 5 * 10**8, 72 * 10**11, 7000, 864 * 10**11, 15 * 10**8])
+        for bad in "1", "s", "1 x", "-1s", "0.5ns", "1,5s", "":
             with self.subTest(bad), self.assertRaises(ValueError):
                 length(bad)
 
@@ -132,7 +132,7 @@ class Moment(Test):
         plain = [moment.replace(microsecond=0) for moment in self.moments]
         self.reads("unix", [str(utc(*item.timetuple()[:6]) // SECOND) for item in plain], plain)
         self.reads("unix", [f"{utc(*moment.timetuple()[:6]) // SECOND}.{moment.microsecond:06}" for moment in self.moments], self.moments)
-        self.reads("unixms", [str(utc(*item.timetuple()[:6]) // 1000) for item in plain], plain)
+        self.reads("unixms", [str(utc(*item.timetuple()[:6]) // 10**6) for item in plain], plain)
         for form, bad in ("unix", "-1"), ("unix", "1."), ("unix", "x"), ("ticks", "1.5"), ("unixms", "1e3"), ("unix", "٣"):
             with self.subTest(bad), self.assertRaises(Unread):
                 Moments(form, Zone()).of(bad)
@@ -249,7 +249,7 @@ class Demands(Test):
             ("1.500", "ms", 1, 1500),
         ):
             with self.subTest(text):
-                lengths = Lengths(unit, ".", tick)
+                lengths = Lengths(unit, ".", 1000 * tick)
                 self.assertEqual((lengths.ticks[text], lengths.rounded), (ticks, text not in ("0.00000125", "1.500")))
 
     def test_decimal_marks(self):
@@ -270,8 +270,8 @@ class Names(Test):
             ("24h", "x_24h"),
             ("from", "x_from"),
             ("Time", "x_time"),
-            ("日本", "x"),
-            ("  --", "x"),
+            ("日本", "name_1"),
+            ("  --", "name_1"),
             ("A" * 40, "a" * 32),
             ("a" * 31 + " b", "a" * 31),
         ):

@@ -10,14 +10,14 @@ from mpsim.planner.calendar import Calendar, first_lines, settings_in
 from mpsim.planner.times import Asks, Unread
 from mpsim.planner.zones import Zone
 
-SECOND, DAY = 10**6, 86400 * 10**6
+SECOND, DAY = 10**9, 86400 * 10**9
 EPOCH = datetime(1970, 1, 1)
 # Changes by an hour and by half an hour; clocks that change at midnight; clocks that never change; and an offset with minutes.
 ZONES = "Europe/Berlin", "America/New_York", "Australia/Lord_Howe", "America/Havana", "Asia/Beirut", "Asia/Kathmandu"
 
 
 def micros(wall):
-    return (wall - EPOCH) // timedelta(microseconds=1)
+    return (wall - EPOCH) // timedelta(microseconds=1) * 1000
 
 
 class Zones(Test):
@@ -147,11 +147,11 @@ class Calendars(Test):
     def test_first_lines(self):
         lines = "model 1\n# a tick is 1s, time 0 is 2026-03-02T08:00:00+01:00 in Europe/Berlin\n# columns: talk, wrap\nsource a\nsource b\n"
         self.assertEqual(first_lines(SECOND, "2026-03-02T08:00:00+01:00", "Europe/Berlin", ["talk", "wrap"], ["a", "b"]), lines)
-        self.assertEqual(first_lines(1500, None, None, [], ["a"]), "model 1\n# a tick is 1500us\nsource a\n")
+        self.assertEqual(first_lines(1500000, None, None, [], ["a"]), "model 1\n# a tick is 1500us\nsource a\n")
         self.assertEqual(settings_in(lines), (SECOND, "2026-03-02T08:00:00+01:00", "Europe/Berlin"))
         self.assertEqual(settings_in(lines.replace("\n", "\r\n")), (SECOND, "2026-03-02T08:00:00+01:00", "Europe/Berlin"))
         for text, told in (
-            ("# a tick is 100ms\n", (100000, None, None)),
+            ("# a tick is 100ms\n", (10**8, None, None)),
             ("model 1\n# a tick is 1min, time 0 is 2026-03-02T08:00:00", (60 * SECOND, "2026-03-02T08:00:00", None)),
             ("# a tick is a second\n", (None, None, None)),
             ("# a tick is short\n", (None, None, None)),

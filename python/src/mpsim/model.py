@@ -1,6 +1,7 @@
 """Models: a builder that writes their text, texts that differ in values, and the nodes and columns in a text. The programs check models."""
 
 import itertools
+import re
 from typing import NamedTuple, Tuple
 
 
@@ -207,7 +208,9 @@ def _outputs(kind, arguments):
     if kind in ("loss", "trunk"):
         return 2
     if kind in ("fork", "split") and arguments:
-        return len(arguments) - 1 if arguments[0] == "cut" else int(arguments[0])
+        # A number that mpsim rejects must not take memory here.
+        count = int(arguments[0]) if re.fullmatch(r"\d{1,3}", arguments[0], re.ASCII) else 1
+        return len(arguments) - 1 if arguments[0] == "cut" else count
     return 1
 
 

@@ -34,24 +34,24 @@ def of(args, model=None):
 
 
 def tick_of(text):
-    """Returns the microseconds of a tick. Raises ValueError for an invalid text."""
-    micros = length(text)
-    if micros < 1:
+    """Returns the nanoseconds of a tick. Raises ValueError for an invalid text."""
+    nanos = length(text)
+    if nanos < 1:
         raise ValueError("a tick must be longer than 0")
-    return micros
+    return nanos
 
 
-def length_text(micros):
+def length_text(nanos):
     """Returns a length of time in the form that `length` reads."""
-    per, unit = (SECOND, "s") if micros % SECOND == 0 else (1000, "ms") if micros % 1000 == 0 else (1, "us")
-    return f"{micros // per}{unit}"
+    per, unit = next((per, unit) for per, unit in ((SECOND, "s"), (10**6, "ms"), (1000, "us"), (1, "ns")) if nanos % per == 0)
+    return f"{nanos // per}{unit}"
 
 
 def first_lines(tick, start, zone, columns, sources, more=()):
-    """Returns the first lines of a model: the tick (int, microseconds), time 0 (ISO 8601 text or None), its zone (str or None), the columns of the
+    """Returns the first lines of a model: the tick (int, nanoseconds), time 0 (ISO 8601 text or None), its zone (str or None), the columns of the
     trace after `time`, `more` comments, and the sources (lists of str). `settings_in` reads them back.
 
-    >>> print(first_lines(100000, "2026-03-02T08:00:00+01:00", "Europe/Berlin", ["talk"], ["phone"]), end="")
+    >>> print(first_lines(100000000, "2026-03-02T08:00:00+01:00", "Europe/Berlin", ["talk"], ["phone"]), end="")
     model 1
     # a tick is 100ms, time 0 is 2026-03-02T08:00:00+01:00 in Europe/Berlin
     # columns: talk
@@ -70,7 +70,7 @@ _SETTINGS = rf"# a tick is (\d+(?:{'|'.join(UNITS)}))(?:, time 0 is (\S+)(?: in 
 
 
 def settings_in(text):
-    """Returns what the first lines of a model say: the tick in microseconds, time 0 as an ISO 8601 text, and the zone; each None if missing."""
+    """Returns what the first lines of a model say: the tick in nanoseconds, time 0 as an ISO 8601 text, and the zone; each None if missing."""
     found = re.search(rf"^{_SETTINGS}\r?$", text, re.M)
     return (tick_of(found[1]), found[2], found[3]) if found else (None, None, None)
 
@@ -78,7 +78,7 @@ def settings_in(text):
 def with_settings(text, tick, start, zone):
     """Returns a model's text with these settings in its first lines.
 
-    >>> with_settings("model 1\\nsource door\\n", 1000000, None, None)
+    >>> with_settings("model 1\\nsource door\\n", 1000000000, None, None)
     'model 1\\n# a tick is 1s\\nsource door\\n'
     """
     return with_line(text, _SETTINGS, _settings(tick, start, zone))
@@ -99,7 +99,7 @@ def with_line(text, pattern, line):
 
 
 class Calendar:
-    """The day and hour of each tick. `tick` (int) is in microseconds, `start` an ISO 8601 text, `zone` a name. Without a start, time 0 is a midnight.
+    """The day and hour of each tick. `tick` (int) is in nanoseconds, `start` an ISO 8601 text, `zone` a name. Without a start, time 0 is a midnight.
     Days change at midnight of the zone. Raises ValueError for an invalid value, and for a zone without a start."""
 
     def __init__(self, tick, start=None, zone=None):
@@ -113,7 +113,7 @@ class Calendar:
         self.begin = wall - offset if offset is not None and zone else wall if offset is not None or not zone else self.place.first(wall)
 
     def wall(self, tick):
-        """Returns the wall-clock time of a tick, in microseconds since 1970."""
+        """Returns the wall-clock time of a tick, in nanoseconds since 1970."""
         return self.place.wall(self.begin + tick * self.tick)
 
     def tick_at(self, value):

@@ -19,10 +19,15 @@ def line_of(name, codes):
     >>> line_of("kind", {"Störung": 0, "Bestellung": 1})
     '# kind: 0 is "Störung", 1 is "Bestellung"'
     """
-    # Braces would be filled in by a sweep.
-    words = {code: json.dumps(code, ensure_ascii=False).replace("{", "\\u007b").replace("}", "\\u007d") for code in codes}
+    words = {code: word_of(code) for code in codes}
     line = f"# {name}: " + ", ".join(f"{number} is {words[word]}" for word, number in codes.items())
     return line if len(line.encode(errors="surrogateescape")) <= BYTES else None
+
+
+def word_of(text):
+    """Returns a text in quotes for a comment of a model."""
+    # Braces would be filled in by a sweep.
+    return json.dumps(text, ensure_ascii=False).replace("{", "\\u007b").replace("}", "\\u007d")
 
 
 def codes_in(text):

@@ -1,10 +1,10 @@
 """Compares a figure of each node across reports."""
 
-import csv
 
 from ..errors import Error
 from ..lines import FIGURES
 from ..sweeps import Sweep, load
+from . import sheets
 from .files import say, written
 from .pooled import pool_lines, pools, with_pools
 
@@ -17,7 +17,8 @@ def words(parser):
     says = f"figure to compare: one of {', '.join(FIGURES)}; default: p90"
     parser.add_argument("--figure", choices=FIGURES, default="p90", metavar="FIGURE", help=says)
     parser.add_argument("--node", action="append", default=[], metavar="NAME", help="only this node or pool; may be repeated")
-    parser.add_argument("--csv", action="store_true", help="write CSV, with the differences in columns of their own")
+    parser.add_argument("--csv", action="store_true", help="write CSV, with a column per difference; so do --format and --csv-style")
+    sheets.words(parser)
 
 
 def compare(reports, figure="p90", nodes=()):
@@ -103,8 +104,7 @@ def main(args):
         say(line)
     if args.figure in ("max", "p50", "p90", "p99") and any(pools(report) and report.visits is None for report in reports):
         say(f"a pool's {args.figure} needs job lines: run mpsim with --jobs")
+    if args.csv or args.format != "csv" or args.csv_style != "plain":
+        return sheets.write(_table(labels, found), args.format, args.csv_style)
     with written() as file:
-        if args.csv:
-            csv.writer(file, lineterminator="\n").writerows(_table(labels, found))
-        else:
-            file.writelines(_aligned(labels, found))
+        file.writelines(_aligned(labels, found))

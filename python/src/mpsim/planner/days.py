@@ -1,15 +1,14 @@
 """Runs each day of a trace separately, so that nights and earlier days don't count."""
 
-import csv
 from bisect import bisect_right
 from typing import NamedTuple, Tuple
 
 from ..errors import BoundError, VisitsError
 from ..runs import run
 from ..sweeps import Scenario, Sweep
-from . import calendar
+from . import calendar, sheets
 from .anew import anew, standing
-from .files import counted, say, text_of, written
+from .files import counted, say, text_of
 from .hours import days_until
 from .pooled import pool_lines, pools
 from .progress import Progress
@@ -40,6 +39,7 @@ def words(parser):
     parser.add_argument("--close", metavar="H:MM", help=closes)
     parser.add_argument("--every", type=int, metavar="TICKS", help="cut the trace into pieces of this many ticks, from time 0, instead of days")
     calendar.words(parser)
+    sheets.words(parser)
 
 
 def cut(times, begins, names, opens=None, closes=None):
@@ -69,7 +69,7 @@ def by_calendar(times, days, opens=None, closes=None):
     >>> from mpsim.planner.calendar import Calendar
     >>> from mpsim.planner.days import by_calendar
     >>> at = [hour * 3600 for hour in (3, 12, 19, 29, 43)]
-    >>> days, left = by_calendar(at, Calendar(10**6, "2026-03-02T00:00"), "18:00", "6:00")
+    >>> days, left = by_calendar(at, Calendar(10**9, "2026-03-02T00:00"), "18:00", "6:00")
     >>> [(it.name, it.zero // 3600, it.records) for it in days], left
     ([('2026-03-01', -6, (0,)), ('2026-03-02', 18, (2, 3)), ('2026-03-03', 42, (4,))], 1)
     """
@@ -140,8 +140,7 @@ def main(args):
     pieces, left = by_ticks(times, args.every) if args.every else by_calendar(times, calendar.of(args, text), args.open, args.close)
     with Progress(len(pieces), "days") as progress:
         sweep, over = days(text.encode(errors="surrogateescape"), trace, pieces, progress, args.model)
-    with written() as file:
-        csv.writer(file, lineterminator="\n").writerows(table(sweep, nodes=args.node, head="day"))
+    sheets.write(table(sweep, nodes=args.node, head="day"), args.format, args.csv_style)
     for line in pool_lines(sweep.reports().values(), args.node):
         say(line)
     if left:

@@ -12,7 +12,8 @@ from .files import all_written, bytes_of, counted, judge_outputs, say, written
 from .lengths import GREATEST_VALUE
 from .models import in_braces, judged_text
 from .names import is_name
-from .prepare import GREATEST_TIME, RECORDS
+from .arrivals import GREATEST_TIME
+from .rows import RECORDS
 from .progress import uncollected
 from .traces import Trace, fields_up_to, is_utf8, pool_warning
 

@@ -6,15 +6,20 @@ import shlex
 import subprocess
 import sys
 
+from .files import written
+
 HERE = os.path.dirname(os.path.abspath(__file__))
+START = "import sys; sys.path.insert(0, sys.argv.pop(1)); from mpsim.planner import main; sys.exit(main(sys.argv[1:]))"
 
 
 def command(folder):
     """Returns the command line that runs a shard, without its number. It works on every machine that has the directory, the package and the programs
     at the same paths."""
     package = os.path.dirname(os.path.dirname(HERE))
-    settings = [f"PYTHONPATH={package}", *(f"{item}={os.path.abspath(os.environ[item])}" for item in ("MPSIM_PROGRAMS",) if item in os.environ)]
-    return ["env", *settings, sys.executable, "-m", "mpsim.planner", "sweep", "--folder", os.path.abspath(folder.path), "--shard"]
+    settings = [f"{item}={os.path.abspath(os.environ[item])}" for item in ("MPSIM_PROGRAMS",) if item in os.environ]
+    # Isolated: a csv.py in the current directory isn't run.
+    python = [sys.executable, "-I", "-c", START, package]
+    return ["env", *settings, *python, "sweep", "--folder", os.path.abspath(folder.path), "--shard"]
 
 
 def _run(words, what, given=None):
@@ -71,7 +76,7 @@ def by_slurm(folder, shards, options=()):
     """Runs shards as a Slurm array and waits for its end. The output of the tasks goes to `slurm.out` in the directory."""
     script, tasks = array(folder, shards, _most_tasks())
     path, out = (os.path.join(os.path.abspath(folder.path), item) for item in ("array.sh", "slurm.out"))
-    with open(path, "w", encoding="utf-8", errors="surrogateescape") as file:
+    with written(path) as file:
         file.write(script)
     # A single percent sign would begin a Slurm pattern.
     settings = ["--job-name=mpsim", f"--array=1-{tasks}", f"--output={out.replace('%', '%%')}", "--open-mode=append"]

@@ -8,11 +8,26 @@ import stat
 import sys
 
 
+# The most characters of a field in a message.
+SHOWN = 300
+
+
 def say(line):
     """Prints a line on stderr, if there is one."""
     with contextlib.suppress(OSError, AttributeError):
         sys.stderr.write(f"mpplan: {line}\n")
         sys.stderr.flush()
+
+
+def quoted(text):
+    """Returns a text of an export for a message, in quotes; of a long one, the beginning."""
+    return repr(text) if len(text) <= SHOWN else f"{text[:SHOWN]!r}.."
+
+
+def listed(texts):
+    """Returns the names of columns for a message, quoted; of many or long ones, the first."""
+    text = ", ".join(map(quoted, texts[:40])) + (", .." if texts[40:] else "")
+    return text if len(text) <= 5 * SHOWN else f"{text[: 5 * SHOWN]}.."
 
 
 def counted(count, word):
@@ -21,7 +36,7 @@ def counted(count, word):
 
 
 @contextlib.contextmanager
-def _named(path):
+def named(path):
     """Adds a file's name to errors raised in the block, which reading and writing leave out."""
     try:
         yield
@@ -35,7 +50,7 @@ def _named(path):
 
 def bytes_of(path):
     """Returns the bytes of a file or a pipe. Raises OSError with its name."""
-    with _named(path), open(path, "rb") as file:
+    with named(path), open(path, "rb") as file:
         return file.read()
 
 
@@ -79,7 +94,7 @@ def all_written(*paths):
         files = [path and stack.enter_context(written(path)) for path in paths]
         yield files
         for path, file in zip(paths, files):
-            with _named(path):
+            with named(path):
                 file and file.flush()
 
 
@@ -90,12 +105,12 @@ def written(path=None):
     if path is None:
         with contextlib.suppress(AttributeError):
             sys.stdout.reconfigure(errors="surrogateescape", newline="")
-        with _named("standard output"):
+        with named("standard output"):
             yield sys.stdout
             sys.stdout.flush()
     elif not _is_whole(path):
         # Append, so that a redirected /dev/stdout keeps what is already there.
-        with _named(path), open(path, "a", **_TEXT) as file:
+        with named(path), open(path, "a", **_TEXT) as file:
             yield file
     else:
         # A link is kept; its target is written.
@@ -103,7 +118,7 @@ def written(path=None):
         part = f"{path}.{secrets.token_hex(4)}.part"
         file = None
         try:
-            with _named(path):
+            with named(path):
                 file = open(_begun(part, path), "w", **_TEXT)
                 yield file
                 file.close()

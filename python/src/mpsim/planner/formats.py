@@ -3,19 +3,21 @@
 import re
 from datetime import datetime, timezone
 
+from . import months
+from .files import quoted
 from .times import CLOCK, ISO_DAY, ISO_REST, RFC_DAY, RFC_REST
 
 # Plain numbers don't show what they mean.
 NUMBERS = "ticks", "unix", "unixms", "hmm", "hmmss", "excel"
-NAMES = "iso", "rfc", "clock", *NUMBERS
+NAMES = "iso", "rfc", "months", "clock", "gtfs", *NUMBERS
 # What may follow a date: its pattern and its directives.
 _CLOCKS = {
     r"": "",
     r"\s\d{1,2}:\d\d": " %H:%M",
     r"\s\d{1,2}:\d\d:\d\d": " %H:%M:%S",
     r"\s\d{1,2}:\d\d:\d\d\.\d{1,6}": " %H:%M:%S.%f",
-    r"\s\d{1,2}:\d\d\s[AaPp][Mm]": " %I:%M %p",
-    r"\s\d{1,2}:\d\d:\d\d\s[AaPp][Mm]": " %I:%M:%S %p",
+    r"\s\d{1,2}:\d\d\s?[AaPp]\.?\s?[Mm]\.?": " %I:%M %p",
+    r"\s\d{1,2}:\d\d:\d\d\s?[AaPp]\.?\s?[Mm]\.?": " %I:%M:%S %p",
 }
 _DATE = r"(?:19|20)\d\d(?:0[1-9]|1[0-2])(?:0[1-9]|[12]\d|3[01])"
 _HOUR = r"(?:[01]\d|2[0-3])[0-5]\d"
@@ -49,7 +51,7 @@ def found_format(texts):
     >>> found_format(["02.03.2026 08:00:17", "02.03.2026 08:00:05"])
     '%d.%m.%Y %H:%M:%S'
     """
-    texts = [text.strip() for text in texts if text.strip()]
+    texts = [text.strip().replace("\u202f", " ").replace("\u00a0", " ") for text in texts if text.strip()]
     if not texts:
         raise ValueError("there is no time from which to detect the format")
     some = texts[:1000]
@@ -57,19 +59,24 @@ def found_format(texts):
         if _matches(pattern, some):
             return form
     if _matches(r"\d+(?:[.,]\d+)?", some):
-        raise ValueError(f"{texts[0]!r} is a number: the format is one of {', '.join(NUMBERS)}, or a strptime format such as %H.%M")
+        raise ValueError(f"{quoted(texts[0])} is a number: the format is one of {', '.join(NUMBERS)}, or a strptime format such as %H.%M")
     for form, pattern in _PLAIN.items():
         if _matches(pattern, some):
+            late = next((text for text in texts if re.match(r"(?:2[5-9]|3\d):[0-5]\d", text)), None) if form == "clock" else None
+            if late:
+                raise ValueError(f"{quoted(late)} has an hour above 24: the format is gtfs, if hours go on after midnight, or clock")
             return form
     for pattern, (mark, rest, clock) in _DATES.items():
         if _matches(pattern, some):
             return _found_date(texts, mark, rest, clock)
+    if 10 * sum(map(months.is_one, some)) >= 9 * len(some):
+        return "months"
     for pattern in (*_PACKED, *_PLAIN.values(), *_DATES):
         are = [bool(re.fullmatch(pattern, item, re.ASCII)) for item in some]
         if 2 * sum(are) > len(are):
             odd, like = some[are.index(False)], some[are.index(True)]
-            raise ValueError(f"{odd!r} isn't written like {like!r}; if you give a format, such rows are left out")
-    raise ValueError(f"the format of {texts[0]!r} can't be detected")
+            raise ValueError(f"{quoted(odd)} isn't written like {quoted(like)}; if you give a format, such rows are left out")
+    raise ValueError(f"the format of {quoted(texts[0])} can't be detected")
 
 
 def _found_date(texts, mark, rest, clock):
@@ -78,14 +85,27 @@ def _found_date(texts, mark, rest, clock):
     if _matches(rf"\d{{4}}{re.escape(mark)}\d{{1,2}}{re.escape(mark)}\d{{1,2}}{rest}", texts):
         return f"%Y{mark}%m{mark}%d{clock}"
     if not (found := _matches(two + four + rest, texts)):
-        raise ValueError(f"{texts[0]!r} has a two-digit year: the format may be {f'%d{mark}%m{mark}%y{clock}'!r}")
-    day, month = f"%d{mark}%m{mark}%Y{clock}", f"%m{mark}%d{mark}%Y{clock}"
+        short = _matches(rf"{two}(\d\d){rest}", texts)
+        like = " or ".join(map(repr, _orders(short, mark, "%y", clock) if short else [f"%d{mark}%m{mark}%y{clock}"]))
+        raise ValueError(f"{quoted(texts[0])} has a two-digit year: the format may be {like}")
+    like = _orders(found, mark, "%Y", clock)
+    if len(like) == 1:
+        return like[0]
+    raise ValueError(f"{quoted(texts[0])} could begin with the day or with the month: the format is {' or '.join(map(repr, like))}")
+
+
+def _orders(found, mark, year, clock):
+    """Returns the formats (list of str) that dates may have whose first two numbers were found: with the day first, the month first, or, if both are
+    above 12 and the year has two digits, the year."""
+    day, month = f"%d{mark}%m{mark}{year}{clock}", f"%m{mark}%d{mark}{year}{clock}"
     first, second = max(int(item[1]) for item in found), max(int(item[2]) for item in found)
     if second <= 12 and (first > 12 or mark == "."):
-        return day
+        return [day]
     if first <= 12 < second:
-        return month
-    raise ValueError(f"{texts[0]!r} could begin with the day or with the month: the format is {day!r} or {month!r}")
+        return [month]
+    if year == "%y" and min(first, second) > 12:
+        return [f"%y{mark}%m{mark}%d{clock}"]
+    return [day, month]
 
 
 def judged_format(form):
@@ -107,7 +127,7 @@ def judged_format(form):
 
 def is_of_day(form):
     """Returns whether a format contains only a time of day."""
-    return form in ("clock", "hmm", "hmmss") or "%" in form and not re.search("%[YyjdcxGDF]", form)
+    return form in ("clock", "gtfs", "hmm", "hmmss") or "%" in form and not re.search("%[YyjdcxGDF]", form)
 
 
 def looks_like_clocks(values):

@@ -1,11 +1,10 @@
 """Reports waits by hour of day, by day, by weekday or hour by hour."""
 
-import csv
 from bisect import bisect_right
 from collections import defaultdict
 
-from . import calendar, reports
-from .files import text_of, written
+from . import calendar, reports, sheets
+from .files import text_of
 from .service import PERCENTS, figure_words, figures, heads
 from .times import DAY, SECOND, WEEKDAYS
 
@@ -22,6 +21,7 @@ def words(parser):
     parser.add_argument("--model", metavar="FILE", help="with a report: a model whose comments give the tick and time 0")
     figure_words(parser)
     calendar.words(parser)
+    sheets.words(parser)
 
 
 def hours(visits, days, by="hour", within=(20,), percents=PERCENTS):
@@ -34,7 +34,7 @@ def hours(visits, days, by="hour", within=(20,), percents=PERCENTS):
     >>> from mpsim.planner.hours import hours
     >>> trace = [("door", 0, 100), ("door", 50, 1), ("door", 3600, 1)]
     >>> visits = mpsim.run("model 1\\nsource door\\nserver desk d from door\\n", trace, jobs=True).visits
-    >>> for row in hours(visits["desk"], Calendar(10**6), percents=[90]):
+    >>> for row in hours(visits["desk"], Calendar(10**9), percents=[90]):
     ...     print(*row)
     hour came departed lost held mean_wait p90 max within_20_of_all within_20_of_departed
     00:00 2 2 0 0 25.0 50 50 0.5 0.5
@@ -68,5 +68,4 @@ def main(args):
     path = args.report if args.trace is not None else args.model
     days = calendar.of(args, text_of(path) if path else None)
     rows = list(hours(found[0], days, args.by, args.within or (20,), args.percentile or PERCENTS))
-    with written() as file:
-        csv.writer(file, lineterminator="\n").writerows(rows)
+    sheets.write(rows, args.format, args.csv_style)

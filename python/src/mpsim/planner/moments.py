@@ -4,10 +4,12 @@ import re
 from datetime import datetime
 from operator import add, methodcaller
 
+from . import months
 from .formats import is_of_day
-from .times import DAY, HOUR, SECOND, SPREADSHEET, Asks, Cache, Unread, at_utc, clock, excel, hmm, hmmss, iso_day, iso_rest, micros, rfc_day, rfc_rest
+from .times import DAY, HOUR, SECOND, SPREADSHEET, Asks, Cache, Unread, at_utc, clock, excel, gtfs, hmm, hmmss
+from .times import iso_day, iso_rest, nanos, rfc_day, rfc_rest, there
 
-_MIDNIGHT = micros(datetime(1900, 1, 1))
+_MIDNIGHT = nanos(datetime(1900, 1, 1))
 # Formats that clock() reads like strptime, in a twelfth of the time.
 _PLAIN_CLOCKS = "%H:%M", "%H:%M:%S", "%H:%M:%S.%f", "%I:%M %p", "%I:%M:%S %p"
 
@@ -34,19 +36,19 @@ def _read_as(form):
 
 def _day_as(form):
     read = _read_as(form)
-    return lambda text: micros(read(text))
+    return lambda text: nanos(read(text))
 
 
 def _half_day(text):
-    """Returns the microseconds since midnight of a time with AM or PM, such as `1:30 pm`. Raises Unread."""
-    if not re.search("[AaPp]\\.?[Mm]", text):
+    """Returns the nanoseconds since midnight of a time with AM or PM, such as `1:30 pm`. Raises Unread."""
+    if not re.search("[AaPp]\\.?\\s?[Mm]", text):
         raise Unread("a time without AM or PM")
     return clock(text)
 
 
 def _clock_as(form):
     as_given = _read_as(form)
-    read = (_half_day if "%p" in form else clock) if form in _PLAIN_CLOCKS else lambda text: micros(as_given(text)) - _MIDNIGHT
+    read = (_half_day if "%p" in form else clock) if form in _PLAIN_CLOCKS else lambda text: nanos(as_given(text)) - _MIDNIGHT
     return lambda text: (read(text), None)
 
 
@@ -73,6 +75,8 @@ def _parts_of(form):
         return _iso_parts, iso_day, iso_rest
     if form == "rfc":
         return _rfc_parts, rfc_day, rfc_rest
+    if form == "months":
+        return months.parts, months.day, lambda rest: (clock(rest) if rest else 0, None)
     if form == "%Y%m%d%H%M%S":
         return _packed_parts, _day_as("%Y%m%d"), _clock_as("%H%M%S")
     day, _, rest = form.partition(" ")
@@ -84,15 +88,15 @@ def _parts_of(form):
 class Moments:
     """A column of times in one format, in a Zone.
 
-    `of(text, than)` returns the moment of a text (int, microseconds since 1970; wall-clock time without a zone or an offset); `than` is a moment
-    before which it can't be, or None. If the format has only a time of day (`is_of_day`), it is microseconds since midnight; for the format ticks it
-    is a number of ticks. It raises Unread for an invalid text, and Asks. `has_offsets` and `has_none` record what was met; for the format clock,
-    `halves` has True for times with AM or PM and False for times that may lack it."""
+    `of(text, than, until)` returns the moment of a text (int, nanoseconds since 1970; wall-clock time without a zone or an offset), which isn't
+    before `than` nor after `until`, unless they are None. If the format has only a time of day (`is_of_day`), it is nanoseconds since midnight; for
+    the format ticks it is a number of ticks. It raises Unread for an invalid text, and Asks. `has_offsets` and `has_none` record what was met;
+    for the format clock, `halves` has True for times with AM or PM and False for times that may lack it."""
 
     def __init__(self, form, zone):
         self.form, self.zone, self.is_of_day = form, zone, is_of_day(form)
         self.has_offsets, self.has_none, self.halves = form in ("unix", "unixms"), False, set()
-        self._unit = {"ticks": 1, "unix": SECOND, "unixms": 1000}.get(form)
+        self._unit = {"ticks": 1, "unix": SECOND, "unixms": SECOND // 1000}.get(form)
         self._seen, self._parts = {}, _parts_of(form)
         if self._parts:
             self._walls, self._rests = Cache(self._parts[1]), Cache(self._met)
@@ -113,10 +117,10 @@ class Moments:
     def make_of_day(self):
         """Reads spreadsheet numbers as fractions of a day, for times whose day is in another column."""
         self.is_of_day = True
-        named = {"clock": self._clock, "hmm": hmm, "hmmss": hmmss, "excel": self._part_of_day}
+        named = {"clock": self._clock, "gtfs": gtfs, "hmm": hmm, "hmmss": hmmss, "excel": self._part_of_day}
         read = (lambda text: (named[self.form](text), None)) if self.form in named else _clock_as(self.form)
-        cache = Cache(lambda text: read(_there(text))[0])
-        self.of = lambda text, than=None: cache[text]
+        cache = Cache(lambda text: read(there(text))[0])
+        self.of = lambda text, than=None, until=None: cache[text]
 
     def is_one(self, text):
         """Returns whether a text has the format."""
@@ -138,18 +142,20 @@ class Moments:
             raise Unread("not a fraction of a day")
         return value
 
-    def _of_number(self, text, than=None):
-        text = _there(text)
+    def _of_number(self, text, than=None, until=None):
+        text = there(text)
         if text.isdigit() and text.isascii():
             return int(text) * self._unit
+        if "E+" in text.upper():
+            raise Unread("a rounded number: export the column with all its digits")
         whole, _, rest = text.partition(".")
         if self.form == "ticks" or not (whole.isdigit() and rest.isdigit() and text.isascii()):
             raise Unread("not a whole number" if self.form == "ticks" else "not a number")
         return int(whole) * self._unit + int(rest) * self._unit // 10 ** len(rest)
 
-    def _of_spreadsheet(self, text, than=None):
+    def _of_spreadsheet(self, text, than=None, until=None):
         self.has_none = True
-        return self.zone.utc(excel(_there(text)) + SPREADSHEET, self._seen, than)
+        return self.zone.utc(excel(there(text)) + SPREADSHEET, self._seen, than, until)
 
     def _met(self, rest):
         """Reads what follows the day, and records whether it has an offset."""
@@ -158,14 +164,14 @@ class Moments:
         self.has_offsets |= offset is not None
         return since, offset
 
-    def _of_parts(self, text, than=None):
-        text = _there(text)
+    def _of_parts(self, text, than=None, until=None):
+        text = there(text)
         try:
             day, rest = self._parts[0](text)
         except ValueError:
             raise Unread(f"not of the format {self.form}") from None
         since, offset = self._rests[rest]
-        return self.zone.utc(self._walls[day] + since, self._seen, than) if offset is None else self._walls[day] + since - offset
+        return self.zone.utc(self._walls[day] + since, self._seen, than, until) if offset is None else self._walls[day] + since - offset
 
     def many(self, texts):
         """Returns the moments (list of int) of texts that need no individual treatment; raises Unread if one may. Each text takes two cache look-ups
@@ -191,17 +197,17 @@ class Moments:
             raise Unread("one by one")
         return since - (offset or 0)
 
-    def _of_whole(self, text, than=None):
-        found = _read_as(self.form)(_there(text))
+    def _of_whole(self, text, than=None, until=None):
+        found = _read_as(self.form)(there(text))
         if found.tzinfo is not None:
             self.has_offsets = True
             return at_utc(found)
         self.has_none = True
-        return self.zone.utc(micros(found), self._seen, than)
+        return self.zone.utc(nanos(found), self._seen, than, until)
 
     def _date(self, text):
         """Returns the wall-clock midnight of a date."""
-        text = _there(text)
+        text = there(text)
         if self.form == "excel":
             value = excel(text) + SPREADSHEET
         elif self.is_of_day or self._unit:
@@ -210,15 +216,7 @@ class Moments:
             day, *rest = self._parts[0](text)
             value = self._parts[1](day) + sum(self._parts[2](item)[0] for item in rest)
         else:
-            value = micros(_read_as(self.form)(text).replace(tzinfo=None))
+            value = nanos(_read_as(self.form)(text).replace(tzinfo=None))
         if value % DAY:
             raise Unread("a date with a time")
         return value
-
-
-def _there(text):
-    """Strips a text. Raises Unread if nothing is left."""
-    text = text.strip()
-    if not text:
-        raise Unread("empty")
-    return text

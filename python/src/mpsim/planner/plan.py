@@ -1,15 +1,21 @@
 """Decides how to read the columns of an export: what is given, what is detected, and what must be asked for."""
 
+import contextlib
 from difflib import get_close_matches
+from itertools import islice
 
 from ..model import columns, sources
 from .codes import codes_in
+from .conditions import parsed
+from .expressions import Expression, terms
+from .files import listed
 from .formats import found_format, judged_format
 from .lengths import GREATEST_VALUE, Lengths, found_decimal
 from .moments import Moments
 from .names import TAKEN, is_name, name_for
-from .records import Code, Constant, Dates, Demand, End, Numbers, Records, Sum, Times
-from .times import given, length
+from .records import Dates, Numbers, Records, Times
+from .times import clock, given, iso, length
+from .values import Code, Constant, Demand, End, Sum
 from .zones import Zone
 
 # The most columns of a trace.
@@ -19,17 +25,24 @@ LISTED = 20
 
 
 class Plan:
-    """How to read the columns of an Export, in a Zone, with a tick (int, microseconds). `notes` and `warned` (lists of str) are notes on what was
-    detected. The texts are options of `mpplan prepare`; `model` is a model's text or None. Raises ValueError for an invalid option, and if another
+    """How to read the columns of an Export, in a Zone, with a tick (int, nanoseconds). `notes` and `warned` (lists of str) are notes on what was
+    detected. The texts are options of `planner prepare`; `model` is a model's text or None. Raises ValueError for an invalid option, and if another
     is needed."""
 
     def __init__(self, export, place, per, format, decimal, model):
         self.export, self.place, self.per, self.decimal, self.model = export, place, per, decimal, model
         self.format = judged_format(format) if format else None
-        self.notes, self.warned, self.columns = list(export.notes), [], []
+        self.notes, self.warned, self.columns, self.conditions = list(export.notes), [], [], []
+        self._sample = export.sample
+
+    def where(self, words):
+        """Sets the conditions on rows. Formats are then detected from the rows that meet them."""
+        self.conditions = [parsed(word, self.export, self._mark) for word in words]
+        if self.conditions:
+            self._sample = [row for row in self._sample if all(condition.is_met(row) for condition in self.conditions)] or self._sample
 
     def _texts(self, column):
-        return [row[column] for row in self.export.sample]
+        return [row[column] for row in self._sample]
 
     def _moments(self, column, form, option="--format"):
         name = self.export.header[column]
@@ -41,9 +54,9 @@ class Plan:
             self.notes.append(f"column {name!r} is read as {form}")
         return Moments(form, self.place)
 
-    def _more_times(self, name):
-        """Returns another column of times. It uses the given format if its texts have it."""
-        column = self.export.column(name)
+    def _more_times(self, column):
+        """Returns another column of times, given its index. It uses the given format if its texts have it."""
+        name = self.export.header[column]
         texts = [text for text in self._texts(column) if text.strip()][:100]
         form = self.format if self.format and 10 * sum(map(Moments(self.format, Zone()).is_one, texts)) >= 9 * len(texts) else None
         how = self._moments(column, form)
@@ -82,12 +95,13 @@ class Plan:
         if date_format and not date:
             raise ValueError("--date-format requires --date")
         self.time = Times(column, how, self.place, dates)
-        self.answered = list(map(self._more_times, answered))
+        self.answered = [self._more_times(self.export.column(name)) for name in answered]
 
     def readers(self):
         """Returns all columns of times."""
-        ends = [column.times for column in self.columns if isinstance(column, End)]
-        return [self.time, *self.answered, *ends]
+        parts = [part for column in self.columns for part in getattr(column, "parts", [column])]
+        ends = [part.times for part in parts if isinstance(part, End)]
+        return [self.time, *self.answered, *ends, *(times for part in parts if isinstance(part, Expression) for _, times in part.times)]
 
     def _named(self, name, column=None):
         """Returns the name of a column of the trace, by default made from its name in the export."""
@@ -113,23 +127,23 @@ class Plan:
         empty = None if empty is None else self._ticks("--empty", empty)
         for word in demand:
             self._demand(word, empty)
-        for item in self.columns:
-            if isinstance(item, Sum):
-                self.notes.append(f"{item.name} is the sum of {' and '.join(repr(self.export.header[part.column]) for part in item.parts)}")
         if self.answered and not end:
             raise ValueError("--answered requires --end")
         if len(self.answered) not in (0, 1, len(end)):
             raise ValueError(f"--answered is given {len(self.answered)} times for {len(end)} of --end: give it once, or once per --end")
         for number, word in enumerate(end, 1):
             column, name, _ = self.export.parse(word)
-            times = self._more_times(self.export.header[column])
+            times = self._more_times(column)
             begin = min(number, len(self.answered))
-            self.columns.append(End(self._named(name, column), times, 1 if self.is_ticks else self.per, empty, begin))
+            self._add(End(name or self._named(name, column), times, 1 if self.is_ticks else self.per, empty, begin))
         for word in constant:
             name, equals, value = word.partition("=")
             if not equals:
                 raise ValueError(f"--constant {word}: expected NAME=LENGTH, e.g. wrap=90s")
             self.columns.append(Constant(self._named(name), self._ticks(f"--constant {name}", value)))
+        for item in self.columns:
+            if isinstance(item, Sum):
+                self.notes.append(f"{item.name} is the sum of {' and '.join(repr(self.export.header[part.column]) for part in item.parts)}")
         known = codes_in(self.model or "")
         for word in code:
             column, name, _ = self.export.parse(word)
@@ -143,16 +157,47 @@ class Plan:
 
     def _demand(self, word, empty):
         """Adds a column of service times, or adds it to a column of the same name."""
-        column, name, unit = self.export.parse(word, has_unit=True)
+        try:
+            column, name, unit = self.export.parse(word, has_unit=True)
+        except ValueError:
+            found = terms(word, self.export)
+            if found is None:
+                raise
+            return self._add(self._expression(word, *found, empty))
         how = Lengths(unit or "s", self._mark(column), self.per)
         at = next((at for at, it in enumerate(self.columns) if it.name == name), None)
-        if at is None:
-            self.columns.append(Demand(self._named(name, column), column, how, empty))
-            return
-        parts = [*getattr(self.columns[at], "parts", [self.columns[at]]), Demand(name, column, how, empty)]
-        if column in [part.column for part in parts[:-1]]:
+        known = [part.column for part in getattr(self.columns[at], "parts", [self.columns[at]])] if at is not None else []
+        if column in known:
             raise ValueError(f"--demand {word}: the column {self.export.header[column]!r} is already part of {name}")
-        self.columns[at] = Sum(parts)
+        return self._add(Demand(name or self._named(name, column), column, how, empty))
+
+    def _add(self, value):
+        """Adds a column of the trace, or adds it to a column of service times of the same name."""
+        at = next((at for at, it in enumerate(self.columns) if it.name == value.name), None)
+        if at is None or isinstance(self.columns[at], (Constant, Code)):
+            self._named(value.name)
+            self.columns.append(value)
+        else:
+            self.columns[at] = Sum([*getattr(self.columns[at], "parts", [self.columns[at]]), value])
+
+    def _expression(self, word, name, found, empty):
+        """Returns the Expression with these terms. Columns that look like those of --time are times."""
+        times, lengths = [], []
+        for sign, column, unit in found:
+            if unit is None and self._is_time(column):
+                times.append((sign, self._more_times(column)))
+            else:
+                lengths.append((sign, column, Lengths(unit or "s", self._mark(column), self.per)))
+        if sum(sign for sign, _ in times) != 0:
+            raise ValueError(f"--demand {word}: as many times must be subtracted as are added; a service time may need its unit, e.g. Wrap:s")
+        if self.is_ticks and times:
+            raise ValueError(f"--demand {word}: times in ticks can't be subtracted")
+        return Expression(name, times, lengths, self.per, empty)
+
+    def _is_time(self, column):
+        how = Moments(self.time.how.form, Zone())
+        texts = [text for text in self._texts(column) if text.strip()][:100]
+        return 2 * sum(map(how.is_one, texts)) > len(texts)
 
     def _mark(self, column):
         try:
@@ -171,7 +216,7 @@ class Plan:
         if source in header:
             column, only = self.export.column(source), None
         elif not is_name(only) or source and only.casefold() in map(str.casefold, header):
-            raise ValueError(f"no column {source!r} for --source; it has {', '.join(map(repr, header))}")
+            raise ValueError(f"no column {source!r} for --source; it has {listed(header)}")
         elif known is not None and only not in known:
             raise ValueError(f"the model has no source {only} (--source)")
         elif source:
@@ -181,6 +226,42 @@ class Plan:
         if renamed and column is None:
             raise ValueError("--rename requires a column for --source")
         self.records = Records(len(header), self.time, self.answered, self.columns, column, only, renamed, known)
+        self.records.conditions, self.records.ended = self.conditions, self._in_order_of()
+        # The rows from which formats were detected aren't needed any more.
+        self._sample = self.export.sample = []
+
+    def _in_order_of(self):
+        """Returns the ends of services (Times) if the rows are in order of those and not of the arrivals, which matters for --twice order; else
+        None."""
+        ends = [column.times for column in self.columns if isinstance(column, End) and not column.times.how.is_of_day]
+        if self.place.twice != "order" or self.time.dates or len(ends) != 1:
+            return None
+        found = [self._descents(times) for times in (self.time, ends[0])]
+        if found[1] < found[0]:
+            self.notes.append(f"rows are in order of {self.export.header[ends[0].column]!r}")
+            return ends[0]
+        return None
+
+    def _descents(self, times):
+        """Returns how often times of the sample go back, by a clock that never changes."""
+        how, found = Moments(times.how.form, Zone()), []
+        for text in self._texts(times.column):
+            with contextlib.suppress(ValueError, OverflowError):
+                found.append(how.of(text))
+        return sum(later < earlier for earlier, later in zip(found, islice(found, 1, None)))
+
+    def between(self, begins, until):
+        """Sets the times between which jobs arrive."""
+        self.records.begins, self.records.ends = (text and self._bound(option, text) for option, text in (("--from", begins), ("--until", until)))
+
+    def _bound(self, option, text):
+        """Returns the moment of --from or --until."""
+        if self.is_ticks:
+            raise ValueError(f"{option} {text}: it can't be used with times in ticks")
+        if not self.has_day:
+            return given(option, clock, text)
+        wall, offset = given(option, iso, text)
+        return wall - offset if offset is not None else self.place.first(wall)
 
     def judge_renames(self):
         """Checks the names given with --rename once all rows are read; names of sources whose rows were all left out are valid too. Returns a note

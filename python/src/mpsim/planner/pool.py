@@ -4,7 +4,6 @@ No node of a model is such a queue: which agent is free first is a minimum over 
 long the call waits, and writes both into the trace. The model gets a pool in place of a server, and the proved program runs it. Its trunk group would
 lose a call if more calls were served at once than there are agents. That no call waits while an agent is free is tested; none of this is proved."""
 
-import csv
 import os
 import re
 from array import array
@@ -16,7 +15,8 @@ from ..model import nodes_of
 from ..node_visits import NodeVisits
 from ..report import Report
 from ..runs import run
-from .files import all_written, counted, judge_outputs, written
+from . import sheets
+from .files import all_written, counted, judge_outputs
 from .lengths import GREATEST_VALUE
 from .pooled import INPUTS, agent_name, end_names, pooled, queue_name
 from .progress import Progress
@@ -41,6 +41,7 @@ def words(parser):
     parser.add_argument("--out-model", metavar="FILE", help="write the model with the pool")
     parser.add_argument("--report", metavar="FILE", help="read this report of a pool, written with --jobs, instead of running a model and a trace")
     figure_words(parser)
+    sheets.words(parser)
 
 
 def pool(arrivals, demands, agents):
@@ -295,8 +296,7 @@ def main(args):
         rows = _of_report(args, within, percents)
     else:
         rows = _of_agents(args, within, percents)
-    with written() as file:
-        csv.writer(file, lineterminator="\n").writerows(rows)
+    sheets.write(rows, args.format, args.csv_style)
 
 
 def _of_report(args, within, percents):

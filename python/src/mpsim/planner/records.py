@@ -2,12 +2,13 @@
 
 import re
 
-from .lengths import GREATEST_VALUE
 from .names import name_for
 from .times import DAY, Asks, Cache, Unread, day_of
 
-# Moments are stored as 64-bit integers.
-MOST = 1 << 62
+# Moments are stored as 64-bit integers, which reach from 1684 to 2255.
+MOST = 9 * 10**18
+# The most sources of a model.
+SOURCES = 63
 
 
 class Dates:
@@ -17,7 +18,7 @@ class Dates:
         self.column, self.how = column, how
 
     def midnight(self, row):
-        """Returns the wall-clock midnight of a row's day (int, microseconds since 1970). Raises Unread or Asks, with the `column`."""
+        """Returns the wall-clock midnight of a row's day (int, nanoseconds since 1970). Raises Unread or Asks, with the `column`."""
         try:
             return self.how.dates[row[self.column]]
         except ValueError as error:
@@ -70,11 +71,11 @@ class Times:
         self.column, self.how, self.zone, self.dates = column, how, zone, dates
         self._seen = {}
 
-    def first(self, row):
-        """Returns the moment of a row. Without a date it is on day 0."""
+    def first(self, row, until=None):
+        """Returns the moment of a row; if its hour occurs twice, the last that isn't after `until`, if given. Without a date it is on day 0."""
         if self.dates is None:
-            return self.how.of(row[self.column])
-        return self.zone.utc(self.dates.midnight(row) + self.how.of(row[self.column]), self._seen)
+            return self.how.of(row[self.column], None, until)
+        return self.zone.utc(self.dates.midnight(row) + self.how.of(row[self.column]), self._seen, None, until)
 
     def later(self, row, than):
         """Returns the moment of a row at or after another one. A time of day is its next occurrence."""
@@ -93,116 +94,8 @@ class Times:
         return moment if moment >= than else self.zone.utc(midnight + DAY + value, self._seen, than)
 
 
-class Demand:
-    """A column of service times (Lengths); `empty` is the number of ticks for an empty field, or None to leave the row out."""
-
-    def __init__(self, name, column, how, empty=None):
-        self.name, self.column, self.how, self.empty = name, column, how, empty
-        self.code = None
-
-    def of(self, row, begun):
-        text = row[self.column]
-        return self.empty if self.empty is not None and not text.strip() else self.how.ticks[text]
-
-    def many(self, columns):
-        return list(map(self.how.ticks.__getitem__, columns[self.column]))
-
-    @property
-    def rounded(self):
-        """The number of distinct texts that aren't whole ticks."""
-        return self.how.rounded
-
-
-class Sum:
-    """Columns of service times (`parts`, a list of Demand) with one name, which are rounded to ticks and added up."""
-
-    def __init__(self, parts):
-        self.parts, self.name, self.column = parts, parts[0].name, parts[0].column
-        self.code = None
-
-    def of(self, row, begun):
-        total = 0
-        for part in self.parts:
-            try:
-                total += part.of(row, begun)
-            except (Unread, Asks) as error:
-                error.column = part.column
-                raise
-        if total > GREATEST_VALUE:
-            raise Unread("above 2^36 ticks")
-        return total
-
-    def many(self, columns):
-        totals = list(map(sum, zip(*(part.many(columns) for part in self.parts))))
-        if max(totals) > GREATEST_VALUE:
-            raise Unread("one by one")
-        return totals
-
-    @property
-    def rounded(self):
-        return sum(part.rounded for part in self.parts)
-
-
-class End:
-    """The time from the beginning of a service to its end in a column (Times), rounded to ticks. `begin` (int) selects the beginning: 0 is the
-    arrival, 1 and up those of `Records.answered`."""
-
-    def __init__(self, name, times, tick, empty=None, begin=0):
-        self.name, self.column, self.times, self.tick, self.empty, self.begin = name, times.column, times, tick, empty, begin
-        self.code = None
-
-    def of(self, row, begun):
-        if self.empty is not None and not row[self.column].strip():
-            return self.empty
-        begin = begun[self.begin]
-        end = self.times.later(row, begin)
-        if end < begin:
-            raise Unread("before the service begins")
-        ticks = (2 * (end - begin) + self.tick) // (2 * self.tick)
-        if ticks > GREATEST_VALUE:
-            raise Unread("above 2^36 ticks")
-        return ticks
-
-    def many(self, columns):
-        raise Unread("one by one")
-
-
-class Constant:
-    """The same ticks for all records."""
-
-    def __init__(self, name, ticks):
-        self.name, self.column, self.ticks = name, None, ticks
-        self.code = None
-
-    def of(self, row, begun):
-        return self.ticks
-
-    def many(self, columns):
-        return [self.ticks] * len(columns[0])
-
-
-class Code:
-    """A column of words as numbers. Words in `known` (dict or None) have theirs; others are numbered in order of their first record, from 0 or from
-    the greatest known number plus 1."""
-
-    def __init__(self, name, column, known=None):
-        self.name, self.column, self.known, self.codes = name, column, known, dict(known or {})
-        self._next = max(self.codes.values(), default=-1) + 1
-
-    def of(self, row, begun):
-        # Words of rows that are left out get no number: `code` is called only for rows that stay.
-        return 0
-
-    def many(self, columns):
-        return []
-
-    def code(self, row):
-        word = row[self.column].strip()
-        number = self.codes.get(word)
-        if number is None:
-            number = self.codes[word] = self._next
-            self._next += 1
-        return number
+class TooManySources(ValueError):
+    """An export has more sources than a model may have."""
 
 
 class Left(ValueError):
@@ -213,17 +106,24 @@ class Left(ValueError):
         self.column, self.why = column, why
 
 
+class Unwanted(Exception):
+    """A row that a condition excludes."""
+
+
 class Records:
     """Makes records from rows. `width` is the number of fields in the header, `time` the arrival (Times), `answered` the beginnings of services with
     an `End` (list of Times), `values` the columns of the trace. `source` is a column, or `only` the name that all records get; `renamed` has given
-    names, and `known` the allowed ones (None for any)."""
+    names, and `known` the allowed ones (None for any). Rows that don't meet all `conditions` (list of Condition), and those that arrive before
+    `begins` or not before `ends` (moments or None), are excluded. `ended` (Times or None) are ends of services if the rows are in their order, which
+    says which hour is meant if it occurs twice."""
 
     def __init__(self, width, time, answered, values, source=None, only=None, renamed=None, known=None):
         self.width, self.time, self.answered, self.values = width, time, answered, values
         self.source, self.only, self.known = source, only, known
-        self.renamed, self.names = renamed or {}, {}
-        self._taken = set(self.renamed.values())
-        self._named = Cache(self._name_of)
+        self.renamed, self.names, self.conditions, self.begins, self.ends = renamed or {}, {}, [], None, None
+        self.ended = None
+        self._taken, self._used = set(self.renamed.values()), set()
+        self._named, self._numbers = Cache(self._name_of), {}
         self._codes = [at for at, it in enumerate(values) if it.code]
 
     def _name_of(self, text):
@@ -232,21 +132,27 @@ class Records:
             raise Unread("empty")
         if text in self.names:
             return self.names[text]
-        made = self.renamed.get(text) or name_for(text, self._taken)
+        made = self.renamed.get(text) or name_for(text, self._taken, self._numbers)
+        if self.known is None and made not in self._used and len(self._used) >= SOURCES:
+            raise TooManySources(f"more than {SOURCES} sources, the limit of a model: give one name for all, or --rename several to one")
         if self.known is not None and made not in self.known:
             raise Unread(f"the model has no source {made}")
         self.names[text] = made
         self._taken.add(made)
+        self._used.add(made)
         return made
 
     def many(self, rows):
         """Returns records as columns (sources, moments, and each of the values) for rows that need no individual treatment. Raises ValueError if one
         may; nothing visible has changed then."""
-        if self.time.dates or self.answered or set(map(len, rows)) != {self.width}:
+        if self.time.dates or self.answered or self.ended or set(map(len, rows)) != {self.width}:
+            raise Unread("one by one")
+        if not all(condition.holds(row) for condition in self.conditions for row in rows):
             raise Unread("one by one")
         columns = list(zip(*rows))
         stamps = self.time.how.many(columns[self.time.column])
-        if not -MOST < min(stamps) <= max(stamps) < MOST:
+        first, last = min(stamps), max(stamps)
+        if not -MOST < first <= last < MOST or not self._is_within(first) or not self._is_within(last):
             raise Unread("one by one")
         values = [value.many(columns) for value in self.values]
         named = [self.only] * len(rows) if self.source is None else list(map(self._named.__getitem__, columns[self.source]))
@@ -254,15 +160,30 @@ class Records:
             values[at] = list(map(self.values[at].code, rows))
         return [named, stamps, *values]
 
+    def _is_within(self, stamp):
+        return (self.begins is None or stamp >= self.begins) and (self.ends is None or stamp < self.ends)
+
     def of(self, row):
-        """Returns a record: a list of the source, the moment, and the values. Raises Left if the row can't be read, and Asks, with the `column`."""
+        """Returns a record: a list of the source, the moment, and the values. Raises Left if the row can't be read, Unwanted if it is excluded, and
+        Asks, with the `column`."""
         if len(row) != self.width and (len(row) < self.width or any(row[self.width :])):
             raise Left(None, f"the number of fields isn't the header's {self.width}")
         at = self.time.column
         try:
-            stamp = self.time.first(row)
+            for condition in self.conditions:
+                at = condition.column
+                if not condition.holds(row):
+                    raise Unwanted
+            until = None
+            if self.ended is not None and row[self.ended.column].strip():
+                at = self.ended.column
+                until = self.ended.first(row)
+            at = self.time.column
+            stamp = self.time.first(row, until)
             if not -MOST < stamp < MOST:
                 raise Unread("out of the range of times")
+            if not self._is_within(stamp):
+                raise Unwanted
             begun = [stamp]
             for item in self.answered:
                 at = item.column

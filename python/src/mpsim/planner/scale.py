@@ -5,7 +5,8 @@ from collections import Counter
 from fractions import Fraction
 
 from .files import counted, judge_outputs, say, written
-from .prepare import GREATEST_TIME, RECORDS
+from .arrivals import GREATEST_TIME
+from .rows import RECORDS
 from .traces import Trace, pool_warning
 
 EXAMPLE = "mpplan scale trace.csv --by 5/4 --shift 604800 --out more.csv"

@@ -13,6 +13,8 @@ from .table import heads
 
 # The columns of the table, except those of the values.
 COLUMNS = "trace", "model", "status", "span", "refusal", *heads()
+# The most values of a name.
+VALUES = 1 << 20
 
 
 def values_of(word):
@@ -25,12 +27,26 @@ def values_of(word):
     if not found:
         raise ValueError(f"--set {word}: expected NAME=FROM..TO, NAME=FROM..TO..STEP or NAME=VALUE,VALUE")
     name, begin, end, step, listed = found.groups()
-    values = list(range(int(begin), int(end) + 1, int(step or 1))) if begin else listed.split(",")
+    values = range(int(begin), int(end) + 1, int(step or 1)) if begin else listed.split(",")
+    if begin and values and (values[-1] - values[0]) // values.step >= VALUES:
+        raise ValueError(f"--set {word}: more than {VALUES:,} values")
+    values = list(values)
     if not values:
         raise ValueError(f"--set {word}: the range {begin}..{end} is empty")
     if name in COLUMNS:
         raise ValueError(f"--set {word}: {name} is already a column of the table")
     return name, values
+
+
+def _filled(text, values):
+    """Returns a model's text with the names in braces replaced; in comments only those that have a value."""
+    lines = text.split("\n")
+    for at, line in enumerate(lines):
+        if line.lstrip(" \t").startswith("#"):
+            lines[at] = re.sub(r"\{(\w+)\}", lambda found: str(values.get(found[1], found[0])), line)
+        else:
+            lines[at] = line.format(**values)
+    return "\n".join(lines)
 
 
 def sets_of(words):
@@ -123,7 +139,7 @@ class Plan:
             values[name] = listed[place]
         values = {name: values[name] for name in self.sets}
         try:
-            return label, values, text.format(**values) if self.sets else text
+            return label, values, _filled(text, values) if self.sets else text
         except (LookupError, ValueError, AttributeError) as error:
             raise ValueError(f"model {label}: a name in braces has no value from --set ({type(error).__name__}: {error})") from None
 

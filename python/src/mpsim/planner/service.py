@@ -1,12 +1,10 @@
 """Reports the service level: how many were served, how soon, and how long the others waited."""
 
 import argparse
-import csv
 from bisect import bisect_right
 
 from ..node_visits import HELD, LOST, percentile_of
-from . import reports
-from .files import written
+from . import reports, sheets
 
 EXAMPLE = "mpplan service jobs.txt --node desk --within 20 --percentile 95"
 PERCENTS = 50, 90, 95, 99
@@ -16,6 +14,7 @@ def words(parser):
     reports.words(parser)
     reports.places(parser, "; may be repeated")
     figure_words(parser)
+    sheets.words(parser)
 
 
 def figure_words(parser, what="waits", share="report the share served within this many ticks (default: 20)"):
@@ -90,5 +89,4 @@ def main(args):
     visits = reports.visits_of(report, args) or reports.all_visits(report)
     # Everything is computed before a row is written.
     rows = list(service(visits, args.within or (20,), args.percentile or PERCENTS))
-    with written() as file:
-        csv.writer(file, lineterminator="\n").writerows(rows)
+    sheets.write(rows, args.format, args.csv_style)

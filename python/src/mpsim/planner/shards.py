@@ -21,8 +21,11 @@ from .table import rows
 def _whole(path):
     """Opens a file of bytes that appears under its name once it is complete and on disk."""
     part = f"{path}.{socket.gethostname()}.{os.getpid()}.part"
+    # One that a process of the same number left, or a link that someone put there.
+    with contextlib.suppress(FileNotFoundError):
+        os.unlink(part)
     try:
-        with open(part, "wb") as file:
+        with open(part, "xb") as file:
             yield file
             file.flush()
             os.fsync(file.fileno())

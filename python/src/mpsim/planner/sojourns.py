@@ -1,13 +1,11 @@
 """Reports how long jobs were in the network, from the source where they arrived to the node where they left."""
 
-import csv
 from array import array
 from bisect import bisect_right
 from typing import NamedTuple
 
 from ..node_visits import HELD, percentile_of
-from . import reports
-from .files import written
+from . import reports, sheets
 from .service import PERCENTS, figure_words
 
 EXAMPLE = "mpplan sojourns model.txt trace.csv --by source --within 300"
@@ -31,6 +29,7 @@ def words(parser):
     parser.add_argument("--by", choices=["both", "source", "end", "all"], default="both", help=says)
     figure_words(parser, "sojourns", "report the share of sojourns of at most this many ticks")
     parser.add_argument("--each", action="store_true", help="write one row per job instead of the table")
+    sheets.words(parser)
 
 
 def sojourns(report):
@@ -108,5 +107,4 @@ def each(report):
 def main(args):
     report = reports.report_of(args)
     rows = each(report) if args.each else list(table(report, args.by, args.within or (), args.percentile or PERCENTS))
-    with written() as file:
-        csv.writer(file, lineterminator="\n").writerows(rows)
+    sheets.write(rows, args.format, args.csv_style)

@@ -1,13 +1,12 @@
 """The command `mpplan sweep`: runs many variants of a model over one or more traces, here or on other machines, and makes one table."""
 
-import csv
 import os
 import shlex
 
 from ..errors import Error
 from ..runs import scenarios, sweep_text
 from ..sweeps import Sweep, scenarios_of
-from . import shards
+from . import shards, sheets
 from .elsewhere import by_parallel, by_slurm
 from .files import judge_outputs, say, written
 from .pooled import PoolLines, names_of, visits_at
@@ -34,6 +33,7 @@ def words(parser):
     parser.add_argument("--node", action="append", default=[], metavar="NAME", help=alone)
     parser.add_argument("--within", type=ticks, metavar="TICKS", help="add two columns with the share served within this many ticks; takes longer")
     parser.add_argument("--page", metavar="FILE", help="also write an HTML page with curves over the values")
+    sheets.style_words(parser)
     folder = parser.add_argument_group("sweeps of any size, on any machines")
     folder.add_argument("--folder", metavar="FOLDER", help="keep the sweep in this directory, cut into shards of up to 64 models")
     says = "run the shards with GNU parallel, e.g. --parallel='--sshlogin a,b --jobs 4'"
@@ -99,7 +99,7 @@ def _in_memory(args):
     if args.within is not None:
         head[-1:-1] = [f"within_{args.within}_of_all", f"within_{args.within}_of_departed"]
     with written() as file, Progress(plan.scenarios, "scenarios") as progress:
-        writer, done = csv.writer(file, lineterminator="\n"), 0
+        writer, done = sheets.Writer(file, args.csv_style), 0
         writer.writerow(head)
         for shard in range(1, plan.shards + 1):
             trace = plan.shard(shard)[0]
@@ -219,7 +219,7 @@ def _in_folder(args):
     nodes = args.node or folder.plan.nodes
     damaged, refused, status, pool_notes = {}, False, folder.plan.head().index("status"), PoolLines(nodes)
     with written() as file:
-        writer = csv.writer(file, lineterminator="\n")
+        writer = sheets.Writer(file, args.csv_style)
         for at, row in enumerate(shards.gather(folder, damaged, pool_notes, nodes)):
             writer.writerow(row)
             refused = refused or at > 0 and row[status] != 0

@@ -1,12 +1,12 @@
 """Makes tables for spreadsheets from a report or a sweep."""
 
-import csv
 
 from ..lines import NUMBERS
 from ..node_visits import Visit
 from ..runs import run
 from ..sweeps import Sweep, load
-from .files import say, written
+from . import sheets
+from .files import say
 from .pooled import names_of, pool_lines, visits_at, with_pools
 
 EXAMPLE = """mpplan table report.txt >nodes.csv
@@ -20,6 +20,7 @@ def words(parser):
     parser.add_argument("--of", choices=["nodes", "exits", "visits"], default="nodes", help="one row per node, exit or visit; default: nodes")
     parser.add_argument("--node", action="append", default=[], metavar="NAME", help="only rows of this node or pool; may be repeated")
     parser.add_argument("--labels", nargs="+", metavar="LABEL", help="labels for the scenarios of a sweep, e.g. the names of their models")
+    sheets.words(parser)
 
 
 def heads(of="nodes"):
@@ -86,5 +87,4 @@ def main(args):
     reports = list(content.reports().values()) if isinstance(content, Sweep) else [content]
     for line in pool_lines(reports, args.node, args.of == "nodes") if args.of != "exits" else ():
         say(line)
-    with written() as file:
-        csv.writer(file, lineterminator="\n").writerows(found)
+    sheets.write(found, args.format, args.csv_style)

@@ -1,8 +1,8 @@
-"""Time zones: converts between moments and wall-clock times. All times are whole microseconds; a moment counts them from 1970 in UTC."""
+"""Time zones: converts between moments and wall-clock times. All times are whole nanoseconds; a moment counts them from 1970 in UTC."""
 
 from datetime import timezone
 
-from .times import DAY, MINUTE, Asks, Cache, Unread, at_utc, micros, moment
+from .times import DAY, MINUTE, Asks, Cache, Unread, at_utc, nanos, moment
 
 QUARTER = 15 * MINUTE
 TWICE = {
@@ -43,10 +43,20 @@ class Zone:
             found, before = (between, before) if self.wall(between) >= wall else (found, between)
         return found
 
-    def utc(self, wall, seen=None, than=None):
-        """Returns the moment with this wall-clock time. If it occurs twice, it is the first that isn't before `than`, if given, else the one that
-        `twice` selects, for which `seen` (a dict) remembers what was read before. Raises Unread if it never occurs. Raises Asks if `twice` isn't
-        given, or is "order" and the file goes back there a second time."""
+    def both(self, value):
+        """Returns the moments (tuple of int) with the same wall-clock time as a moment: two in an hour that occurs twice, else one."""
+        if not self.zone:
+            return (value,)
+        wall = self.wall(value)
+        if self._whole_days[wall // DAY * DAY] is not None:
+            return (value,)
+        one, two = self._both(wall)
+        return (one, two) if one < two else (value,)
+
+    def utc(self, wall, seen=None, than=None, until=None):
+        """Returns the moment with this wall-clock time. If it occurs twice, it is the first that isn't before `than`, if given, or the last that
+        isn't after `until`, if given, else the one that `twice` selects, for which `seen` (a dict) remembers what was read before. Raises Unread if
+        it never occurs. Raises Asks if `twice` isn't given, or is "order" and the file goes back there a second time."""
         if not self.zone:
             return wall
         since = wall % DAY
@@ -62,6 +72,8 @@ class Zone:
         self.again[day] = self.again.get(day, 0) + 1
         if than is not None:
             return one if one >= than else two
+        if until is not None:
+            return two if two <= until else one
         if self.twice is None:
             raise Asks(f"in the hour that occurs twice on {day} in {self.name}: give --twice first, second or order")
         if self.twice == "order":
@@ -85,11 +97,11 @@ class Zone:
         if not self.zone:
             return value
         shift = self._shifts[value // QUARTER]
-        return micros(self._here(value).replace(tzinfo=None)) if shift is None else value + shift
+        return nanos(self._here(value).replace(tzinfo=None)) if shift is None else value + shift
 
     def _shift(self, quarter):
         """Returns by how much the clock is ahead of UTC during a quarter of an hour; None if it changes within."""
-        begin, end = (micros(self._here(item * QUARTER).replace(tzinfo=None)) - item * QUARTER for item in (quarter, quarter + 1))
+        begin, end = (nanos(self._here(item * QUARTER).replace(tzinfo=None)) - item * QUARTER for item in (quarter, quarter + 1))
         return begin if begin == end else None
 
     def _here(self, value):
@@ -97,7 +109,9 @@ class Zone:
 
     def shown(self, value):
         """Returns the ISO 8601 text of a moment, with its offset if there is a zone."""
-        return (self._here(value) if self.zone else moment(value)).isoformat()
+        here, rest = self._here(value) if self.zone else moment(value), value % 1000
+        text = here.isoformat(timespec="microseconds" if rest else "auto")
+        return f"{text[:26]}{rest:03}{text[26:]}" if rest else text
 
     def offset(self, value):
         """Returns the clock's offset from UTC at a moment, such as "+02:00"; empty without a zone."""
