@@ -16,8 +16,8 @@ from mpsim.planner.days import by_calendar, by_ticks, days
 from mpsim.planner.traces import Trace
 
 DAY, HOUR, SECOND = 86400, 3600, 10**9
-POOL = "planner: {} is a pool: its waits are those of {}\n"
-LATE = "planner: on {} of {} days jobs are still in the network when the next begins; its run starts without them\n"
+POOL = "mpplan: {} is a pool: its waits are those of {}\n"
+LATE = "mpplan: on {} of {} days jobs are still in the network when the next begins; its run starts without them\n"
 
 
 def through(calls, agents):

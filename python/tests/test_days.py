@@ -18,7 +18,7 @@ from mpsim.planner.days import by_calendar, by_ticks, cut
 from mpsim.planner.hours import hours
 
 TOLD = DESK.replace("model 1\n", "model 1\n# a tick is 1s, time 0 is 2026-03-27T08:00:00+01:00 in Europe/Berlin\n")
-NO_TICK = "the length of a tick is unknown: give --tick and --start, or {} whose first lines planner prepare wrote"
+NO_TICK = "the length of a tick is unknown: give --tick and --start, or {} whose first lines mpplan prepare wrote"
 SECOND, HOUR, DAY = 10**9, 3600, 86400
 ZONE = zoneinfo.ZoneInfo("Europe/Berlin")
 

@@ -24,7 +24,7 @@ print(status, int(re.search(r"VmHWM:\\s*(\\d+)", open("/proc/self/status").read(
 
 
 def measured(*words, given=None):
-    """Runs `planner` in a process of its own. Returns its status, its peak of memory (MB) and its last line on stderr."""
+    """Runs `mpplan` in a process of its own. Returns its status, its peak of memory (MB) and its last line on stderr."""
     settings = {**os.environ, "PYTHONPATH": str(ROOT / "python" / "src")}
     command = [sys.executable, "-B", "-c", PEAK, *map(str, words)]
     ran = subprocess.run(command, input=given, capture_output=True, env=settings, timeout=120, check=True)
@@ -57,13 +57,13 @@ class Large(InFolder):
 
     def test_what_has_no_end(self):
         status, peak, line = measured("prepare", "/dev/zero", "--time", "when")
-        self.assertEqual((status, line[:45]), (1, "planner: /dev/zero: it has NUL bytes: is it U"))
+        self.assertEqual((status, line[:45]), (1, "mpplan: /dev/zero: it has NUL bytes: is it U"))
         self.assertLess(peak, 60)
 
     def test_a_line_without_end(self):
         export = self.file("long.csv", "when,who\n8:00," + "x" * (1 << 25) + "\n")
         status, peak, line = measured("prepare", export, "--time", "when")
-        self.assertEqual((status, line), (1, f"planner: {export}: line 2 is longer than 16,777,216 bytes"))
+        self.assertEqual((status, line), (1, f"mpplan: {export}: line 2 is longer than 16,777,216 bytes"))
         self.assertLess(peak, 60)
 
 

@@ -59,8 +59,8 @@ class Example(InFolder):
         """One row, one record and one source are reported in the singular."""
         export = self.file("one.csv", "when,who,long\n8:00,a,1\n8:01,a,\n")
         told = planner("prepare", export, "--time", "when", "--source", "who", "--demand", "long", "--left-out-most", "50%")[2].splitlines()
-        self.assertEqual([item for item in told if "row" in item], ["planner: 1 row is left out", "planner: 1 row: long is empty (row 3)"])
-        self.assertEqual(told[-1], "planner: 1 record, 1 source")
+        self.assertEqual([item for item in told if "row" in item], ["mpplan: 1 row is left out", "mpplan: 1 row: long is empty (row 3)"])
+        self.assertEqual(told[-1], "mpplan: 1 record, 1 source")
 
     def test_flights(self):
         """As in public flight data; the option may also come before the export."""
@@ -71,7 +71,7 @@ class Example(InFolder):
         lines = self.folder / "lines.txt"
         status, out, err = planner("prepare", *words, "--source", "ORIGIN", "--zone", "America/Los_Angeles", "--first-lines", lines)
         self.assertEqual((status, out), (0, "source,time,taxi\nsea,300,1260\nsea,86400,720\n"), err)
-        self.assertIn("planner: 1 row: DAY_OF_MONTH: not a day of its month (row 4, '31')\n", err)
+        self.assertIn("mpplan: 1 row: DAY_OF_MONTH: not a day of its month (row 4, '31')\n", err)
         self.assertEqual(settings_in(text_of(lines)), (10**9, "2015-06-30T00:00:00-07:00", "America/Los_Angeles"))
 
     def test_the_output(self):

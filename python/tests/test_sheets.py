@@ -38,7 +38,7 @@ class Forms(InFolder):
         table = planner(*words, "--format", "md")[1].splitlines()
         self.assertEqual([table[0].replace("\\_", "_").strip("| ").split(" | "), table[1]], [plain[0].split(","), "|" + "---|" * len(row)])
         status, _, err = planner(*words, "--format", "md", "--csv-style", "excel-de")
-        self.assertEqual((status, err), (1, "planner: --csv-style excel-de: it can't be used with --format md\n"))
+        self.assertEqual((status, err), (1, "mpplan: --csv-style excel-de: it can't be used with --format md\n"))
 
     def test_each_command(self):
         """Each that writes a table takes both options; a sweep, which writes its rows as they come, takes the style."""

@@ -1,4 +1,4 @@
-"""The options of `planner prepare`."""
+"""The options of `mpplan prepare`."""
 
 from .formats import NUMBERS
 from .lengths import Lengths
@@ -6,7 +6,7 @@ from .zones import TWICE
 
 
 def words(parser):
-    """Declares the arguments of `planner prepare`."""
+    """Declares the arguments of `mpplan prepare`."""
     for declare in _times, _columns, _rows, _file, _outputs:
         declare(parser.add_argument)
 

@@ -26,7 +26,7 @@ LISTED = 20
 
 class Plan:
     """How to read the columns of an Export, in a Zone, with a tick (int, nanoseconds). `notes` and `warned` (lists of str) are notes on what was
-    detected. The texts are options of `planner prepare`; `model` is a model's text or None. Raises ValueError for an invalid option, and if another
+    detected. The texts are options of `mpplan prepare`; `model` is a model's text or None. Raises ValueError for an invalid option, and if another
     is needed."""
 
     def __init__(self, export, place, per, format, decimal, model):
