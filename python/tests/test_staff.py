@@ -109,18 +109,28 @@ class Least(Test):
         self.assertEqual([it.agents for it in least(list(zip([day], calls)), Goal(Fraction(1), 0))][:3], [3, 0, 0])
         self.assertEqual([it.agents for it in least(list(zip([day], calls)), Goal(Fraction(1, 3), 0))][:3], [1, 1, 0])
 
+    def test_patience_that_ends_with_an_interval(self):
+        """A caller whose patience ends as the next interval begins is served by an agent who comes then, and one tick later isn't."""
+        (day,) = days_of(Calendar(SECOND), 0, HOUR)
+        for patience, counts, waits in (5, [1, 2], [0, 5]), (4, [2, 0], [0, 0]):
+            calls = calls_of(HOUR, [day], [3000, 3595], [9000, 60], [900, patience])
+            found = least([(day, calls[0])], Goal(Fraction(1), 5))
+            self.assertEqual(([it.agents for it in found][:2], found[0].waits), (counts, waits))
+
     def test_occupancy(self):
         """Two calls of half an hour each in an hour keep one agent busy, and two half of their time; calls that go on count where they do."""
         (day,) = days_of(Calendar(SECOND), 0, HOUR)
-        calls = calls_of(HOUR, [day], [0, 1800, 7000], [1800, 1800, 400], None)
+        calls = calls_of(HOUR, [day], [0, 1800, 7000, 7500], [1800, 1800, 400, 0], None)
         for most, counts in (None, [1, 1]), (Fraction(99, 100), [2, 1]), (Fraction(1, 2), [2, 1]), (Fraction(49, 100), [3, 1]), (Fraction(5, 100), [20, 2]):
             found = least(list(zip([day], calls)), Goal(Fraction(4, 5), 20, most))
             self.assertEqual([it.agents for it in found][:2], counts)
-            self.assertEqual([it.worked for it in found][:3], [3600, 200, 200 * found[2].agents // max(1, found[2].agents)])
+            self.assertEqual([it.worked for it in found][:3], [3600, 200, 200])
             self.assertEqual([it.there for it in found][:2], [3600 * count for count in counts])
 
     def test_erlang_c(self):
-        """A hundred calls of three minutes in half an hour need 14 agents for 80/20, as in published tables; no calls, none."""
+        """A hundred calls of three minutes in half an hour need 14 agents for 80/20, as in published tables; no calls, none. If nearly any
+        wait will do, one more agent than there is work for."""
+        self.assertEqual([erlang_c(100, 180, 1800, 0.5, within) for within in (10**4, 0)], [11, 12])
         self.assertEqual([erlang_c(calls, 180, 1800, 0.8, 20) for calls in (100, 10, 1000, 0)], [14, 3, 107, None])
 
 
