@@ -47,9 +47,11 @@ def broken(agents, calls, outcomes, priorities=None, choose="longest-idle"):
     def key(call):
         return (priorities or {}).get(call.queue, last), call.arrive, call.at
 
-    own = {place: sorted((it for it in every if it.agent == place), key=lambda it: (it.begin, it.step, key(it))) for place in range(1, len(agents) + 1)}
     if len(outcomes) != len(calls) or any(not 0 <= it.agent <= len(agents) for it in every):
         return {"an outcome per call"}
+    own = {place: [it for it in every if it.agent == place] for place in range(1, len(agents) + 1)}
+    for mine in own.values():
+        mine.sort(key=lambda it: (it.begin, it.step, key(it)))
     for call in every:
         rules |= set(_of_call(agents, call))
     for place, mine in own.items():

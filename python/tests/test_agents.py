@@ -131,7 +131,8 @@ class Compared(Test):
 
     def test_the_checker_sees_each_rule(self):
         """Outcomes that are wrong in one way."""
-        agents, calls = [Agent([(0, 9), (20, 90)], ["a"]), Agent([(0, 90)], ["b"])], [Call(0, 4, "a"), Call(1, 4, "a", 9), Call(2, 4, "a"), Call(2, 4, "b")]
+        agents = [Agent([(0, 9), (20, 90)], ["a"]), Agent([(0, 90)], ["b"])]
+        calls = [Call(0, 4, "a"), Call(1, 4, "a", 9), Call(2, 4, "a"), Call(2, 4, "b")]
         right = Group(agents).serve(calls)
         self.assertEqual((right, broken(agents, calls, right)), ([(1, 0), (1, 3), (1, 6), (2, 0)], set()))
         for outcomes, rule in [

@@ -121,8 +121,8 @@ class Least(Test):
         """Two calls of half an hour each in an hour keep one agent busy, and two half of their time; calls that go on count where they do."""
         (day,) = days_of(Calendar(SECOND), 0, HOUR)
         calls = calls_of(HOUR, [day], [0, 1800, 7000, 7500], [1800, 1800, 400, 0], None)
-        for most, counts in (None, [1, 1]), (Fraction(99, 100), [2, 1]), (Fraction(1, 2), [2, 1]), (Fraction(49, 100), [3, 1]), (Fraction(5, 100), [20, 2]):
-            found = least(list(zip([day], calls)), Goal(Fraction(4, 5), 20, most))
+        for most, counts in (100, [1, 1]), (99, [2, 1]), (50, [2, 1]), (49, [3, 1]), (5, [20, 2]):
+            found = least(list(zip([day], calls)), Goal(Fraction(4, 5), 20, Fraction(most, 100)))
             self.assertEqual([it.agents for it in found][:2], counts)
             self.assertEqual([it.worked for it in found][:3], [3600, 200, 200])
             self.assertEqual([it.there for it in found][:2], [3600 * count for count in counts])
@@ -177,9 +177,10 @@ class Command(InFolder):
         model = self.file("m.txt", "model 1\n# a tick is 1s\nsource a\nserver desk d from a\n")
         trace = self.file("t.csv", "source,time,d,patient\na,0,100,9\na,1,100,9\na,2,100,500\n")
         words = model, trace, "--node", "desk", "--every", "1h"
-        for given, within, agents in (["--goal", "60/120"], "0.6667", "1"), (["--goal", "60/500", "--patience", "patient"], "0.6667", "1"), (["--goal", "60/500", "--patience", "9s"], "0.6667", "2"):
+        by_column, by_time = (["--goal", "60/500", "--patience", it] for it in ("patient", "9s"))
+        for given, agents in (["--goal", "60/120"], "1"), (by_column, "1"), (by_time, "2"):
             (row,) = self.table(*words, *given)
-            self.assertEqual((row["within"], row["agents"]), (within, agents))
+            self.assertEqual((row["within"], row["agents"]), ("0.6667", agents))
 
     def test_what_is_rejected(self):
         words = "staff", *WEEK, "--node", "desk"

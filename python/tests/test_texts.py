@@ -19,7 +19,7 @@ STANDARD |= {"resource"}
 STANDARD |= {"subprocess", "sys", "threading", "time", "typing"}
 # Further modules used by the planner's commands and the pages.
 STANDARD |= {"argparse", "base64", "codecs", "datetime", "difflib", "errno", "functools", "gc", "glob", "hashlib", "heapq", "html", "json", "locale"}
-STANDARD |= {"math", "operator", "secrets", "shlex", "socket", "stat", "string", "unicodedata", "zoneinfo"}
+STANDARD |= {"math", "operator", "random", "secrets", "shlex", "socket", "stat", "string", "unicodedata", "zoneinfo"}
 
 
 def module_of(name):

@@ -159,7 +159,10 @@ class _Run:
         self.leaves = None if patience is None else self._leaves([patience[at] for at in self.order])
         self.who = array("i", bytes(4 * count))
         # The wait of a call that never begins, until it does.
-        self.waits = array("q", [-1]) * count if patience is None else array("q", (-1 if it is None else it for it in map(patience.__getitem__, self.order)))
+        self.waits = array("q", [-1]) * count
+        for call, at in enumerate(self.order if patience is not None else ()):
+            if patience[at] is not None:
+                self.waits[call] = patience[at]
         self.by_idle = group.choose == LONGEST_IDLE
         self._make_lines(group, [""] * count if queues is None else [queues[at] for at in self.order])
         self.left = [None, *map(iter, group.intervals)]

@@ -83,8 +83,8 @@ def pools_in(text, trace):
 
 
 def varied(texts, trace):
-    """Returns the names of pools (list of str) that have different numbers of agents in these models (iterable of str), and whose agents and waits are
-    columns of a trace (Trace): the trace holds for one of the numbers at most.
+    """Returns the names of pools (list of str) that have different numbers of agents in these models (iterable of str), and whose agents and waits
+    are columns of a trace (Trace): the trace holds for one of the numbers at most.
 
     >>> from mpsim.planner.anew import varied
     >>> from mpsim.planner.traces import Trace

@@ -22,9 +22,9 @@ def read_roster(path, days, last, queues):
     `agent,queues,from,to` and a row per interval of availability.
 
     `queues` are names separated by spaces; empty means all. `from` and `to` are both ticks, or both dates with times such as 2026-03-02T08:00, or a
-    pattern: weekdays and a time of day such as `mon-fri 08:00` or `mon,wed 08:00`, and the time of day at which the interval ends, on the next day if it
-    isn't later. A pattern holds on each such day of the Calendar up to tick `last` (int). `queues` of the argument are the names that exist. Raises
-    OSError if the file can't be read, and ValueError with the row's number for a row that is invalid, and if intervals of an agent overlap."""
+    pattern: weekdays and a time of day such as `mon-fri 08:00` or `mon,wed 08:00`, and the time of day at which the interval ends, on the next day if
+    it isn't later. A pattern holds on each such day of the Calendar up to tick `last` (int). `queues` of the argument are the names that exist.
+    Raises OSError if the file can't be read, and ValueError with the row's number for a row that is invalid, and if intervals of an agent overlap."""
     rows = list(filter(None, csv.reader(bytes_of(path).decode("utf-8-sig", "surrogateescape").splitlines())))
     if not rows or [it.strip() for it in rows[0]] != HEAD:
         raise ValueError(f"{path}: a roster begins with {','.join(HEAD)}, not with {','.join(rows[0] if rows else [])!r}")
@@ -48,7 +48,8 @@ def read_roster(path, days, last, queues):
         intervals.sort()
         for (_, end), (begin, _) in zip(intervals, intervals[1:]):
             if begin < end:
-                raise ValueError(f"{path}: intervals of {name} overlap at {days.place.shown(days.begin + begin * days.tick) if days.is_dated else begin}")
+                when = days.place.shown(days.begin + begin * days.tick) if days.is_dated else begin
+                raise ValueError(f"{path}: intervals of {name} overlap at {when}")
         agents.append(Agent(intervals, served.split() or None))
     return agents, list(found)
 
@@ -97,8 +98,8 @@ def _weekdays(text, days):
 
 
 def counts_roster(text, days, last):
-    """Returns the agents (list of Agent) of a text such as `8:00=3,10:00=5,18:00=0`: numbers of agents from times of day on, each day of a Calendar up
-    to tick `last`. Nobody is there before the first time; the last number holds until midnight. Raises ValueError for an invalid text."""
+    """Returns the agents (list of Agent) of a text such as `8:00=3,10:00=5,18:00=0`: numbers of agents from times of day on, each day of a Calendar
+    up to tick `last`. Nobody is there before the first time; the last number holds until midnight. Raises ValueError for an invalid text."""
     steps = []
     for part in text.split(","):
         time, mark, count = part.partition("=")
@@ -120,7 +121,8 @@ def counts_roster(text, days, last):
 
 def patience_in(text, trace, tick, seed):
     """Returns the patience (list of int, ticks) of each record of a trace from the value of --patience: a length of time, the name of a column, or
-    `exp:240s` for random ones with this mean, drawn with a seed (int). Returns as well whether they are drawn. Raises ValueError for another value."""
+    `exp:240s` for random ones with this mean, drawn with a seed (int). Returns as well whether they are drawn. Raises ValueError for another
+    value."""
     if text in trace.header[2:]:
         return trace.numbers(text), False
     kind, mark, mean = text.rpartition(":")
@@ -150,8 +152,8 @@ HEADS = "from", "queue", "offered", "answered", "abandoned", "within", "mean_wai
 
 
 class Table:
-    """What a group did per interval of the day, over all days (list of intervals.Day): from the calls (sequences of queue, arrival, service, agent and
-    wait, in ticks) and the agents (list of Agent)."""
+    """What a group did per interval of the day, over all days (list of intervals.Day): from the calls (sequences of queue, arrival, service, agent
+    and wait, in ticks) and the agents (list of Agent)."""
 
     def __init__(self, days, calls, agents, within):
         self.days, self.within, self.count = days, within, len(days[0].begins) - 1
@@ -182,10 +184,10 @@ class Table:
             begin, at = until, at + 1
 
     def rows(self, every, tick):
-        """Yields a row (list, as in HEADS) per interval with calls or agents, for the length of intervals and of a tick (int, microseconds): the time of
-        day; the queue, "all" or its name; how many calls were offered, answered and abandoned; the share of all that was answered within `within` ticks;
-        the mean wait and the 90th percentile of those answered, in seconds; the mean number of agents,
-        over the days with an agent or a call in the interval; and the share of their time that they worked."""
+        """Yields a row (list, as in HEADS) per interval with calls or agents, for the length of intervals and of a tick (int, microseconds): the time
+        of day; the queue, "all" or its name; how many calls were offered, answered and abandoned; the share of all that was answered within `within`
+        ticks; the mean wait and the 90th percentile of those answered, in seconds; the mean number of agents, over the days with an agent or a call
+        in the interval; and the share of their time that they worked."""
         queues = list(dict.fromkeys(queue for _, queue in self.cells))
         for number in range(self.count):
             mine = {queue: self.cells.get((number, queue), []) for queue in sorted(queues)}

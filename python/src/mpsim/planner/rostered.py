@@ -20,7 +20,8 @@ def words(parser):
     parser.add_argument("--patience", metavar="TIME", help=says)
     parser.add_argument("--seed", type=int, metavar="N", help="seed of random patience; default: 1")
     parser.add_argument("--first", action="append", default=[], metavar="SOURCE", help="serve calls of this source first; may be repeated")
-    parser.add_argument("--then", action="append", default=[], metavar="SOURCE", help="then calls of this source; may be repeated, each after the last")
+    says = "then calls of this source; may be repeated, each after the last"
+    parser.add_argument("--then", action="append", default=[], metavar="SOURCE", help=says)
     says = "which of several free agents takes a call: the one who has been free longest (the default) or the first in the roster"
     parser.add_argument("--choose", choices=[LONGEST_IDLE, FIRST], help=says)
     says = "length of the intervals of the table for a roster, patience or priorities: 15min, 30min (the default) or 1h"
@@ -53,7 +54,8 @@ def _agents(args, days, last, sources):
     if "=" in args.agents:
         return given("--agents", lambda text: counts_roster(text, days, last), args.agents)
     if not args.agents.isdigit():
-        raise ValueError(f"--agents {args.agents}: with patience, priorities or --every, give one number of agents, or times of day such as 8:00=3,10:00=5")
+        why = "with patience, priorities or --every, give one number of agents, or times of day such as 8:00=3,10:00=5"
+        raise ValueError(f"--agents {args.agents}: {why}")
     return [Agent()] * int(args.agents)
 
 
@@ -72,8 +74,8 @@ def _judge(args):
 
 
 def rows(args):
-    """Returns the header and the rows (lists) of the table of a pool with a roster, patience or priorities, as roster.HEADS says, and writes the outputs
-    that the arguments ask for. Raises what `pool.Queue` does, and ValueError for invalid arguments, and if some calls are never served."""
+    """Returns the header and the rows (lists) of the table of a pool with a roster, patience or priorities, as roster.HEADS says, and writes the
+    outputs that the arguments ask for. Raises what `pool.Queue` does, and ValueError for invalid arguments, and if some calls are never served."""
     from .pool import TRUNK, Queue
 
     _judge(args)

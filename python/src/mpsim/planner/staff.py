@@ -1,7 +1,7 @@
 """Finds the least number of agents for each interval of a day that reaches a service level.
 
-The agents who are available in an interval are the first ones of a roster; each serves calls by the rules of `mpsim.agents`. The calls are the recorded
-ones, so what is found holds for them. It is tested, not proved."""
+The agents who are available in an interval are the first ones of a roster; each serves calls by the rules of `mpsim.agents`. The calls are the
+recorded ones, so what is found holds for them. It is tested, not proved."""
 
 import csv
 import json
@@ -28,11 +28,14 @@ def words(parser):
     parser.add_argument("model", help="a model with a server in the place of the agents")
     parser.add_argument("trace", help="its trace")
     parser.add_argument("--node", required=True, metavar="NAME", help="the server to replace by agents who share its queue")
-    parser.add_argument("--goal", default="80/20", metavar="P/TIME", help="service level: 80/20 (the default) is 80 %% within 20 seconds; also 90/1min")
+    says = "service level: 80/20 (the default) is 80 %% within 20 seconds; also 90/1min"
+    parser.add_argument("--goal", default="80/20", metavar="P/TIME", help=says)
     intervals.words(parser)
-    parser.add_argument("--weekday", type=str.capitalize, choices=WEEKDAYS, metavar="DAY", help="only days of this weekday, e.g. monday; default: each weekday")
+    says = "only days of this weekday, e.g. monday; default: each weekday"
+    parser.add_argument("--weekday", type=str.capitalize, choices=WEEKDAYS, metavar="DAY", help=says)
     parser.add_argument("--date", metavar="DATE", help="only this day, e.g. 2026-03-02")
-    parser.add_argument("--patience", metavar="TIME", help="callers leave after this time, e.g. 240s, or after the ticks in this column; default: they wait")
+    says = "callers leave after this time, e.g. 240s, or after the ticks in this column; default: they wait"
+    parser.add_argument("--patience", metavar="TIME", help=says)
     parser.add_argument("--max-occupancy", metavar="P", help="agents work at most this share of their time, e.g. 85%%")
     parser.add_argument("--shrinkage", default="0%", metavar="P", help="share of paid time in which an agent isn't available, e.g. 30%%")
     parser.add_argument("--format", choices=["csv", "json", "md"], default="csv", help="form of the table; default: csv")
@@ -49,8 +52,8 @@ class Goal(NamedTuple):
 
 
 class Interval(NamedTuple):
-    """What is found for an interval: the number of agents (int); how many calls arrive in it (int), the ticks of service that they bring (int), and the
-    waits of those that are served (list of int, ticks); the ticks that agents work in it, and those that they are there (int)."""
+    """What is found for an interval: the number of agents (int); how many calls arrive in it (int), the ticks of service that they bring (int), and
+    the waits of those that are served (list of int, ticks); the ticks that agents work in it, and those that they are there (int)."""
 
     agents: int
     calls: int
@@ -84,8 +87,8 @@ class _Passed(NamedTuple):
 
 
 def passed(before, number, bounds, calls, agents, last):
-    """Returns a day at the end of an interval (_Passed) from one at its beginning, with the interval's number, its bounds, the calls that arrive in it
-    (list of Waiting), its number of agents, and the last tick of the day."""
+    """Returns a day at the end of an interval (_Passed) from one at its beginning, with the interval's number, its bounds, the calls that arrive in
+    it (list of Waiting), its number of agents, and the last tick of the day."""
     begin, end = bounds
     busy = {place: it for place, it in before.busy.items() if it > begin}
     last = max(begin, min(end, last))
@@ -113,8 +116,9 @@ class Search:
     """Goes through the intervals of some days, which get the same numbers of agents, and chooses the least for each. `days` are pairs of an
     intervals.Day and its calls (list, per interval, of lists of Waiting).
 
-    Whether an interval reaches the goal may depend on the next one: callers who wait at its end may still be served in time. They count as served until
-    the next number is chosen, which must keep to that. Enough agents always can, because all who wait are served when the next interval begins."""
+    Whether an interval reaches the goal may depend on the next one: callers who wait at its end may still be served in time. They count as served
+    until the next number is chosen, which must keep to that. Enough agents always can, because all who wait are served when the next interval
+    begins."""
 
     def __init__(self, days, goal):
         self.goal, self.days = goal, days
@@ -173,8 +177,8 @@ class Search:
 
 
 def least(days, goal, progress=None):
-    """Returns an Interval for each interval of a day, with the least number of agents with which the calls of all days together reach a Goal. One agent
-    fewer in any interval misses it there or in a later one. `days` are pairs of an intervals.Day and its calls (list, per interval, of lists of
+    """Returns an Interval for each interval of a day, with the least number of agents with which the calls of all days together reach a Goal. One
+    agent fewer in any interval misses it there or in a later one. `days` are pairs of an intervals.Day and its calls (list, per interval, of lists of
     Waiting); `progress`, if given, is called with the number of intervals done.
 
     >>> from mpsim.planner.calendar import Calendar
@@ -206,8 +210,8 @@ def calls_of(every, days, arrivals, services, patience):
 
 
 def erlang_c(calls, service, span, share, within):
-    """Returns the least number of agents (int) with which `share` of random calls wait at most `within` ticks, by Erlang's formula for calls that wait:
-    for this many calls (float) of this mean service (float, ticks) in a span of this many ticks. None without work.
+    """Returns the least number of agents (int) with which `share` of random calls wait at most `within` ticks, by Erlang's formula for calls that
+    wait: for this many calls (float) of this mean service (float, ticks) in a span of this many ticks. None without work.
 
     >>> erlang_c(120, 240, 1800, 0.8, 20)
     20
@@ -234,8 +238,8 @@ def percent(text):
 
 
 def goal_of(text, tick):
-    """Returns the share (Fraction) and the ticks (int) of a text such as `80/20` or `90/1min`, for a tick of this many microseconds. Raises ValueError
-    for an invalid text.
+    """Returns the share (Fraction) and the ticks (int) of a text such as `80/20` or `90/1min`, for a tick of this many microseconds. Raises
+    ValueError for an invalid text.
 
     >>> goal_of("80/20", SECOND)
     (Fraction(4, 5), 20)
@@ -250,9 +254,10 @@ HEADS = "from", "days", "calls", "handling_time", "agents", "rostered", "within"
 
 
 def rows_of(found, count, every, tick, goal, shrinkage=Fraction(0)):
-    """Yields a row (list, as in HEADS) for each Interval of so many days (int) that has calls or agents: the time of day; the days; per day, the calls
-    to two decimals; their mean handling time in seconds; the agents needed, and rostered with this shrinkage (Fraction); the share served within the
-    goal's time; the 90th percentile of the waits in seconds; the occupancy; and the number of agents by Erlang's formula. None if there is no value."""
+    """Yields a row (list, as in HEADS) for each Interval of so many days (int) that has calls or agents: the time of day; the days; per day, the
+    calls to two decimals; their mean handling time in seconds; the agents needed, and rostered with this shrinkage (Fraction); the share served
+    within the goal's time; the 90th percentile of the waits in seconds; the occupancy; and the number of agents by Erlang's formula. None if there is
+    no value."""
     for number, it in enumerate(found):
         if not it.calls and not it.agents:
             continue
@@ -314,8 +319,8 @@ def _groups(chosen, is_dated, date):
 
 
 def patience_of(text, trace, jobs, tick):
-    """Returns the patience (list of int, ticks) of the calls of these records (list of int, from 1) from the value of --patience: a length of time, or
-    the name of a column; None if there is no value."""
+    """Returns the patience (list of int, ticks) of the calls of these records (list of int, from 1) from the value of --patience: a length of time,
+    or the name of a column; None if there is no value."""
     if text is None:
         return None
     if text in trace.header[2:]:
