@@ -4,7 +4,7 @@ _planner() {
     local word=${COMP_WORDS[COMP_CWORD]} i choices='' given=' ' options='' repeated=' ' left=''
     COMPREPLY=()
     if ((COMP_CWORD == 1)); then
-        COMPREPLY=($(compgen -W 'prepare scale edit pool staff run days table compare service hours sojourns sweep page --help --version' -- "$word"))
+        COMPREPLY=($(compgen -W 'prepare scale edit pool staff recorded validate run days table compare service hours sojourns sweep page --help --version' -- "$word"))
         return
     fi
     case ${COMP_WORDS[1]} in
@@ -22,12 +22,20 @@ _planner() {
             options='--model --out --edits --help'
             ;;
         pool)
-            options='--node --agents --roster --patience --seed --first --then --choose --every --tick --start --zone --by --out --out-model
+            options='--node --agents --roster --first --then --choose --patience --seed --every --tick --start --zone --by --out --out-model
                 --report --within --percentile --help'
             repeated=' --first --then --within --percentile '
             ;;
         staff)
             options='--node --goal --every --weekday --date --patience --max-occupancy --shrinkage --format --tick --start --zone --help'
+            ;;
+        recorded)
+            options='--wait --abandoned --within --every --source --model --tick --start --zone --help'
+            repeated=' --source '
+            ;;
+        validate)
+            options='--node --agents --roster --first --then --choose --wait --abandoned --within --every --tick --start --zone --help'
+            repeated=' --first --then '
             ;;
         run)
             options='--jobs --page --tick --start --zone --help'
@@ -73,15 +81,16 @@ _planner() {
         pool.--by) choices='trunk agents' ;;
         staff.--weekday) choices='Monday Tuesday Wednesday Thursday Friday Saturday Sunday' ;;
         staff.--format) choices='csv json md' ;;
+        validate.--choose) choices='longest-idle first' ;;
         table.--of) choices='nodes exits visits' ;;
         compare.--figure) choices='in out lost held wait max p50 p90 p99 busy area peak util mean_wait mean_time share_lost' ;;
         hours.--by) choices='hour day weekday each' ;;
         sojourns.--by) choices='both source end all' ;;
-        *.--agents | *.--answered | *.--begin | *.--by | *.--close | *.--code | *.--constant | *.--date | *.--date-format | *.--day | \
-            *.--delimiter | *.--demand | *.--empty | *.--encoding | *.--end | *.--every | *.--first | *.--format | *.--goal | *.--header | \
-            *.--labels | *.--max-occupancy | *.--node | *.--open | *.--patience | *.--percentile | *.--pool | *.--rename | *.--seed | \
-            *.--set | *.--shard | *.--shift | *.--shrinkage | *.--skip | *.--source | *.--start | *.--then | *.--tick | *.--time | *.--title \
-            | *.--within | *.--zone) return ;;
+        *.--abandoned | *.--agents | *.--answered | *.--begin | *.--by | *.--close | *.--code | *.--constant | *.--date | *.--date-format | \
+            *.--day | *.--delimiter | *.--demand | *.--empty | *.--encoding | *.--end | *.--every | *.--first | *.--format | *.--goal | \
+            *.--header | *.--labels | *.--max-occupancy | *.--node | *.--open | *.--patience | *.--percentile | *.--pool | *.--rename | \
+            *.--seed | *.--set | *.--shard | *.--shift | *.--shrinkage | *.--skip | *.--source | *.--start | *.--then | *.--tick | *.--time \
+            | *.--title | *.--wait | *.--within | *.--zone) return ;;
     esac
     if [[ $choices ]]; then
         COMPREPLY=($(compgen -W "$choices" -- "$word"))

@@ -31,12 +31,15 @@ class Rosters(InFolder):
 
     def test_the_forms_of_a_row(self):
         day = 24 * HOUR
-        agents, names = self.read("A,,100,200", "B,mail phone,2026-03-26T08:00,2026-03-26T09:30", "A,,300,400", "C,mail,2026-03-26T07:00Z,2026-03-26T08:00Z")
+        rows = "B,mail phone,2026-03-26T08:00,2026-03-26T09:30", "A,,300,400", "C,mail,2026-03-26T07:00Z,2026-03-26T08:00Z"
+        agents, names = self.read("A,,100,200", *rows)
         self.assertEqual(names, ["A", "B", "C"])
-        self.assertEqual([list(agent.intervals) for agent in agents], [[(100, 200), (300, 400)], [(8 * HOUR, 9 * HOUR + 1800)], [(8 * HOUR, 9 * HOUR)]])
+        wanted = [[(100, 200), (300, 400)], [(8 * HOUR, 9 * HOUR + 1800)], [(8 * HOUR, 9 * HOUR)]]
+        self.assertEqual([list(agent.intervals) for agent in agents], wanted)
         self.assertEqual([agent.queues for agent in agents], [None, ["mail", "phone"], ["mail"]])
         # Thursday, Friday and Monday; the clock's hour is skipped on Sunday.
-        for on, found in ("mon-fri", [0, 1, 4, 5, 6]), ("Thu,Sat", [0, 2]), ("sat-sun", [2, 3]), ("fri-mon", [1, 2, 3, 4]), ("daily", range(7)), ("", range(7)):
+        every = ("mon-fri", "01456"), ("Thu,Sat", "02"), ("sat-sun", "23"), ("fri-mon", "1234"), ("daily", "0123456"), ("", "0123456")
+        for on, found in ((on, map(int, digits)) for on, digits in every):
             (agent,), _ = self.read(f'A,,"{on} 08:00",09:00', last=6 * day + HOUR)
             self.assertEqual(list(agent.intervals), [(it * day + (8 - (it > 2)) * HOUR, it * day + (9 - (it > 2)) * HOUR) for it in found])
         # Over midnight, and over the hour that is skipped.
@@ -76,7 +79,8 @@ class Pools(InFolder):
         self.out, self.model = self.folder / "out.csv", self.folder / "out.txt"
 
     def table(self, *words, error=""):
-        return list(csv.DictReader(io.StringIO(self.tells("pool", *words, "--node", "desk", "--out", self.out, "--out-model", self.model, error=error))))
+        text = self.tells("pool", *words, "--node", "desk", "--out", self.out, "--out-model", self.model, error=error)
+        return list(csv.DictReader(io.StringIO(text)))
 
     def test_where_the_rules_coincide(self):
         """Agents who are always there: the trace of a plain pool, byte for byte, and its model but for a comment."""
@@ -117,6 +121,11 @@ class Pools(InFolder):
         waits = {name: self.made("--agents", 1, "--first", name, calls=calls)[1] for name in ("phone", "mail")}
         self.assertEqual([wait for _, wait in waits["phone"]], [0, 149, 198, 47, 96])
         self.assertEqual([wait for _, wait in waits["mail"]], [0, 49, 98, 147, 196])
+
+    def test_who_takes_a_call(self):
+        calls = (0, 1), (2, 5), (20, 1)
+        for choose, agents in ("longest-idle", [1, 2, 1]), ("first", [1, 1, 1]):
+            self.assertEqual([agent for agent, _ in self.made("--agents", 2, "--choose", choose, calls=calls)[1]], agents)
 
     def test_the_table(self):
         """Callers who leave count among those offered, and not as served; occupancy is of the time in the roster."""

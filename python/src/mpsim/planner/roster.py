@@ -194,7 +194,7 @@ class Table:
             every_call = [it for calls in mine.values() for it in calls]
             if every_call or self.there[number]:
                 spans = sum(day.begins[number + 1] - day.begins[number] for at, day in enumerate(self.days) if at * self.count + number in self.used)
-                agents = round(self.there[number] / spans, 2) if spans else None
+                agents = round(self.there[number] / spans, 2) if spans and any(self.there) else None
                 occupancy = round(self.worked[number] / self.there[number], 4) if self.there[number] else None
                 yield [label(number, every), "all", *self._figures(every_call, tick), agents, occupancy]
                 if len(queues) > 1:

@@ -14,16 +14,21 @@ from .traces import Trace, locating_errors
 COMMENT = "# {node} is a pool with a roster, patience or priorities: its waits hold only for this trace"
 
 
-def words(parser):
+def group_words(parser):
+    """Declares the arguments that say who serves which calls."""
     parser.add_argument("--roster", metavar="FILE", help="who is there when: a CSV file with the columns agent, queues, from and to")
-    says = "callers leave after this time, e.g. 240s, after the ticks in this column, or after random times of this mean: exp:240s"
-    parser.add_argument("--patience", metavar="TIME", help=says)
-    parser.add_argument("--seed", type=int, metavar="N", help="seed of random patience; default: 1")
     parser.add_argument("--first", action="append", default=[], metavar="SOURCE", help="serve calls of this source first; may be repeated")
     says = "then calls of this source; may be repeated, each after the last"
     parser.add_argument("--then", action="append", default=[], metavar="SOURCE", help=says)
     says = "which of several free agents takes a call: the one who has been free longest (the default) or the first in the roster"
     parser.add_argument("--choose", choices=[LONGEST_IDLE, FIRST], help=says)
+
+
+def words(parser):
+    group_words(parser)
+    says = "callers leave after this time, e.g. 240s, after the ticks in this column, or after random times of this mean: exp:240s"
+    parser.add_argument("--patience", metavar="TIME", help=says)
+    parser.add_argument("--seed", type=int, metavar="N", help="seed of random patience; default: 1")
     says = "length of the intervals of the table for a roster, patience or priorities: 15min, 30min (the default) or 1h"
     parser.add_argument("--every", metavar="LENGTH", help=says)
     calendar.words(parser)
@@ -59,6 +64,17 @@ def _agents(args, days, last, sources):
     return [Agent()] * int(args.agents)
 
 
+def group_of(args, days, last, sources):
+    """Returns the agents (list of Agent) and the Group that a command's arguments ask for, for a Calendar, its last tick (int), and the source of
+    each record (list of str). Raises ValueError for invalid arguments."""
+    from .pool import TRUNK
+
+    agents = _agents(args, days, last, list(dict.fromkeys(sources)))
+    if not 1 <= len(agents) <= TRUNK:
+        raise ValueError(f"a pool has 1 to {TRUNK} agents, not {len(agents)}")
+    return agents, Group(agents, _priorities(args, set(sources)), args.choose or LONGEST_IDLE)
+
+
 def _judge(args):
     if args.report:
         raise ValueError("--report reads a pool that has been run: give no roster, patience, priorities or --every with it")
@@ -76,7 +92,7 @@ def _judge(args):
 def rows(args):
     """Returns the header and the rows (lists) of the table of a pool with a roster, patience or priorities, as roster.HEADS says, and writes the
     outputs that the arguments ask for. Raises what `pool.Queue` does, and ValueError for invalid arguments, and if some calls are never served."""
-    from .pool import TRUNK, Queue
+    from .pool import Queue
 
     _judge(args)
     days = calendar.of(args, text_of(args.model))
@@ -85,12 +101,9 @@ def rows(args):
     queue = Queue(args.model, trace, args.node)
     every_source = trace.sources()
     last = max(queue.arrivals, default=0)
-    agents = _agents(args, days, last, list(dict.fromkeys(every_source)))
-    if not 1 <= len(agents) <= TRUNK:
-        raise ValueError(f"a pool has 1 to {TRUNK} agents, not {len(agents)}")
+    agents, group = group_of(args, days, last, every_source)
     patience, is_drawn = patience_in(args.patience, trace, days.tick, 1 if args.seed is None else args.seed) if args.patience else (None, False)
     sources = [every_source[job - 1] for job in queue.jobs]
-    group = Group(agents, _priorities(args, set(every_source)), args.choose or LONGEST_IDLE)
     who, waits = group.assigned(queue.arrivals, queue.demands, sources, patience and [patience[job - 1] for job in queue.jobs])
     _judge_waits(args.node, days, queue, who, waits)
     model, made = _written(queue, len(agents), who, waits, patience if is_drawn else None)
