@@ -27,7 +27,8 @@ _planner() {
             repeated=' --first --then --within --percentile '
             ;;
         staff)
-            options='--node --goal --every --weekday --date --patience --max-occupancy --shrinkage --format --tick --start --zone --help'
+            options='--node --goal --every --weekday --date --patience --seed --max-occupancy --shrinkage --format --tick --start --zone
+                --help'
             ;;
         recorded)
             options='--wait --abandoned --within --every --source --model --tick --start --zone --help'

@@ -177,6 +177,7 @@ class Pools(InFolder):
         words = "pool", model, trace, "--node", "desk"
         why = "nobody serves 1 call at desk, since no agent comes after them who serves their queue; the first is record 2 at 61"
         self.refuses(f"{why} (2026-03-02T00:01:01+01:00): extend the roster or give --patience", *words, "--roster", roster)
+        self.refuses(f"{roster}: this is the roster, which is never overwritten", *words, "--roster", roster, "--out", roster)
         self.refuses("give --roster or --agents, not both", *words, "--roster", roster, "--agents", 3)
         self.refuses("no source 'fax'; the trace has phone", *words, "--agents", 3, "--first", "fax")
         self.refuses("--patience exq:9s: expected a time such as 240s, a column, or exp:240s", *words, "--agents", 3, "--patience", "exq:9s")

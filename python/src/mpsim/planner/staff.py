@@ -17,6 +17,7 @@ from . import calendar, intervals
 from .files import text_of, written
 from .pool import Queue
 from .progress import Progress
+from .roster import patience_in
 from .times import DAY, SECOND, WEEKDAYS, given, length
 from .traces import Trace
 
@@ -34,8 +35,9 @@ def words(parser):
     says = "only days of this weekday, e.g. monday; default: each weekday"
     parser.add_argument("--weekday", type=str.capitalize, choices=WEEKDAYS, metavar="DAY", help=says)
     parser.add_argument("--date", metavar="DATE", help="only this day, e.g. 2026-03-02")
-    says = "callers leave after this time, e.g. 240s, or after the ticks in this column; default: they wait"
+    says = "callers leave after this time, e.g. 240s, after the ticks in this column, or after random times of this mean: exp:240s"
     parser.add_argument("--patience", metavar="TIME", help=says)
+    parser.add_argument("--seed", type=int, default=1, metavar="N", help="seed of random patience; default: 1")
     parser.add_argument("--max-occupancy", metavar="P", help="agents work at most this share of their time, e.g. 85%%")
     parser.add_argument("--shrinkage", default="0%", metavar="P", help="share of paid time in which an agent isn't available, e.g. 30%%")
     parser.add_argument("--format", choices=["csv", "json", "md"], default="csv", help="form of the table; default: csv")
@@ -284,7 +286,10 @@ def main(args):
     goal = Goal(share, within, occupancy)
     trace = Trace.read(args.trace)
     queue = Queue(args.model, trace, args.node)
-    patience = patience_of(args.patience, trace, queue.jobs, days.tick)
+    patience = None
+    if args.patience:
+        values, _ = patience_in(args.patience, trace, days.tick, args.seed)
+        patience = [values[job - 1] for job in queue.jobs]
     every_day = intervals.days_of(days, max(queue.arrivals, default=0), every)
     calls = calls_of(every, every_day, queue.arrivals, queue.demands, patience)
     chosen = list(zip(every_day, calls))
@@ -316,17 +321,6 @@ def _groups(chosen, is_dated, date):
         return "day", [("all days", chosen)]
     by = sorted(chosen, key=lambda it: WEEKDAYS.index(it[0].weekday))
     return "weekday", [(name, list(mine)) for name, mine in groupby(by, key=lambda it: it[0].weekday)]
-
-
-def patience_of(text, trace, jobs, tick):
-    """Returns the patience (list of int, ticks) of the calls of these records (list of int, from 1) from the value of --patience: a length of time,
-    or the name of a column; None if there is no value."""
-    if text is None:
-        return None
-    if text in trace.header[2:]:
-        values = trace.numbers(text)
-        return [values[job - 1] for job in jobs]
-    return [given("--patience", length, text) // tick] * len(jobs)
 
 
 def _csv(file, head, rows):

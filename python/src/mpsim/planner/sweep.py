@@ -96,10 +96,11 @@ def _print_pools(pool_notes, how):
         say(line)
 
 
-def _scenarios(plan, shard, with_jobs):
-    """Yields the scenarios of a shard as they come, with the numbers of their models."""
+def _scenarios(plan, shard, with_jobs, again):
+    """Yields the scenarios of a shard as they come, with the numbers of their models. `again` has the paths of traces whose pools are worked out
+    again for each model."""
     trace, models = plan.shard(shard)
-    if _again(plan, trace):
+    if trace["path"] in again:
         yield from _pooled_again(plan, trace, models, with_jobs)
         return
     texts = [plan.model(model)[2].encode(errors="surrogateescape") for model in models]
@@ -133,10 +134,11 @@ def _in_memory(args):
         head[-1:-1] = [f"within_{args.within}_of_all", f"within_{args.within}_of_departed"]
     with written() as file, Progress(plan.scenarios, "scenarios") as progress:
         writer, done = csv.writer(file, lineterminator="\n"), 0
+        again = {trace["path"] for trace in plan.traces if _again(plan, trace)}
         writer.writerow(head)
         for shard in range(1, plan.shards + 1):
             trace = plan.shard(shard)[0]
-            for at, it in _scenarios(plan, shard, args.within is not None):
+            for at, it in _scenarios(plan, shard, args.within is not None, again):
                 found = shards.rows_of(plan, trace, at, it, pool_notes, args.node)
                 if args.within is not None:
                     shares = _shares(it.report, args.within, args.node) if it.report is not None else [[None, None]]
