@@ -56,15 +56,20 @@ def broken(agents, calls, outcomes, priorities=None, choose="longest-idle"):
         rules |= set(_of_call(agents, call))
     for place, mine in own.items():
         busy = [it for it in mine if it.service]
-        if any(one.end > other.begin for one, other in zip(busy, busy[1:])) or any(b.begin < z.begin < b.end for b in busy for z in mine):
+        # In the order of their turns: at one tick, none may follow a call that takes time.
+        if any(one.end > other.begin for one, other in zip(mine, mine[1:])):
             rules.add("one call at a time")
         if any(_free_ticks(agents[place - 1], busy, it.arrive, it.until) for it in every if serves(agents[place - 1], it.queue)):
             rules.add("nobody waits while a fit agent is free")
     began = [it for it in every if it.agent]
     for call in began:
         agent = agents[call.agent - 1]
-        fit = [it for it in every if serves(agent, it.queue) and key(it) < key(call) and it.arrive <= call.begin <= it.until]
-        if any(it.arrive < call.begin or call.arrive == call.begin for it in fit):
+        fit = [it for it in every if serves(agent, it.queue) and it.arrive <= call.begin <= it.until]
+        better = [it for it in fit if key(it) < key(call)]
+        if any(it.arrive < call.begin or call.arrive == call.begin for it in better):
+            rules.add("order")
+        # Who waits is served before calls arrive, whatever their priority.
+        if any(it.arrive < call.begin == call.arrive for it in fit):
             rules.add("order")
         if _better(agents, own, call, key, choose):
             rules.add("choice")

@@ -147,6 +147,13 @@ class Compared(Test):
             ([(1, 0), (0, 8), (1, 2), (2, 0)], "patience"),
         ]:
             self.assertIn(rule, broken(agents, calls, [Outcome(*it) for it in outcomes]))
+        # The agent is free again at tick 1, before the call of better priority arrives.
+        three = [Call(0, 1, "chat"), Call(0, 5, "phone"), Call(1, 9, "chat")]
+        self.assertEqual(broken([Agent()], three, [Outcome(1, 0), Outcome(1, 10), Outcome(1, 0)], {"chat": 1}), {"order"})
+        self.assertEqual(broken([Agent()], three, [Outcome(1, 0), Outcome(1, 1), Outcome(1, 5)], {"chat": 1}), set())
+        # At one tick, after a call of better priority that takes time.
+        both = [Call(0, 0, "phone"), Call(0, 1, "chat")]
+        self.assertEqual(broken([Agent()], both, [Outcome(1, 0), Outcome(1, 0)], {"chat": 1}), {"one call at a time"})
         two = [Agent(), Agent()]
         self.assertEqual(broken(two, [Call(0, 1), Call(5, 1)], [Outcome(1, 0), Outcome(1, 0)]), {"choice"})
         self.assertEqual(broken(two, [Call(0, 1), Call(5, 1)], [Outcome(1, 0), Outcome(2, 0)], choose=FIRST), {"choice"})
