@@ -82,6 +82,14 @@ class Commands(InFolder):
             self.assertRegex(said, f"planner: the model may not be trusted: .* and the model is {how}; ")
             self.assertLess(float(got[0][6]), 0.95)
 
+    def test_who_leaves_the_model(self):
+        """An answered caller waits as long as it takes; an abandoned one is served if an agent is free, and that isn't the same end."""
+        words = "validate", self.model, self.folder / "t.csv", "--node", "desk", "--agents", 1, "--wait", "wait", "--abandoned", "gone"
+        self.file("t.csv", "source,time,d,wait,gone\nphone,0,10,0,0\nphone,0,10,0,0\nphone,0,10,0,0\n")
+        self.assertEqual(self.table(*words)[0][0], ["all", "all", "3", "1.0", "1.0", "0.0", "0.3333"])
+        self.file("t.csv", "source,time,d,wait,gone\nphone,0,10,0,1\nphone,60,10,0,0\n")
+        self.assertEqual(self.table(*words)[0][0], ["all", "all", "2", "0.5", "1.0", "0.5", "0.5"])
+
     def tells_any(self, *words):
         self.assertEqual(planner(*words)[0], 0)
 
