@@ -155,6 +155,22 @@ class Command(InFolder):
         shrunk = self.table(*words, "--shrinkage", "30%")
         self.assertEqual([int(row["rostered"]) for row in shrunk], [-(-10 * int(row["agents"]) // 7) for row in every])
 
+    def test_the_pool_of_these_numbers_gives_these_figures(self):
+        """For one day: the same calls, shares, percentiles and occupancy, from the run of the whole roster."""
+        lines = WEEK[1].read_text().splitlines()
+        monday = self.file("monday.csv", "".join(f"{line}\n" for line in lines[:1] + [it for it in lines[1:] if int(it.split(",")[1]) < 86400]))
+        for more in [], ["--patience", "exp:90s", "--seed", 4]:
+            rows = self.table(WEEK[0], monday, "--node", "desk", *more)
+            counts, steps = {row["from"]: row["agents"] for row in rows}, []
+            for number in range(48):
+                time = mpsim.planner.intervals.label(number, 30 * MINUTE)
+                steps.append(f"{time}={counts.get(time, 0)}")
+            words = "pool", WEEK[0], monday, "--node", "desk", "--agents", ",".join(steps), "--choose", "first", *more
+            pooled = list(csv.DictReader(io.StringIO(self.tells(*words))))
+            names = "from", "within", "p90", "occupancy"
+            self.assertEqual([[row[name] for name in names] for row in pooled], [[row[name] for name in names] for row in rows])
+            self.assertEqual([int(row["offered"]) for row in pooled], [float(row["calls"]) for row in rows])
+
     def test_forms(self):
         words = *WEEK, "--node", "desk", "--weekday", "monday"
         rows, text = self.table(*words), self.tells("staff", *words, "--format", "json")
