@@ -43,6 +43,7 @@ class Examples(Check):
     def test_a_week_is_drawn(self):
         week = EXAMPLES / "week"
         self.did(run(week / "calls.py"), 0, week / "trace.csv")
+        self.did(run(week / "recorded.py"), 0, week / "recorded.csv")
 
 
 for folder in FOLDERS:

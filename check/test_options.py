@@ -166,7 +166,7 @@ class Planner(Check):
             self.skipTest("no bash here")
         for before, wanted in (
             ([""], sorted([*mpplan_words.COMMANDS, "--help", "--version"])),
-            (["s"], ["scale", "service", "sojourns", "sweep"]),
+            (["s"], ["scale", "service", "sojourns", "staff", "sweep"]),
             (["scale", "--shift", "5", "--source", "web", "--s"], ["--source"]),
             (["hours", "--by", ""], ["day", "each", "hour", "weekday"]),
             (["scale", "--by", ""], []),

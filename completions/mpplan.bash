@@ -4,7 +4,7 @@ _mpplan() {
     local word=${COMP_WORDS[COMP_CWORD]} i choices='' given=' ' options='' repeated=' ' left=''
     COMPREPLY=()
     if ((COMP_CWORD == 1)); then
-        COMPREPLY=($(compgen -W 'prepare scale edit pool run days table compare service hours sojourns sweep page --help --version' -- "$word"))
+        COMPREPLY=($(compgen -W 'prepare scale edit pool staff recorded validate run days table compare service hours sojourns sweep page --help --version' -- "$word"))
         return
     fi
     case ${COMP_WORDS[1]} in
@@ -22,8 +22,21 @@ _mpplan() {
             options='--model --out --edits --help'
             ;;
         pool)
-            options='--node --agents --by --out --out-model --report --within --percentile --format --csv-style --help'
-            repeated=' --within --percentile '
+            options='--node --agents --roster --first --then --choose --patience --seed --every --tick --start --zone --by --out --out-model
+                --report --within --percentile --format --csv-style --help'
+            repeated=' --first --then --within --percentile '
+            ;;
+        staff)
+            options='--node --goal --every --weekday --date --patience --seed --max-occupancy --shrinkage --format --tick --start --zone
+                --help'
+            ;;
+        recorded)
+            options='--wait --abandoned --within --every --source --model --tick --start --zone --help'
+            repeated=' --source '
+            ;;
+        validate)
+            options='--node --agents --roster --first --then --choose --wait --abandoned --within --every --tick --start --zone --help'
+            repeated=' --first --then '
             ;;
         run)
             options='--jobs --page --tick --start --zone --help'
@@ -66,9 +79,13 @@ _mpplan() {
         prepare.--twice) choices='first second order' ;;
         prepare.--duplicates) choices='drop keep' ;;
         prepare.--decimal) choices='. ,' ;;
+        pool.--choose) choices='longest-idle first' ;;
         pool.--by) choices='trunk agents' ;;
         pool.--format) choices='csv json md xlsx' ;;
         pool.--csv-style) choices='plain excel-de' ;;
+        staff.--weekday) choices='Monday Tuesday Wednesday Thursday Friday Saturday Sunday' ;;
+        staff.--format) choices='csv json md' ;;
+        validate.--choose) choices='longest-idle first' ;;
         days.--format) choices='csv json md xlsx' ;;
         days.--csv-style) choices='plain excel-de' ;;
         table.--of) choices='nodes exits visits' ;;
@@ -86,10 +103,11 @@ _mpplan() {
         sojourns.--format) choices='csv json md xlsx' ;;
         sojourns.--csv-style) choices='plain excel-de' ;;
         sweep.--csv-style) choices='plain excel-de' ;;
-        *.--agents | *.--answered | *.--begin | *.--by | *.--close | *.--code | *.--constant | *.--date | *.--date-format | *.--day | \
-            *.--delimiter | *.--demand | *.--empty | *.--encoding | *.--end | *.--every | *.--format | *.--from | *.--header | *.--labels | \
-            *.--left-out-most | *.--node | *.--open | *.--percentile | *.--pool | *.--rename | *.--set | *.--shard | *.--sheet | *.--shift | \
-            *.--skip | *.--source | *.--start | *.--tick | *.--time | *.--title | *.--until | *.--where | *.--within | *.--zone) return ;;
+        *.--abandoned | *.--agents | *.--answered | *.--begin | *.--by | *.--close | *.--code | *.--constant | *.--date | *.--date-format | \
+            *.--day | *.--delimiter | *.--demand | *.--empty | *.--encoding | *.--end | *.--every | *.--first | *.--format | *.--from | \
+            *.--goal | *.--header | *.--labels | *.--left-out-most | *.--max-occupancy | *.--node | *.--open | *.--patience | *.--percentile \
+            | *.--pool | *.--rename | *.--seed | *.--set | *.--shard | *.--sheet | *.--shift | *.--shrinkage | *.--skip | *.--source | \
+            *.--start | *.--then | *.--tick | *.--time | *.--title | *.--until | *.--wait | *.--where | *.--within | *.--zone) return ;;
     esac
     if [[ $choices ]]; then
         COMPREPLY=($(compgen -W "$choices" -- "$word"))

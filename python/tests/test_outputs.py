@@ -106,7 +106,7 @@ class Outputs(InFolder):
         tried = {(word[0], word[word.index("OUT") - 1]) for word in words}
         parsers = {name: command._parser(name)._subparsers._group_actions[0].choices[name] for name in COMMANDS}
         files = {(name, *action.option_strings) for name, parser in parsers.items() for action in parser._actions if action.metavar == "FILE"}
-        self.assertEqual({file for file in files if file[-1] not in ("--model", "--trace", "--report")}, tried)
+        self.assertEqual({file for file in files if file[-1] not in ("--model", "--trace", "--report", "--roster")}, tried)
 
 
 if __name__ == "__main__":

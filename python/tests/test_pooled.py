@@ -1,7 +1,9 @@
 """A pool of agents as a whole: in tables, sweeps and days, and in the network and the charts of a page. Expected figures come from a queue written by
 hand, and from the text of reports."""
 
+import csv
 import html
+import io
 import json
 import re
 import unittest
@@ -125,19 +127,27 @@ class Whole(WithPool):
             self.assertEqual(self.tells("sweep", "--folder", folder, "--table", "--node", "wrap").count("\n"), 2)
 
     def test_a_sweep_over_agents(self):
-        """With one agent fewer it loses calls and isn't a pool; nor is a delay of another length, as its model shows. Their rows are the report's
-        lines."""
+        """Each number of agents has the waits of its own pool, in rows and in shares, and not those in the trace."""
         model, trace, jobs, waits = self.made()
         text = text_of(model)
         model.write_text(text.replace("trunk desk 2", "trunk desk {agents}"))
-        status, out, err = planner("sweep", model, trace, "--set", "agents=1,2", "--within", 3)
-        rows = [line.split(",") for line in out.splitlines()[1:]]
-        self.assertEqual((status, [(row[2], row[5], row[6]) for row in rows][1:3]), (0, [("1", "desk_queue", "delay"), ("1", "desk", "trunk")]))
-        self.assertEqual([(row[2], row[5], row[6], row[11]) for row in rows][5:6], [("2", "desk", "pool", str(sum(waits)))])
-        alone = "".join(mpsim.run(text.replace("trunk desk 2", "trunk desk 1"), trace).lines())
-        lost = next(node["lost"] for node in nodes_of(alone) if node["name"] == "desk")
-        self.assertIn(f"mpplan: warning: desk loses {lost} calls: ", err)
-        self.assertNotIn("is a pool:", err)
+        told = "mpplan: the waits at desk are worked out again for each number of agents\n"
+        pool = "mpplan: desk is a pool: its waits are those of desk_queue\n"
+        for within in 3, sorted(waits)[50]:
+            got = self.tells("sweep", model, trace, "--set", "agents=1..4", "--within", within, "--node", "desk", error=told + pool)
+            rows = list(csv.DictReader(io.StringIO(got)))
+            words = "pool", self.folder / "net.txt", self.folder / "net.csv", "--node", "desk", "--agents", "1..4", "--within", within
+            want = list(csv.DictReader(io.StringIO(self.tells(*words))))
+            shares = [(row["agents"], row["kind"], row["p90"], row["max"], row[f"within_{within}_of_all"]) for row in rows]
+            self.assertEqual(shares, [(row["agents"], "pool", row["p90"], row["max"], row[f"within_{within}_of_all"]) for row in want])
+            self.assertGreater(len({row["wait"] for row in rows}), 2)
+        self.assertEqual(rows[1]["wait"], str(sum(waits)))
+        why = f"{trace} holds the waits at desk for one number of agents, and the models have several"
+        again = "without --folder they are worked out again for each"
+        self.refuses(f"{why}: {again}", "sweep", model, trace, "--set", "agents=1,2", "--folder", self.folder / "many")
+
+    def test_a_delay_of_another_length(self):
+        """It isn't the queue of a pool, as its model shows: its rows are the report's lines."""
         other = self.file("other.txt", "\ufeffmodel 2\r\nsource door\r\ndelay desk_queue =3 from door\r\ntrunk desk 9 d from desk_queue\r\n")
         calls, folder = self.file("other.csv", "source,time,d\ndoor,0,4\n"), self.folder / "folder"
         plain = self.tells("sweep", other, calls)

@@ -20,7 +20,7 @@ STANDARD |= {"subprocess", "sys", "threading", "time", "typing"}
 # Further modules used by the planner's commands and the pages.
 STANDARD |= {"argparse", "base64", "codecs", "datetime", "difflib", "errno", "functools", "gc", "glob", "hashlib", "heapq", "html", "json", "locale"}
 STANDARD |= {"bz2", "gzip", "lzma", "tempfile", "zipfile", "zlib"}
-STANDARD |= {"math", "operator", "secrets", "shlex", "socket", "stat", "string", "unicodedata", "zoneinfo"}
+STANDARD |= {"math", "operator", "random", "secrets", "shlex", "socket", "stat", "string", "unicodedata", "zoneinfo"}
 
 
 def module_of(name):

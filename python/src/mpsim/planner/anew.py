@@ -7,8 +7,9 @@ from ..errors import BoundError, ModelError, TraceError, VisitsError
 from ..inputs import model_input
 from ..model import nodes_of
 from ..runs import run
+from . import rostered
 from .pool import agent_lines, calls_at, columns_of, front, in_front, inputs_of, trunk_lines
-from .pooled import agents_of, queue_name
+from .pooled import agents_of, gone_name, queue_name
 
 
 class Standing(NamedTuple):
@@ -25,7 +26,8 @@ def standing(model, trace):
     """Returns the pools (list of Standing) in a model whose lines are those that `mpplan pool` writes, upstream pools first.
 
     A trunk group that loses a call of the trace (Trace) isn't a pool, since the trace was made for another number of agents; if the trace is
-    rejected, it counts as one. The model is any that `mpsim.run` accepts. An invalid model, or one that can't be read twice, has no pools.
+    rejected, it counts as one. The model is any that `mpsim.run` accepts. An invalid model, or one that can't be read twice, has no pools. Raises
+    ValueError for a pool with a roster, patience or priorities, whose agents don't follow from their number.
 
     >>> from mpsim.planner.anew import standing
     >>> from mpsim.planner.traces import Trace
@@ -41,6 +43,10 @@ def standing(model, trace):
     with contextlib.suppress(ValueError):
         nodes = {node.name: node for node in nodes_of(text)}
         found = sorted(_named(nodes), key=lambda item: len(in_front(nodes, [queue_name(item[0])])))
+    for name, *_ in found:
+        if rostered.COMMENT.format(node=name) in text.splitlines() or gone_name(name) in nodes:
+            why = "its waits hold only for the whole trace; run mpplan pool for each part"
+            raise ValueError(f"{name} is a pool with a roster, patience or priorities: {why}")
     if groups := [name for name, *_, end in found if name == end]:
         with contextlib.suppress(ModelError, TraceError, BoundError, VisitsError):
             report = run(front(text, groups), trace.lines())
@@ -63,6 +69,35 @@ def _named(nodes):
             continue
         if all(nodes.get(made.name) == made for made in nodes_of("\n".join(lines))):
             yield name, int(agents), demand, end
+
+
+def pools_in(text, trace):
+    """Returns the pools (list of Standing) in the lines of a model (str) whose agents and waits are columns of a trace (Trace), upstream pools first,
+    whatever number of agents the trace was made for. Raises ValueError for a pool with a roster, patience or priorities."""
+    with contextlib.suppress(ValueError):
+        nodes = {node.name: node for node in nodes_of(text)}
+        found = sorted(_named(nodes), key=lambda item: len(in_front(nodes, [queue_name(item[0])])))
+        there = [it for it in found if f"{it[0]}_agent" in trace.header and f"{it[0]}_wait" in trace.header]
+        return [Standing(name, agents, demand, front(text, [end])) for name, agents, demand, end in there]
+    return []
+
+
+def varied(texts, trace):
+    """Returns the names of pools (list of str) that have different numbers of agents in these models (iterable of str), and whose agents and waits
+    are columns of a trace (Trace): the trace holds for one of the numbers at most.
+
+    >>> from mpsim.planner.anew import varied
+    >>> from mpsim.planner.traces import Trace
+    >>> models = [f"model 2\\nsource door\\ndelay desk_queue desk_wait from door\\ntrunk desk {agents} talk from desk_queue\\n" for agents in (1, 2)]
+    >>> trace = Trace("t.csv", ["source", "time", "talk", "desk_agent", "desk_wait"], [])
+    >>> varied(models, trace), varied(models[:1], trace)
+    (['desk'], [])
+    """
+    numbers = {}
+    for text in texts:
+        for pool in pools_in(text, trace):
+            numbers.setdefault(pool.name, set()).add(pool.agents)
+    return [name for name, counts in numbers.items() if len(counts) > 1]
 
 
 def anew(trace, pools):

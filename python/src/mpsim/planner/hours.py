@@ -5,7 +5,7 @@ from collections import defaultdict
 
 from . import calendar, reports, sheets
 from .files import text_of
-from .service import PERCENTS, figure_words, figures, heads
+from .service import PERCENTS, figure_words, figures_of, heads
 from .times import DAY, SECOND, WEEKDAYS
 
 EXAMPLE = "mpplan hours model.txt trace.csv --node desk --within 20 >hours.csv"
@@ -49,7 +49,7 @@ def hours(visits, days, by="hour", within=(20,), percents=PERCENTS):
         waits[names[part] if by in ("hour", "weekday") else part].append(wait)
     yield ["hour" if by == "each" else by, *heads(within, percents)]
     for key in sorted(waits, key=WEEKDAYS.index if by == "weekday" else None):
-        yield [key if by in ("hour", "weekday") else names[key], *figures(waits[key], within, percents)]
+        yield [key if by in ("hour", "weekday") else names[key], *figures_of(visits, waits[key], within, percents)]
 
 
 def days_until(days, last):

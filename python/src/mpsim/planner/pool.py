@@ -15,7 +15,7 @@ from ..model import nodes_of
 from ..node_visits import NodeVisits
 from ..report import Report
 from ..runs import run
-from . import sheets
+from . import rostered, sheets
 from .files import all_written, counted, judge_outputs
 from .lengths import GREATEST_VALUE
 from .pooled import INPUTS, agent_name, end_names, pooled, queue_name
@@ -25,6 +25,7 @@ from .traces import Trace, locating_errors
 
 EXAMPLE = """mpplan pool model.txt trace.csv --node desk --agents 8..15 --within 20
          mpplan pool model.txt trace.csv --node desk --agents 12 --out pooled.csv --out-model pooled.txt
+         mpplan pool model.txt trace.csv --node desk --roster roster.csv --patience exp:240s --seed 7 --first service
          mpplan pool --report jobs.txt --node desk --within 20"""
 # The limits of a model: servers of a trunk group, nodes, and outputs of a split, each of which may lead to an agent.
 TRUNK, NODES, OUTPUTS = 255, 64, 8
@@ -34,7 +35,9 @@ def words(parser):
     parser.add_argument("model", nargs="?", help="a model with a server in the place of the pool")
     parser.add_argument("trace", nargs="?", help="its trace")
     parser.add_argument("--node", required=True, metavar="NAME", help="the server to replace by the pool; with --report, the pool")
-    parser.add_argument("--agents", metavar="C", help="number of agents who share the queue: 12, or 8..15 for a row each")
+    says = "number of agents who share the queue: 12, or 8..15 for a row each, or by the time of day: 8:00=3,10:00=5,18:00=0"
+    parser.add_argument("--agents", metavar="C", help=says)
+    rostered.words(parser)
     says = "nodes of the pool: a delay and a trunk group (trunk, the default), or a server per agent (agents)"
     parser.add_argument("--by", choices=["trunk", "agents"], default="trunk", help=says)
     parser.add_argument("--out", metavar="FILE", help="write the trace, with the agent and the wait of each call as columns")
@@ -292,7 +295,9 @@ def staffing(queue, agents, within=(20,), percents=PERCENTS, by="trunk"):
 
 def main(args):
     within, percents = args.within or (20,), args.percentile or PERCENTS
-    if args.report:
+    if rostered.is_asked(args):
+        rows = rostered.rows(args)
+    elif args.report:
         rows = _of_report(args, within, percents)
     else:
         rows = _of_agents(args, within, percents)

@@ -5,7 +5,7 @@ from array import array
 
 from ..lines import Node
 from ..model import nodes_of
-from ..node_visits import NodeVisits, percentile_of
+from ..node_visits import LOST, NodeVisits, percentile_of
 
 # The most inputs of a node.
 INPUTS = 8
@@ -19,6 +19,20 @@ def queue_name(pool):
 def agent_name(pool, number):
     """Returns the node of an agent, from 1."""
     return f"{pool}_{number}"
+
+
+def left_name(pool):
+    """Returns the split that sends callers who leave before their call begins to `gone_name`, the delay in which they wait until they leave."""
+    return f"{pool}_left"
+
+
+def gone_name(pool):
+    return f"{pool}_gone"
+
+
+def _loses(report, pool):
+    """Returns whether callers may leave the queue of a pool, in a report or among a model's nodes."""
+    return _kind(report, left_name(pool)) == "split" and _kind(report, gone_name(pool)) == "delay"
 
 
 def end_names(pool, agents):
@@ -156,7 +170,7 @@ def parts(report, pool):
     """Returns the nodes (list of str) that a pool replaces: its queue, and its trunk group or the delays that gather its agents' outputs."""
     # If nothing reads the agents' outputs, no node has the pool's name.
     ends = end_names(pool, len(agents_of(report, pool))) if _kind(report, pool) == "delay" else ()
-    return [queue_name(pool), pool, *ends]
+    return [queue_name(pool), pool, *ends, *((left_name(pool), gone_name(pool)) if _loses(report, pool) else ())]
 
 
 def names_of(report, nodes=()):
@@ -212,7 +226,8 @@ def _node(report, pool):
     util = agents[0].util if is_trunk else 10**4 * busy // (len(agents) * report.span) / 10**4 if report.span else None
     waits = None if report.visits is None else pooled(report, pool).waits()
     tail = [None] * 4 if waits is None else [percentile_of(waits, item) for item in (100, 50, 90, 99)]
-    return Node(pool, "pool", queue.in_, sum(agent.out for agent in agents), 0, agents[0].held, wait, *tail, busy, area, None, util)
+    gone = report[gone_name(pool)].in_ if _loses(report, pool) else 0
+    return Node(pool, "pool", queue.in_ + gone, sum(agent.out for agent in agents), gone, agents[0].held, wait, *tail, busy, area, None, util)
 
 
 def _of_trunk_group(report, pool):
@@ -221,7 +236,17 @@ def _of_trunk_group(report, pool):
         raise ValueError(f"{lost} calls find no free agent at {pool}: the trace was made for another number of agents")
     queue, group = report.visits[queue_name(pool)], report.visits[pool]
     waits = map(int.__sub__, queue.depart, queue.arrive)
-    return _together(pool, queue, waits, dict(zip(group.job, group.depart)))
+    found = _together(pool, queue, waits, dict(zip(group.job, group.depart)))
+    return _with_gone(found, report.visits[gone_name(pool)]) if _loses(report, pool) else found
+
+
+def _with_gone(found, gone):
+    """Returns the visits of a pool with those of callers who left, in order of arrival: they count as lost."""
+    rows = [*zip(found.arrive, found.job, found.wait, found.depart), *((arrive, job, LOST, LOST) for arrive, job in zip(gone.arrive, gone.job))]
+    every = NodeVisits(found.node)
+    for name, column in zip(("arrive", "job", "wait", "depart"), zip(*sorted(rows, key=lambda row: row[:2]))):
+        setattr(every, name, array(getattr(found, name).typecode, column))
+    return every
 
 
 def _of_agents(pool, queue, agents):

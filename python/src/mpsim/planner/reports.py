@@ -4,10 +4,25 @@ from ..node_visits import NodeVisits, Visits
 from ..report import Report
 from ..runs import run
 from .files import say
-from .pooled import names_of, pool_lines, pooled, pools, visits_at
+from .pooled import names_of, pool_lines, pooled, pools, queue_name, visits_at
 
 # No job waits or is lost at these.
 PASSED = "source", "split", "fork"
+
+
+class Passing(NodeVisits):
+    """The visits to a node at which no job waits for a server, such as a delay: it has no waits to report."""
+
+    __slots__ = ()
+
+
+def _of_delays(report, found):
+    """Returns visits (list of NodeVisits) with those to delays as Passing."""
+    for at, visits in enumerate(found):
+        if visits.node in report and report[visits.node].kind == "delay":
+            found[at] = Passing(visits.node)
+            found[at].extend(visits)
+    return found
 
 
 def words(parser, what="a report with job lines"):
@@ -44,7 +59,11 @@ def visits_of(report, args):
             raise ValueError(f"{args.report}: no node {name!r}; it has {', '.join(node.name for node in report.nodes)}")
     for line in pool_lines([report], args.node) if args.node else ():
         say(line)
-    return visits_at(report, args.node) + [pooled(report, item) for item in args.pool]
+    # A delay that holds the waits of a pool is the pool.
+    queues = {queue_name(pool): pool for pool in known}
+    names = [queues.get(name, name) for name in args.node]
+    found = [it for name in names for it in ([pooled(report, name)] if name in known else _of_delays(report, visits_at(report, [name])))]
+    return found + [pooled(report, item) for item in args.pool]
 
 
 def all_visits(report):
@@ -53,4 +72,5 @@ def all_visits(report):
     known = pools(report)
     for line in pool_lines([report]):
         say(line)
-    return visits_at(report, [name for name in names_of(report) if name in known or report[name].kind not in PASSED])
+    names = [name for name in names_of(report) if name in known or report[name].kind not in PASSED]
+    return [it for name in names for it in ([pooled(report, name)] if name in known else _of_delays(report, visits_at(report, [name])))]

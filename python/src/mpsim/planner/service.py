@@ -67,6 +67,12 @@ def figures(waits, within=(20,), percents=PERCENTS):
     return [*counts, mean, *found, greatest, *shares]
 
 
+def figures_of(visits, waits, within=(20,), percents=PERCENTS):
+    """Returns the `figures` of some waits among visits; of visits to a delay only the counts, since nobody waits there for a server."""
+    found = figures(waits, within, percents)
+    return [*found[:4], *[None] * (len(found) - 4)] if isinstance(visits, reports.Passing) else found
+
+
 def service(visits, within=(20,), percents=PERCENTS):
     """Yields the header and the rows (lists) of a table of visits (list of NodeVisits), a row each, with what `figures` returns.
 
@@ -81,7 +87,7 @@ def service(visits, within=(20,), percents=PERCENTS):
     """
     yield ["node", *heads(within, percents)]
     for visit in visits:
-        yield [visit.node, *figures(visit.wait, within, percents)]
+        yield [visit.node, *figures_of(visit, visit.wait, within, percents)]
 
 
 def main(args):

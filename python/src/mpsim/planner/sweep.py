@@ -4,16 +4,17 @@ import os
 import shlex
 
 from ..errors import Error
-from ..runs import scenarios, sweep_text
-from ..sweeps import Sweep, scenarios_of
+from ..runs import run, scenarios, sweep_text
+from ..sweeps import Scenario, Sweep, scenarios_of
 from . import shards, sheets
+from .anew import anew, pools_in, varied
 from .elsewhere import by_parallel, by_slurm
 from .files import judge_outputs, say, written
 from .pooled import PoolLines, names_of, visits_at
 from .progress import Progress
 from .scenarios import Plan, files_of, sets_of
 from .service import ticks
-from .traces import header_of, pool_warning
+from .traces import Trace, header_of, locating_errors, pool_warning
 
 EXAMPLE = """mpplan sweep model.txt trace.csv --set agents=20..40 --page sweep.html >table.csv
          mpplan sweep model.txt monday.csv --trace tuesday.csv --set agents=20..40 --folder sweep --parallel='--jobs 4' >table.csv
@@ -63,9 +64,23 @@ def _plan(args):
     judge_outputs([args.page], {"model": models, "trace": traces})
     plan = Plan.of(models, sets_of(args.set), traces, args.node)
     for trace in plan.traces:
-        if warning := pool_warning(trace["path"], header_of(trace["path"])):
+        if again := _again(plan, trace):
+            if args.folder is not None:
+                names = " and ".join(again)
+                why = f"{trace['path']} holds the waits at {names} for one number of agents, and the models have several"
+                raise ValueError(f"{why}: without --folder they are worked out again for each")
+            say(f"the waits at {' and '.join(again)} are worked out again for each number of agents")
+        elif warning := pool_warning(trace["path"], header_of(trace["path"])):
             say(warning)
     return plan
+
+
+def _again(plan, trace):
+    """Returns the pools (list of str) whose number of agents varies over the models of a plan, if the trace has their waits."""
+    header = header_of(trace["path"])
+    if pool_warning(trace["path"], header) is None:
+        return []
+    return varied((plan.model(at)[2] for at in range(plan.each)), Trace(trace["path"], header, []))
 
 
 def _shares(report, ticks, nodes):
@@ -81,15 +96,34 @@ def _print_pools(pool_notes, how):
         say(line)
 
 
-def _scenarios(plan, shard, with_jobs):
-    """Yields the scenarios of a shard as they come, with the numbers of their models."""
+def _scenarios(plan, shard, with_jobs, again):
+    """Yields the scenarios of a shard as they come, with the numbers of their models. `again` has the paths of traces whose pools are worked out
+    again for each model."""
     trace, models = plan.shard(shard)
+    if trace["path"] in again:
+        yield from _pooled_again(plan, trace, models, with_jobs)
+        return
     texts = [plan.model(model)[2].encode(errors="surrogateescape") for model in models]
     if with_jobs:
         yield from zip(models, scenarios(trace["path"], texts, jobs=True))
         return
     with sweep_text(trace["path"], texts) as stream:
         yield from zip(models, scenarios_of(stream, range(len(texts))))
+
+
+def _pooled_again(plan, trace, models, with_jobs):
+    """Yields the scenarios of models with different numbers of agents: each is run with the agents and the waits of its own number."""
+    whole = Trace.read(trace["path"])
+    for at in models:
+        label, _, text = plan.model(at)
+        try:
+            with locating_errors(whole):
+                mine = anew(whole, pools_in(text, whole))
+                report = run(text.encode(errors="surrogateescape"), mine.lines(), jobs=with_jobs)
+        except Error as error:
+            yield at, Scenario(label, error.status, None, error)
+            continue
+        yield at, Scenario(label, 0, report, None)
 
 
 def _in_memory(args):
@@ -100,10 +134,11 @@ def _in_memory(args):
         head[-1:-1] = [f"within_{args.within}_of_all", f"within_{args.within}_of_departed"]
     with written() as file, Progress(plan.scenarios, "scenarios") as progress:
         writer, done = sheets.Writer(file, args.csv_style), 0
+        again = {trace["path"] for trace in plan.traces if _again(plan, trace)}
         writer.writerow(head)
         for shard in range(1, plan.shards + 1):
             trace = plan.shard(shard)[0]
-            for at, it in _scenarios(plan, shard, args.within is not None):
+            for at, it in _scenarios(plan, shard, args.within is not None, again):
                 found = shards.rows_of(plan, trace, at, it, pool_notes, args.node)
                 if args.within is not None:
                     shares = _shares(it.report, args.within, args.node) if it.report is not None else [[None, None]]
