@@ -232,7 +232,10 @@ def _sort(made, rows, ticks):
     """Sorts the records by tick, then by source, then by time; equal ones keep the order of the export."""
     rank = {it: at for at, it in enumerate(made.names)}
     keys = [time * 64 + rank[it] for time, it in zip(ticks, rows.sources)]
-    order = sorted(sorted(range(len(keys)), key=rows.stamps.__getitem__), key=keys.__getitem__)
+    order = range(len(keys))
+    if any(map(int.__gt__, rows.stamps, islice(rows.stamps, 1, None))):
+        order = sorted(order, key=rows.stamps.__getitem__)
+    order = sorted(order, key=keys.__getitem__)
     if all(map(int.__eq__, order, range(len(keys)))):
         made.sources, made.times, made.values = rows.sources, ticks, rows.values
         return
