@@ -182,9 +182,9 @@ class Planner(Check):
             self.did(run("zsh", "-n", file))
 
     def test_words_of_its_own(self):
-        described = "\n".join(item for item in manual_section("planner", "OPTIONS") if item.startswith(".B"))
-        self.same("docs/planner.1", options_of(described), sorted(planner_words.OWN))
-        found = run(ROOT / "tools" / "planner", "--help").out.decode()
-        self.same("its help", re.findall(r"^  (?:-h, )?(--[a-z-]+)", found, flags=re.MULTILINE), list(planner_words.OWN))
-        page = re.findall(r"^\.B (\d+)$", "\n".join(manual_section("planner", "EXIT STATUS")), flags=re.MULTILINE)
+        described = "\n".join(item for item in manual_section("mpplan", "OPTIONS") if item.startswith(".B"))
+        self.same("docs/mpplan.1", options_of(described), sorted(mpplan_words.OWN))
+        found = run(ROOT / "mpplan", "--help").out.decode()
+        self.same("its help", re.findall(r"^  (?:-h, )?(--[a-z-]+)", found, flags=re.MULTILINE), list(mpplan_words.OWN))
+        page = re.findall(r"^\.B (\d+)$", "\n".join(manual_section("mpplan", "EXIT STATUS")), flags=re.MULTILINE)
         self.same("statuses", page, ["0", "1", "2", "11", "13", "130", "141"])

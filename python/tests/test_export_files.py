@@ -69,7 +69,7 @@ class Packed(InFolder):
 
 class Streams(InFolder):
     def piped(self, given, *words):
-        command = [sys.executable, "-B", ROOT / "tools" / "planner", "prepare", *words, "--time", "when", "--source", "who", "--demand", "long=d"]
+        command = [sys.executable, "-B", ROOT / "mpplan", "prepare", *words, "--time", "when", "--source", "who", "--demand", "long=d"]
         ran = subprocess.run(command, input=given, capture_output=True, cwd=self.folder, check=False)
         return ran.returncode, ran.stdout.decode()
 
@@ -81,7 +81,7 @@ class Streams(InFolder):
         self.assertEqual(list(self.folder.iterdir()), [])
         export = self.file("export.csv", ROWS.decode())
         with open(export, "rb") as file:
-            command = [sys.executable, "-B", ROOT / "tools" / "planner", "prepare", "-", "--time", "when", "--source", "who", "--demand", "long=d"]
+            command = [sys.executable, "-B", ROOT / "mpplan", "prepare", "-", "--time", "when", "--source", "who", "--demand", "long=d"]
             ran = subprocess.run(command, stdin=file, capture_output=True, check=True)
         self.assertEqual(ran.stdout.decode(), shown)
 

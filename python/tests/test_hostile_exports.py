@@ -57,7 +57,7 @@ class Large(InFolder):
 
     def test_what_has_no_end(self):
         status, peak, line = measured("prepare", "/dev/zero", "--time", "when")
-        self.assertEqual((status, line[:45]), (1, "mpplan: /dev/zero: it has NUL bytes: is it U"))
+        self.assertEqual((status, line[:44]), (1, "mpplan: /dev/zero: it has NUL bytes: is it U"))
         self.assertLess(peak, 60)
 
     def test_a_line_without_end(self):
@@ -138,7 +138,7 @@ class Started(InFolder):
         folder = type("Folder", (), {"path": "sweep"})
         words = [*elsewhere.command(folder)[:-4], "--version"]
         ran = subprocess.run(words, cwd=self.folder, capture_output=True, text=True, check=False)
-        self.assertRegex((ran.stdout + ran.stderr), r"\Aplanner \d")
+        self.assertRegex((ran.stdout + ran.stderr), r"\Ampplan \d")
 
 
 if __name__ == "__main__":

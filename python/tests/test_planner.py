@@ -25,7 +25,7 @@ from mpsim.planner.traces import Trace
 
 EXPORT = EXAMPLES / "export" / "calls.csv"
 ASKED = [EXPORT, "--date", "Datum", "--time", "Uhrzeit", "--source", "Warteschlange", "--left-out-most", "40%"]
-COMMAND = [sys.executable, "-B", ROOT / "tools" / "planner"]
+COMMAND = [sys.executable, "-B", ROOT / "mpplan"]
 
 
 class Words(Test):

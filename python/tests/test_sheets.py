@@ -63,7 +63,7 @@ class Forms(InFolder):
         library = openpyxl()
         path = self.folder / "table.xlsx"
         with open(path, "wb") as file:
-            command = [sys.executable, "-B", ROOT / "tools" / "planner", "table", JOBS, "--format", "xlsx"]
+            command = [sys.executable, "-B", ROOT / "mpplan", "table", JOBS, "--format", "xlsx"]
             subprocess.run(command, stdout=file, check=True)
         found = list(library.load_workbook(path).active.values)
         plain = [line.split(",") for line in planner("table", JOBS)[1].splitlines()]

@@ -55,7 +55,7 @@ def days_of(days, last, every):
     """Returns each Day of a Calendar, from that of tick 0 to that of tick `last` (int), with intervals of this many microseconds.
 
     >>> from mpsim.planner.calendar import Calendar
-    >>> [(it.name, it.weekday, it.begins[:3]) for it in days_of(Calendar(10**6, "2026-03-02T00:00"), 90000, 30 * MINUTE)]
+    >>> [(it.name, it.weekday, it.begins[:3]) for it in days_of(Calendar(10**9, "2026-03-02T00:00"), 90000, 30 * MINUTE)]
     [('2026-03-02', 'Monday', [0, 1800, 3600]), ('2026-03-03', 'Tuesday', [86400, 88200, 90000])]
     """
     return [Day(days, number, end, every) for number, _, end in days.midnights(last)]

@@ -185,7 +185,7 @@ def least(days, goal, progress=None):
 
     >>> from mpsim.planner.calendar import Calendar
     >>> from mpsim.planner.intervals import days_of
-    >>> day, = days_of(Calendar(10**6), 0, DAY // 2)
+    >>> day, = days_of(Calendar(10**9), 0, DAY // 2)
     >>> calls = [[Waiting(0, at, 60, None) for at in (0, 10, 20, 100)], []]
     >>> [it.agents for it in least([(day, calls)], Goal(Fraction(3, 4), 20))]
     [2, 0]
