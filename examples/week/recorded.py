@@ -16,7 +16,7 @@ from mpsim.planner.calendar import Calendar
 from mpsim.planner.roster import read_roster
 from mpsim.planner.traces import Trace
 
-trace, days = Trace.read(HERE / "trace.csv"), Calendar(10**6, "2026-03-23T00:00:00+01:00", "Europe/Berlin")
+trace, days = Trace.read(HERE / "trace.csv"), Calendar(10**9, "2026-03-23T00:00:00+01:00", "Europe/Berlin")
 times, talk, draw = trace.times(), trace.numbers("talk"), random.Random(5)
 agents, _ = read_roster(HERE / "roster.csv", days, max(times), ["calls"])
 late = [Agent([(begin + draw.randrange(120), end) for begin, end in agent.intervals]) for agent in agents]
