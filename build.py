@@ -1,17 +1,18 @@
 #!/usr/bin/env python3
-"""Proves and builds a program and the crates that it stands on, side by side: one more than there are processors, where memory allows.
+"""Proves and builds a program and the crates that it depends on, in parallel: one more at a time than there are processors, if memory allows.
 
-usage: build.py [--needed] [PROGRAM]     in any folder; mpsim where no program is named. RT names the toolchain's command, where rt is not on the path
-What has been proved before and has not changed is kept, for all programs, and so are some earlier states of each crate, for a change that is undone.
-Each crate is told on the error output as it is done.
+usage: build.py [--needed] [PROGRAM]     in any directory; PROGRAM is mpsim by default
 
-With --needed nothing is done where the program that is there is made of what its sources hold, whatever their times; and one that is there is left to
-be run, with a note, where nothing can be built. So the scripts call it.
+RT names the toolchain's command, if rt is not on the PATH. Proofs of unchanged crates are kept, for all programs, and so are some earlier states of
+each crate, in case a change is undone. Each crate is reported on stderr when it is done.
 
-Each crate is proved from nothing over the statements of those below it, as the gate does. rt itself works on one crate at a time, and
-has each crate read all proofs below it, so this gives the toolchain's own commands. The crate with the most to prove from it up to
-the program goes first. Several jobs for one crate take a quarter to three quarters more processor time for the same proofs, so a crate
-has more than one only where processors would wait for it.
+With --needed nothing is done if the existing program is built from the current sources, whatever their timestamps; and if nothing can be built, an
+existing program may still be run, with a warning. The scripts at the root use this option.
+
+Each crate is proved from scratch, from the statements of those below it, as in the gate. rt itself works on one crate at a time, and lets each crate
+read all proofs below it, so this program issues the toolchain's own commands. The crate with the most to prove from it up to the program goes first.
+Several jobs for one crate take a quarter to three quarters more CPU time for the same proofs, so a crate gets more than one only if processors would
+otherwise be idle.
 """
 import contextlib
 import fcntl
@@ -24,12 +25,12 @@ import subprocess
 import sys
 
 ROOT = os.path.dirname(os.path.realpath(__file__))
-# What is proved, whichever program it was proved for: the statements of each crate, and beside them of what they were made.
+# What is proved, for whichever program: the statements of each crate, with a record of what they were made from.
 PROVED = f"{ROOT}/crates/mpsim/out/proved"
-# Earlier states of each crate, the latest ones, by the sum of what they were proved from.
+# The latest earlier states of each crate, by the checksum of what they were proved from.
 KEPT, STATES = f"{ROOT}/crates/mpsim/out/kept", 2
 RT = os.environ.get("RT", "rt")
-# The memory, in bytes, that a check by one job is given; each further job takes less.
+# The memory, in bytes, for a check with one job; each further job needs less.
 CHECK = 2 << 30
 
 
@@ -38,7 +39,7 @@ STOPS = [signal.SIGINT, signal.SIGTERM, signal.SIGHUP]
 
 
 class Stopped(BaseException):
-    """A signal has come that ends the build."""
+    """A signal has arrived that ends the build."""
 
 
 class Unable(Exception):
@@ -46,23 +47,23 @@ class Unable(Exception):
 
 
 def tell(program, text):
-    """Puts a line on the error output, which begins with the program's name."""
+    """Prints a line on stderr, prefixed with the program's name."""
     print(f"{program}: {text}", file=sys.stderr, flush=True)
 
 
 @functools.lru_cache(maxsize=None)
 def said(*words):
-    """What a command of the toolchain tells."""
+    """Returns the output of a toolchain command."""
     if not shutil.which(RT):
-        raise Unable(f"{RT}, the toolchain's command, is not on the path")
+        raise Unable(f"{RT}, the toolchain's command, is not on the PATH")
     ran = subprocess.run([RT, *words], stdin=subprocess.DEVNULL, stdout=subprocess.PIPE, text=True)
     if ran.returncode:
-        raise Unable(f"{RT} {' '.join(words)} ends with status {ran.returncode}")
+        raise Unable(f"{RT} {' '.join(words)} failed with status {ran.returncode}")
     return ran.stdout.strip()
 
 
 def text_of(file):
-    """What a file holds: nothing, where there is none."""
+    """Returns the content of a file, empty if there is none."""
     if not os.path.isfile(file):
         return ""
     with open(file, errors="replace") as text:
@@ -70,71 +71,71 @@ def text_of(file):
 
 
 def listed():
-    """The crates of crates.txt, lowest first: of each all libraries that it names."""
+    """Returns the crates in crates.txt, lowest first, each with all libraries that it names."""
     rows = [line.split(":") for line in text_of(f"{ROOT}/crates.txt").splitlines() if line and not line.startswith("#")]
     return {name: uses.split() for name, uses in rows}
 
 
 def is_program(name):
-    """Whether a crate is a program, and no library."""
+    """Returns whether a crate is a program, not a library."""
     return os.path.isfile(f"{ROOT}/crates/{name}/src/main.rt")
 
 
 def below(name, uses):
-    """All crates of the repository that a crate stands on."""
+    """Returns all crates of the repository that a crate depends on."""
     found, left = set(), [name]
     while left:
-        new = {it for it in uses[left.pop()] if it in uses} - found
+        new = {use for use in uses[left.pop()] if use in uses} - found
         found |= new
         left += new
     return found
 
 
 def crates_of(program, uses):
-    """A program and all crates that it stands on, lowest first."""
+    """Returns a program and all crates that it depends on, lowest first."""
     needed = below(program, uses)
-    return [it for it in uses if it in needed] + [program]
+    return [use for use in uses if use in needed] + [program]
 
 
 def executable(name):
-    """Where a program stands that is built."""
+    """Returns the path of a built program."""
     return f"{ROOT}/crates/{name}/out/{name}"
 
 
 def files_of(name, parts=("src", "specs", "proofs")):
-    """The sources, definitions and proofs of a crate."""
+    """Returns the sources, definitions and proofs of a crate."""
     found = []
     for part in parts:
         for folder, _, files in os.walk(f"{ROOT}/crates/{name}/{part}"):
-            found += [f"{folder}/{it}" for it in files]
+            found += [f"{folder}/{file}" for file in files]
     return sorted(found)
 
 
 def looks_of(name):
-    """When each file of a crate was last written, and its size. One that is written again has changed, whatever it holds then."""
-    looks = [(it, os.stat(it)) for it in files_of(name)]
+    """Returns the size of each file of a crate and when it was last written. A file that is written again counts as changed, whatever its content."""
+    looks = [(file, os.stat(file)) for file in files_of(name)]
     return [(it, look.st_mtime_ns, look.st_size) for it, look in looks]
 
 
 def lines_of(name):
-    """How many lines of code a crate has."""
-    return sum(text_of(it).count("\n") for it in files_of(name) if it.endswith(".rt"))
+    """Returns the number of lines of code in a crate."""
+    return sum(text_of(file).count("\n") for file in files_of(name) if file.endswith(".rt"))
 
 
 def chains(lines, uses):
-    """How many lines are proved from each crate on up to the program, at most. The crates are given lowest first."""
+    """Returns, for each crate, the most lines proved on a path from it up to the program. The crates are given lowest first."""
     chain = {}
     for name in reversed(lines):
-        above = [chain[it] for it in chain if name in uses[it]]
+        above = [chain[item] for item in chain if name in uses[item]]
         chain[name] = lines[name] + max(above, default=0)
     return chain
 
 
 def jobs_for(name, left, running, lines, uses, most, room):
-    """How many jobs a crate has on so many processors, where memory has room for so many jobs and those in `running` are being proved, each by
-    its own: as many as it takes that fewer lines come to each job than to each of the other processors, of what can be proved beside it. What is
-    being proved is taken to be half done."""
-    beside = sum(lines[it] for it in left if it != name and name not in below(it, uses)) + sum(lines[it] // 2 for it in running)
+    """Returns how many jobs a crate gets, with this many processors, memory for this many jobs, and those in `running` being proved, each with its
+    own number. It gets enough that each job has fewer lines than each of the other processors, among what can be proved beside it. Crates being
+    proved count as half done."""
+    beside = sum(lines[item] for item in left if item != name and name not in below(item, uses)) + sum(lines[item] // 2 for item in running)
     jobs = 1
     while jobs < min(most, room - sum(running.values())) and lines[name] * (most - jobs) > beside * jobs:
         jobs += 1
@@ -142,12 +143,12 @@ def jobs_for(name, left, running, lines, uses, most, room):
 
 
 def stamps(names, uses):
-    """Of each crate a sum of what it is proved from: the toolchain, its files, and the same of the crates below it."""
+    """Returns, for each crate, a checksum of what it is proved from: the toolchain, its files, and the checksums of the crates below it."""
     version, made = said("version"), {}
     for name in names:
         total = hashlib.sha256(version.encode())
-        for it in uses[name]:
-            total.update(made.get(it, it).encode())
+        for use in uses[name]:
+            total.update(made.get(use, use).encode())
         for file in files_of(name):
             with open(file, "rb") as text:
                 total.update(repr((os.path.relpath(file, ROOT), text.read())).encode())
@@ -156,8 +157,8 @@ def stamps(names, uses):
 
 
 def made_of(program, uses):
-    """A sum of what a program is made of: what its crates stand on, and their sources and definitions. Proofs aren't among it: one that changes makes
-    no other program."""
+    """Returns a checksum of what a program is made from: what its crates depend on, and their sources and definitions. Proofs don't count, because
+    they don't change the program."""
     total = hashlib.sha256()
     for name in crates_of(program, uses):
         total.update(repr((name, uses[name])).encode())
@@ -167,33 +168,33 @@ def made_of(program, uses):
 
 
 def sum_of(file):
-    """A sum of what a file holds."""
+    """Returns the checksum of a file's content."""
     with open(file, "rb") as text:
         return hashlib.sha256(text.read()).hexdigest()
 
 
 def put(file, text):
-    """Writes a file whole, or leaves it as it was."""
+    """Writes a file completely, or leaves it as it was."""
     with open(f"{file}.part", "w") as out:
         out.write(text)
     os.replace(f"{file}.part", file)
 
 
 def record(program, made):
-    """Writes down beside a program of what it is made."""
+    """Records next to a program what it is made from."""
     put(f"{executable(program)}.made", f"{sum_of(executable(program))} {made}\n")
 
 
 def is_current(program, uses):
-    """Whether the program that is there is made of what its sources hold. That is told by its record; where it has none, as one that rt has made,
-    nothing that it is made of may have been written since, and then it is recorded."""
+    """Returns whether the existing program is made from the current sources. Its record says so; if it has none, as when rt made it, nothing that it
+    is made from may have been written since, and then it is recorded."""
     if not os.access(executable(program), os.X_OK):
         return False
     made, words = made_of(program, uses), text_of(f"{executable(program)}.made").split()
     if len(words) == 2 and words[0] == sum_of(executable(program)):
         return words[1] == made
-    files = [f"{ROOT}/crates.txt", *(it for name in crates_of(program, uses) for it in files_of(name, ["src", "specs"]))]
-    if any(os.stat(it).st_mtime_ns > os.stat(executable(program)).st_mtime_ns for it in files):
+    files = [f"{ROOT}/crates.txt", *(file for name in crates_of(program, uses) for file in files_of(name, ["src", "specs"]))]
+    if any(os.stat(file).st_mtime_ns > os.stat(executable(program)).st_mtime_ns for file in files):
         return False
     with contextlib.suppress(OSError):
         record(program, made)
@@ -201,8 +202,8 @@ def is_current(program, uses):
 
 
 def is_noted(program, uses):
-    """Whether the program is made of what its sources hold. Then what tools/looks.sh told before is noted: by it a script sees that nothing has
-    changed since."""
+    """Returns whether the program is made from the current sources. If so, it stores what tools/looks.sh printed before, by which a script sees that
+    nothing has changed since."""
     words = ["sh", "-c", 'root=$1 name=$2; . "$root/tools/looks.sh"', "sh", ROOT, program]
     looks = subprocess.run(words, stdin=subprocess.DEVNULL, stdout=subprocess.PIPE, text=True).stdout
     if not is_current(program, uses):
@@ -213,7 +214,7 @@ def is_noted(program, uses):
 
 
 def lanes():
-    """For how many jobs there are processors and memory, and for how many memory has room."""
+    """Returns for how many jobs there are processors and memory, and for how many there is memory."""
     count = len(os.sched_getaffinity(0))
     free = count * CHECK
     for line in text_of("/proc/meminfo").splitlines():
@@ -224,10 +225,10 @@ def lanes():
 
 
 def made_by(name, uses, kit, jobs):
-    """The command that proves a library by so many jobs and writes its statements, or a program and writes its code."""
+    """Returns the command that proves a library with this many jobs and writes its statements, or a program and writes its code."""
     words = [f"{kit}/bin/rattle", "build", "--crate-name", name, "src/main.rt" if is_program(name) else "src/lib.rt"]
-    for it in ["std", *uses[name]]:
-        words += ["--extern", f"{it}={PROVED if it in uses else f'{kit}/rlibs'}/{it}.rlib"]
+    for use in ["std", *uses[name]]:
+        words += ["--extern", f"{use}={PROVED if use in uses else f'{kit}/rlibs'}/{use}.rlib"]
     words += ["-L", f"dependency={kit}/rlibs", "-L", f"dependency={PROVED}", "--links", f"{name}="]
     words += ["--antt-project", f"{kit}/rattle/logic/antt-project.json", "--logic-built", f"{kit}/logic_built", "--jobs", str(jobs)]
     if is_program(name):
@@ -236,12 +237,12 @@ def made_by(name, uses, kit, jobs):
 
 
 def result_of(name):
-    """What the check of a crate leaves: the statements of a library, the code of a program."""
+    """Returns what the check of a crate produces: the statements of a library, the code of a program."""
     return f"{PROVED}/{name}.{'o' if is_program(name) else 'rlib'}"
 
 
 def remove(path):
-    """Removes a file or a folder, where it is there: a folder by another name, so that what is left of it is never taken for it."""
+    """Removes a file or a directory, if it exists: a directory under another name, so that remains of it are never mistaken for it."""
     if os.path.isdir(path):
         shutil.rmtree(f"{path}.gone", ignore_errors=True)
         os.rename(path, f"{path}.gone")
@@ -251,7 +252,7 @@ def remove(path):
 
 
 def set_aside(name):
-    """Puts what is proved of a crate among its earlier states, of which the latest stay; what isn't wholly proved goes."""
+    """Moves the proved state of a crate to its earlier states, of which the latest are kept; an incomplete one is removed."""
     stamp, states = text_of(f"{PROVED}/{name}.stamp"), f"{KEPT}/{name}"
     remove(f"{PROVED}/{name}.stamp")
     if not stamp or not os.path.exists(result_of(name)):
@@ -260,18 +261,18 @@ def set_aside(name):
     remove(f"{states}/{stamp}")
     os.rename(result_of(name), f"{states}/{stamp}")
     os.utime(f"{states}/{stamp}")
-    whole = [it for it in os.listdir(states) if not it.endswith(".gone")]
-    for it in sorted(whole, key=lambda it: -os.stat(f"{states}/{it}").st_mtime_ns)[STATES:]:
-        remove(f"{states}/{it}")
+    whole = [item for item in os.listdir(states) if not item.endswith(".gone")]
+    for each in sorted(whole, key=lambda item: -os.stat(f"{states}/{item}").st_mtime_ns)[STATES:]:
+        remove(f"{states}/{each}")
 
 
 def take_back(name, stamp):
-    """Answers whether a crate is proved from what it holds now, where an earlier state of it is taken back if it is that."""
+    """Returns whether a crate is proved from its current content, restoring an earlier state if that matches."""
     if text_of(f"{PROVED}/{name}.stamp") == stamp:
         return True
     if not os.path.exists(f"{KEPT}/{name}/{stamp}"):
         return False
-    # Out of the way of the states that go.
+    # Out of the way of the states to be removed.
     remove(f"{PROVED}/{name}.back")
     os.rename(f"{KEPT}/{name}/{stamp}", f"{PROVED}/{name}.back")
     set_aside(name)
@@ -281,8 +282,8 @@ def take_back(name, stamp):
 
 
 def begin(name, uses, kit, jobs, nice):
-    """Begins to prove a crate, by so many jobs, which give way to those that are less nice. What it was proved from before is set aside. It is a
-    session of its own, so that a Ctrl-C at the terminal comes to this build alone, which ends all checks."""
+    """Begins to prove a crate, with this many jobs, at low priority. Its earlier state is set aside. It runs in a session of its own, so that Ctrl-C
+    at the terminal reaches only this build, which then ends all checks."""
     set_aside(name)
     words, folder = ["nice", "-n", str(nice), *made_by(name, uses, kit, jobs)], f"{ROOT}/crates/{name}"
     with open(f"{PROVED}/{name}.log", "w") as log:
@@ -292,7 +293,7 @@ def begin(name, uses, kit, jobs, nice):
 
 @contextlib.contextmanager
 def unstopped():
-    """Puts off what ends the build: a check that has begun and that nobody knows yet would go on."""
+    """Defers the signals that end the build: a check that was started but not yet registered would go on."""
     signal.pthread_sigmask(signal.SIG_BLOCK, STOPS)
     try:
         yield
@@ -301,7 +302,7 @@ def unstopped():
 
 
 def end(checks):
-    """Ends these checks, with all that they started."""
+    """Ends these checks and everything that they started."""
     for check in checks:
         with contextlib.suppress(ProcessLookupError):
             os.killpg(check.pid, signal.SIGTERM)
@@ -310,34 +311,34 @@ def end(checks):
 
 
 def wait_for_one(checks):
-    """Waits until one of these processes has ended, which keeps its status. Another child that has ended is let go."""
+    """Waits until one of these processes has ended, and keeps its status. Other children that have ended are reaped."""
     while (ended := os.waitid(os.P_ALL, 0, os.WEXITED | os.WNOWAIT).si_pid) not in checks:
         os.waitpid(ended, 0)
 
 
 def prove_all(program, uses, kit):
-    """Proves all crates below the program and then the program. Answers whether all are proved."""
+    """Proves all crates below the program and then the program. Returns whether all are proved."""
     names = crates_of(program, uses)
-    lines, looks = {it: lines_of(it) for it in names}, {it: looks_of(it) for it in names}
+    lines, looks = {name: lines_of(name) for name in names}, {name: looks_of(name) for name in names}
     made, chain, (most, room) = stamps(names, uses), chains(lines, uses), lanes()
-    done = {it for it in names if take_back(it, made[it])}
-    left, running, jobs = sorted([it for it in names if it not in done], key=lambda it: -chain[it]), {}, {}
+    done = {name for name in names if take_back(name, made[name])}
+    left, running, jobs = sorted([name for name in names if name not in done], key=lambda item: -chain[item]), {}, {}
     failed = False
     if left:
-        time = ", some nine to fourteen minutes on four processors" if 2 * len(left) > len(names) else ""
+        time = ", about nine to fourteen minutes on four processors" if 2 * len(left) > len(names) else ""
         tell(program, f"proving {len(left)} of {len(names)} crates, once{time}")
     else:
         tell(program, f"all {len(names)} crates are proved; linking")
     try:
         while running or (left and not failed):
-            ready = [] if failed else [it for it in left if done >= below(it, uses)]
+            ready = [] if failed else [item for item in left if done >= below(item, uses)]
             for name in ready:
-                # One crate more than there are processors, so that none waits while a check reads, writes, or has work for one job alone.
-                if len(running) > most or sum(jobs[it] for it in running) >= room:
+                # One crate more than there are processors, so that none is idle while a check reads, writes, or has work for only one job.
+                if len(running) > most or sum(jobs[item] for item in running) >= room:
                     break
-                # What is further from the program goes first.
-                others = [it for it in [*left, *running] if chain[it] > chain[name]]
-                jobs[name] = jobs_for(name, left, {it: jobs[it] for it in running}, lines, uses, most, room)
+                # Crates further from the program go first.
+                others = [item for item in [*left, *running] if chain[item] > chain[name]]
+                jobs[name] = jobs_for(name, left, {item: jobs[item] for item in running}, lines, uses, most, room)
                 with unstopped():
                     running[name] = begin(name, uses, kit, jobs[name], min(len(others), 10))
                 left.remove(name)
@@ -349,8 +350,8 @@ def prove_all(program, uses, kit):
                     tell(program, f"{text_of(f'{PROVED}/{name}.log')}{why}")
                     failed = True
                     continue
-                if any(looks_of(it) != looks[it] for it in [name, *below(name, uses)]):
-                    tell(program, f"{name} has changed meanwhile")
+                if any(looks_of(item) != looks[item] for item in [name, *below(name, uses)]):
+                    tell(program, f"{name} was changed during the build")
                     failed = True
                     continue
                 put(f"{PROVED}/{name}.stamp", made[name])
@@ -362,7 +363,7 @@ def prove_all(program, uses, kit):
 
 
 def link(program, kit):
-    """Links the program. Answers whether it could."""
+    """Links the program. Returns whether that succeeded."""
     words = ["--target", "x86_64-unknown-linux-gnu", "--toolchain", f"{kit}/toolchain", "-o", f"{PROVED}/{program}", f"{PROVED}/{program}.o"]
     words += [f"{kit}/c/libos_c.a", f"{kit}/c/liblibc_c.a"]
     ran = subprocess.run([f"{kit}/bin/rattle-link", *words], stdin=subprocess.DEVNULL, stdout=subprocess.PIPE, stderr=subprocess.STDOUT)
@@ -372,7 +373,7 @@ def link(program, kit):
 
 
 def does_as_stored(program):
-    """Whether the linked program does what is stored with the stored example: what it writes on its output, and its status."""
+    """Returns whether the linked program gives the output and the status stored with an example."""
     folder = f"{ROOT}/crates/{program}"
     words = [f"{PROVED}/{program}", *text_of(f"{folder}/args").splitlines()]
     ran = subprocess.run(words, cwd=f"{folder}/data", stdin=subprocess.DEVNULL, stdout=subprocess.PIPE)
@@ -380,10 +381,10 @@ def does_as_stored(program):
 
 
 def build(program, uses):
-    """Proves and builds the program. Answers whether it is there."""
+    """Proves and builds the program. Returns whether it exists."""
     kit = os.path.dirname(said("doc"))
     names = crates_of(program, uses)
-    looks, made = [looks_of(it) for it in names], made_of(program, uses)
+    looks, made = [looks_of(name) for name in names], made_of(program, uses)
     if not prove_all(program, uses, kit):
         return False
     if not link(program, kit) or not does_as_stored(program):
@@ -391,14 +392,14 @@ def build(program, uses):
         return False
     os.makedirs(os.path.dirname(executable(program)), exist_ok=True)
     os.replace(f"{PROVED}/{program}", executable(program))
-    # What was changed meanwhile isn't what the program is made of.
-    if [looks_of(it) for it in names] == looks:
+    # Changes made in the meantime aren't in the program.
+    if [looks_of(name) for name in names] == looks:
         record(program, made)
     return True
 
 
 def build_alone(program, uses):
-    """Builds, while no other build does: a second one waits, of whatever program, and then finds what the first proved."""
+    """Builds while no other build does: a second one waits, whatever its program, and then finds what the first proved."""
     said("version")
     try:
         os.makedirs(PROVED, exist_ok=True)
@@ -409,19 +410,19 @@ def build_alone(program, uses):
                 tell(program, "waiting for another build")
                 fcntl.flock(lock, fcntl.LOCK_EX)
             return build(program, uses)
-    except OSError as fault:
-        raise Unable(f"{os.path.relpath(fault.filename or PROVED, ROOT)}: {fault.strerror}") from None
+    except OSError as error:
+        raise Unable(f"{os.path.relpath(error.filename or PROVED, ROOT)}: {error.strerror}") from None
 
 
 def stop(number, _):
-    """Has this build end, once: a second signal doesn't cut short how the first ends the checks."""
-    for it in STOPS:
-        signal.signal(it, signal.SIG_IGN)
+    """Ends this build, once: a second signal doesn't interrupt how the first ends the checks."""
+    for item in STOPS:
+        signal.signal(item, signal.SIG_IGN)
     raise Stopped(number)
 
 
 def main(words):
-    needed, program = words[:1] == ["--needed"], ([it for it in words if it != "--needed"] or ["mpsim"])[0]
+    needed, program = words[:1] == ["--needed"], ([word for word in words if word != "--needed"] or ["mpsim"])[0]
     if len(words) > 1 + needed or not is_program(program):
         print("usage: build.py [--needed] [PROGRAM]", file=sys.stderr)
         return 2
@@ -429,7 +430,7 @@ def main(words):
     signal.signal(signal.SIGTERM, stop)
     if signal.getsignal(signal.SIGHUP) != signal.SIG_IGN:
         signal.signal(signal.SIGHUP, stop)
-    # The status of a check is kept until it is asked for.
+    # The status of a check is kept until it is collected.
     signal.signal(signal.SIGCHLD, signal.SIG_DFL)
     uses = listed()
     try:
@@ -444,7 +445,7 @@ def main(words):
         return 128 + signal_of.args[0]
     except Unable as why:
         if needed and os.access(executable(program), os.X_OK):
-            tell(program, f"this program may be older than its sources, and can't be built anew: {why}")
+            tell(program, f"this program may be older than its sources, and can't be rebuilt: {why}")
             return 0
         tell(program, f"there is no program yet, and it can't be built: {why} (README.md, Install)" if needed else f"can't build: {why}")
         return 1

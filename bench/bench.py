@@ -1,12 +1,12 @@
 #!/usr/bin/env python3
-"""Times mpsim on large inputs beside a plain Rust yardstick, in one run, on one machine.
+"""Times mpsim on large inputs, beside a plain Rust yardstick, in one run on one machine.
 
 usage: bench.py PROGRAM [--rows N] [--runs R] [--only NAME,..] [-- WORDS..]
-PROGRAM is the built program, or the script that runs it (mpsim). WORDS are added to each call, as --workers 4. It needs
-rustc, which builds the yardstick. For each input: the least and the median time in seconds, the peak of resident memory
-in MB, and the ratio of the least time to the yardstick's least time, which has an input of one server and as many rows.
-The ratio says more than the times. The yardstick writes a report of form 1: where WORDS end with `--report 1`, and `--jobs` isn't
-among them, the report of the server is compared with its.
+
+PROGRAM is the built program, or the script that runs it (mpsim). WORDS are added to each call, such as --workers 4. rustc must be available to build
+the yardstick. For each input it prints the least and the median time in seconds, the peak of resident memory in MB, and the ratio of the least time to
+that of the yardstick, which gets an input with one server and as many rows. The ratio means more than the times. The yardstick writes a report of form
+1: if WORDS end with `--report 1` and don't contain `--jobs`, the server's report is compared with it.
 """
 import argparse
 import os

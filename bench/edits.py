@@ -1,12 +1,13 @@
 #!/usr/bin/env python3
-"""Times mpedit beside mpsim: what it costs to keep a run, and to edit a row of it.
+"""Times mpedit beside mpsim: the cost of keeping a run, and of editing one of its rows.
 
 usage: edits.py MPSIM MPEDIT [--rows N] [--runs R] [--only NAME,..]
-MPSIM and MPEDIT are the built programs. The inputs are those of bench.py, by their names. Of each input: mpsim over the trace, mpedit with
-no edit, and mpedit with an edit of one row within the first, the middle and the last hundredth of the trace, whose first demand changes. For
-each: the least time and the least processor time in seconds, the peak of resident memory in MB, and how many blocks were done again. Both
-programs read the trace and write a report, so what an edit costs is its time less that of no edit. A run without edits goes through all
-that an edit goes through but the blocks that are done again.
+
+MPSIM and MPEDIT are the built programs. The inputs are those of bench.py, by the same names. For each input it runs mpsim over the trace, mpedit with
+no edit, and mpedit with an edit of one row in the first, the middle and the last hundredth of the trace, which changes its first service time. It
+prints the least time and the least CPU time in seconds, the peak of resident memory in MB, and how many blocks were computed again. Both programs read
+the trace and write a report, so the cost of an edit is its time less that without edits. A run without edits does everything that an edit does, except
+computing blocks again.
 """
 import argparse
 import os
@@ -14,12 +15,12 @@ import tempfile
 
 from measure import INPUTS, measure, write_model, write_trace
 
-# Where the row stands that is edited, in parts of the trace.
+# The position of the edited row, as a fraction of the trace.
 PLACES = {"first": 0.005, "middle": 0.5, "last": 0.995}
 
 
 def edit_of(trace, given, rows, place):
-    """An edit of the row at a place of a trace, whose first demand is changed."""
+    """Returns an edit that changes the first service time of the row at a position of a trace."""
     number = max(1, int(rows * place))
     with open(trace) as lines:
         row = next(line for at, line in enumerate(lines) if at == number).rstrip("\n").split(",")

@@ -1,13 +1,15 @@
 #!/usr/bin/env python3
-"""Times mpsim as its input grows, over rows and over nodes, and makes the tables of docs/TIMES.md, which it prints, and docs/growth.svg.
+"""Times mpsim as its input grows, by rows and by nodes, prints the tables of docs/TIMES.md, and makes docs/growth.svg.
 
 usage: growth.py PROGRAM [--runs R] [--rows N,..] [--servers N,..] [--over N] [--workers N,..] [--keep FILE] [--out FILE]
        growth.py --numbers FILE [--out FILE]
-PROGRAM is the built program. It is run as its script runs it, with the settings of memory of tools/memory.sh, but without the milliseconds that
-the script takes. Over rows: a server, the call centre and twelve stations in a row, inputs of bench.py. Over nodes: a source and servers in a
-row, as many as --servers says (63 at most, since a network has 64 nodes), over a trace of --over rows. Each by so many workers, R times in turn,
-in form 2. Where a run fails, or writes another report than the others of its input, the series ends.
---keep writes the numbers into a file, of which --numbers makes tables and picture again; --out names the picture. Of {} it has no marks.
+
+PROGRAM is the built program. It is run as its script runs it, with the memory settings of tools/memory.sh, but without the milliseconds that the script
+takes. By rows: a server, the call centre and twelve stations in series, which are inputs of bench.py. By nodes: a source and servers in series, as many
+as --servers says (at most 63, since a network has 64 nodes), over a trace of --over rows. Each runs with each number of workers, R times in turn, in
+form 2. If a run fails, or writes another report than the others of its input, the series ends.
+
+--keep writes the numbers to a file, from which --numbers makes the tables and the picture again; --out names the picture. With the numbers {} it has no marks.
 """
 import argparse
 import json
@@ -22,30 +24,30 @@ from measure import INPUTS, Input, least, measure_small, memory_settings, proces
 PICTURE = os.path.join(os.path.dirname(os.path.dirname(os.path.abspath(__file__))), "docs", "growth.svg")
 OVER_ROWS = "server", "call-centre", "twelve"
 OVER = 250_000
-# The figures of a series, and what each is where nothing was measured.
+# The figures of a series, and the value of each if nothing was measured.
 NUMBERS = {"runs": 0, "took": 0, "others": 0, "steal": 0, "over": OVER, "rows": [], "nodes": []}
 
 
 def count(word):
-    """A whole number from 1 on."""
+    """A whole number, 1 or more."""
     if int(word) < 1:
         raise ValueError
     return int(word)
 
 
 def counts(words):
-    """Numbers between commas, the least first."""
-    return sorted(count(it) for it in words.split(","))
+    """Numbers separated by commas, in rising order."""
+    return sorted(count(part) for part in words.split(","))
 
 
 def in_a_row(servers):
-    """A source and so many servers, with the demands of the two columns by turns."""
+    """A source and this many servers, which alternate between the service times of the two columns."""
     names = ["src", *(f"s{number}" for number in range(1, servers + 1))]
     return Input(["src"], [f"server {name} {'de'[at % 2]} from {names[at]}" for at, name in enumerate(names[1:])], {"d": 9, "e": 9}, 10)
 
 
 def points_of(args, setting, name, at, model, trace):
-    """The points of an input at one size. All numbers of workers run in turn, so that a slow minute is one for all."""
+    """Returns the points of an input at one size. All numbers of workers run in turn, so that a slow minute affects them equally."""
     runs = {workers: [] for workers in args.workers}
     for workers in args.workers * args.runs:
         run = measure_small([args.program, model, trace, "--report", "2", "--workers", str(workers)], setting)
@@ -53,13 +55,13 @@ def points_of(args, setting, name, at, model, trace):
         if run.status or run.out != runs[args.workers[0]][0].out:
             told = f"status {run.status}: {run.err.decode(errors='replace').strip()}" if run.status else "another report"
             sys.exit(f"growth: {STYLES[name].name}, {at:,}, --workers {workers}: {told}")
-    points = [Point(name, at, workers, round(least(done), 6), round(max(it.megabytes for it in done), 2)) for workers, done in runs.items()]
-    print(f"{STYLES[name].name}, {at:,}:", *(f"{it.seconds:.4f}" for it in points), file=sys.stderr, flush=True)
+    points = [Point(name, at, workers, round(least(done), 6), round(max(item.megabytes for item in done), 2)) for workers, done in runs.items()]
+    print(f"{STYLES[name].name}, {at:,}:", *(f"{point.seconds:.4f}" for point in points), file=sys.stderr, flush=True)
     return points
 
 
 def series(args):
-    """Runs all, and gives the numbers of it."""
+    """Runs everything, and returns the numbers."""
     began, before, setting, rows, nodes = time.monotonic(), processors(), memory_settings(), [], []
     with tempfile.TemporaryDirectory() as folder:
         model, trace = (os.path.join(folder, name) for name in ("model", "trace"))
@@ -80,26 +82,26 @@ def series(args):
 
 
 def kept(numbers):
-    """The text of the numbers, a line for each point."""
+    """Returns the text of the numbers, a line per point."""
     parts = []
     for name, value in numbers.items():
-        points = ",\n  ".join(json.dumps(it._asdict()) for it in value) if name in ("rows", "nodes") else None
+        points = ",\n  ".join(json.dumps(item._asdict()) for item in value) if name in ("rows", "nodes") else None
         parts.append(f'"{name}": ' + (json.dumps(value) if points is None else f"[\n  {points}\n ]"))
     return "{\n " + ",\n ".join(parts) + "\n}\n"
 
 
 def read(path):
-    """The numbers of a file that --keep wrote."""
+    """Reads the numbers from a file written by --keep."""
     try:
         with open(path) as file:
             numbers = {**NUMBERS, **json.load(file)}
         for name in "rows", "nodes":
-            numbers[name] = [Point(**it) for it in numbers[name]]
-            if not all(it.input in STYLES and min(it.at, it.workers, it.seconds) > 0 for it in numbers[name]):
+            numbers[name] = [Point(**number) for number in numbers[name]]
+            if not all(number.input in STYLES and min(number.at, number.workers, number.seconds) > 0 for number in numbers[name]):
                 raise ValueError
         return numbers
-    except (OSError, TypeError, ValueError) as fault:
-        sys.exit(f"growth: {path}: {fault.strerror if isinstance(fault, OSError) else 'not what --keep writes'}")
+    except (OSError, TypeError, ValueError) as error:
+        sys.exit(f"growth: {path}: {error.strerror if isinstance(error, OSError) else 'not what --keep writes'}")
 
 
 def main():

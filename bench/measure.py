@@ -1,4 +1,4 @@
-"""What the scripts beside this one share: the inputs that mpsim is timed on, and how a run is measured."""
+"""Shared by the scripts of this directory: the inputs on which mpsim is timed, and how a run is measured."""
 import ctypes
 import os
 import random
@@ -7,14 +7,14 @@ import time
 from collections import namedtuple
 
 MEMORY = os.path.join(os.path.dirname(os.path.dirname(os.path.abspath(__file__))), "tools", "memory.sh")
-# The first word of `prctl` for a process that takes in those whose parents end, as <linux/prctl.h> has it.
+# The `prctl` option for a process that adopts orphaned descendants, from <linux/prctl.h>.
 SUBREAPER = 36
-# A shell that sets a variable, tells that it is ready, waits until its input ends, and ends while the command goes on.
+# A shell that sets a variable, reports that it is ready, waits until its input ends, and ends while the command goes on.
 BEGINS = 'export "$1"; shift; echo; read -r line; "$@" </dev/null &'
 
-# The lines of a model behind its sources, the columns of its trace and what they hold: a number below this one, or this
-# text. From one record to the next the time grows by a number below `step`, or by 1 where that is 0. The model is of this version.
-# Where a record makes several visits to a node, so many, the trace has as many fewer records: a node has no more than 1,048,576.
+# The lines of a model after its sources, the columns of its trace and their content: a random number below this one, or this text. From one record to
+# the next the time grows by a random number below `step`, or by 1 if that is 0. The model has this version. If a record visits a node several times,
+# the trace has correspondingly fewer records: a node has at most 1,048,576 visits.
 Input = namedtuple("Input", "sources lines columns step version visits", defaults=[1, 1])
 
 INPUTS = {
@@ -54,7 +54,7 @@ INPUTS = {
         {"g": 4, "kind": 2, "e": 9, "a": 5, "b": 5},
         12,
     ),
-    # twelve stations in a row, through each of which every job goes
+    # twelve stations in series, all visited by every job
     "twelve": Input(
         ["a", "b"],
         [
@@ -76,7 +76,7 @@ INPUTS = {
     ),
 }
 
-# Times are in seconds: what passed, and what processors worked.
+# Times are in seconds: wall-clock time, and CPU time.
 Measure = namedtuple("Measure", "seconds worked megabytes status out err")
 
 
@@ -112,16 +112,16 @@ def least(runs):
 
 
 def memory_settings():
-    """The settings of memory that the scripts at the top folder run their programs with, as NAME=VALUE."""
+    """Returns the memory settings with which the scripts at the root run their programs, as NAME=VALUE."""
     words = ["sh", "-c", '. "$0"; echo "GLIBC_TUNABLES=$GLIBC_TUNABLES"', MEMORY]
     return subprocess.run(words, check=True, stdout=subprocess.PIPE, text=True).stdout.rstrip("\n")
 
 
 def measure_small(words, setting):
-    """As `measure`, of a run that may take little memory, with a variable of the environment set, as NAME=VALUE.
+    """Does what `measure` does, for a run that may take little memory, with an environment variable set, as NAME=VALUE.
 
-    The system counts for a child what its parent took as it began it, of this interpreter some 15 MB. So a shell begins the run and ends at once, and
-    the run, which has no parent then, is taken in. The clock begins when the shell is ready.
+    The system counts, for a child, the memory that its parent had when starting it, some 15 MB for this interpreter. So a shell starts the run and
+    ends at once, and the orphaned run is adopted. The clock starts when the shell is ready.
     """
     if ctypes.CDLL(None, use_errno=True).prctl(SUBREAPER, 1, 0, 0, 0):
         raise OSError(ctypes.get_errno(), "no process is taken in whose parent ends")
@@ -134,12 +134,12 @@ def measure_small(words, setting):
         ends = [os.wait4(-1, 0) for _ in ("the shell", "the run")]
         seconds = time.perf_counter() - began
         shell.returncode = 0
-    status, usage = next(it[1:] for it in ends if it[0] != shell.pid)
+    status, usage = next(end[1:] for end in ends if end[0] != shell.pid)
     return Measure(seconds, usage.ru_utime + usage.ru_stime, usage.ru_maxrss / 1024, os.waitstatus_to_exitcode(status), out, err)
 
 
 def processors():
-    """What all processors of the machine worked since it began, and what its host took from them (`steal`), in seconds."""
+    """Returns the CPU time of the whole machine since it started, and the time that its host took away (`steal`), in seconds."""
     with open("/proc/stat") as file:
         user, nice, system, _, _, interrupts, soft, steal = map(int, file.readline().split()[1:9])
     ticks = os.sysconf("SC_CLK_TCK")

@@ -1,12 +1,12 @@
 #!/usr/bin/env python3
-"""Runs a program and the reference over the same random cases, and compares bytes, status and line.
+"""Runs a program and the reference over the same random cases, and compares output, status and error line byte for byte.
 
-check/compare.py --seed S --count N [--tool mpsim|mpedit|mpsweep] [--program PATH] [--threads N] [--keep FOLDER]
+usage: check/compare.py --seed S --count N [--tool mpsim|mpedit|mpsweep] [--program PATH] [--threads N] [--keep FOLDER]
 
-The program is the executable that the script of that name at the root runs, where no other is named. A case that differs is made smaller
-as long as it differs (smaller.py), and kept in a folder: its files, `words`, and of each of the two its output, line and status. After
-three of these no more are run. At the end it is told in how many cases what occurred; where one of the things that should occur in 400
-cases didn't, that is a failure too. The status is 0, or 1 after a failure. What is drawn stands in drawn.py.
+By default the program is the executable that the script of that name at the root runs. A case that differs is made smaller for as long as it still
+differs (smaller.py), and kept in a directory: its files, `words`, and the output, line and status of both sides. After three such cases the run
+stops. At the end it prints in how many cases each feature occurred; if one of the features expected in 400 cases didn't, that is a failure too. The
+status is 0, or 1 after a failure. The cases are drawn by drawn.py.
 """
 
 from __future__ import annotations
@@ -31,18 +31,18 @@ from sweep import sweep
 
 ROOT = Path(__file__).resolve().parent.parent
 REFERENCES: dict[str, Callable] = {'mpsim': simulate, 'mpedit': edit_trace, 'mpsweep': sweep}
-SECONDS = 60    # after which a program that hasn't ended is taken as one that differs
-ENOUGH = 400    # cases, in which each of the expected should occur
-MOST = 3        # cases that differ, after which no more are run
+SECONDS = 60    # after which a program that hasn't ended counts as differing
+ENOUGH = 400    # cases, in which each expected feature should occur
+MOST = 3        # differing cases, after which the run stops
 
 OF_NETWORKS = [f'a model of {LARGEST} nodes', *(f'visits to a {kind}' for kind in KINDS), 'jobs that come at one time by two ports',
                'a job that comes as another leaves', 'a job that overtakes', 'a lost job', 'a held visit', 'a job that comes twice to a join by one port',
                'a visit past the bound']
-OF_TEXTS = ['a fault in a model', 'a fault in a trace', 'a model that is cut', 'a trace that is cut']
+OF_TEXTS = ['an error in a model', 'an error in a trace', 'a model that is cut', 'a trace that is cut']
 EXPECTED = {
     'mpsim': ['status 0', 'status 2', 'status 3', 'status 4', 'status 5', 'lines of jobs', 'form 1', 'form 2',
               'several workers, and blocks of fewer jobs than there are', *OF_NETWORKS, *OF_TEXTS],
-    'mpedit': ['status 0', 'status 2', 'status 3', 'status 4', 'status 5', 'status 10', *OF_NETWORKS, *OF_TEXTS, 'a fault in edits',
+    'mpedit': ['status 0', 'status 2', 'status 3', 'status 4', 'status 5', 'status 10', *OF_NETWORKS, *OF_TEXTS, 'an error in edits',
                'a text of edits that is cut', 'a run that is refused before the edits', 'a run that is refused after the edits',
                'no block again', 'some blocks again and others not'],
     'mpsweep': ['status 0', 'status 2', 'status 11', 'scenarios of status 0', 'scenarios of status 3', 'scenarios of status 4',
@@ -51,7 +51,7 @@ EXPECTED = {
 
 
 class Result(NamedTuple):
-    """Of one case: its index, what the reference and the program answer, and what occurred."""
+    """The result of a case: its index, the answers of the reference and of the program, and the features that occurred."""
     index: int
     wanted: Answer
     given: Answer
@@ -59,7 +59,7 @@ class Result(NamedTuple):
 
 
 class Comparison:
-    """A tool, and its program."""
+    """A tool and its program."""
 
     def __init__(self, tool: str, program: Path):
         self.tool, self.program = tool, program
@@ -88,7 +88,7 @@ class Comparison:
         return reference_answer(case) != self.program_answer(case)
 
     def keep(self, case: Case, folder: Path) -> str:
-        """Keeps a case with both answers, and says what differs."""
+        """Keeps a case with both answers, and prints what differs."""
         folder.mkdir(parents=True, exist_ok=True)
         write(case, folder)
         (folder / 'words').write_text(shlex.join(case.words) + '\n')
@@ -115,7 +115,7 @@ def write(case: Case, folder: Path):
 
 
 def seen_in(network: Network) -> Iterator[str]:
-    """What occurred in a network that has run."""
+    """Returns the features that occurred in a network that has run."""
     if len(network.nodes) == LARGEST:
         yield f'a model of {LARGEST} nodes'
     for node in network.nodes:
@@ -144,7 +144,7 @@ def seen_in(network: Network) -> Iterator[str]:
 
 
 def seen_of(case: Case, answer: Answer) -> Iterator[str]:
-    """What occurred by the answer."""
+    """Returns the features shown by the answer."""
     yield f'status {answer.status}'
     lines = answer.output.splitlines()
     for line in lines:
@@ -170,7 +170,7 @@ def option_of(words: list[str], option: str, otherwise: int) -> int:
 
 
 def compare(comparison: Comparison, seed: int, count: int, threads: int, folder: Path) -> int:
-    """Compares so many cases, and says what occurred. It answers the status."""
+    """Compares this many cases, prints the features that occurred, and returns the status."""
     occurred: Counter = Counter()
     ran = differing = 0
     with ThreadPoolExecutor(threads) as pool:
@@ -188,10 +188,10 @@ def compare(comparison: Comparison, seed: int, count: int, threads: int, folder:
             following = next(indices, None)
             if following is not None:
                 running.append(pool.submit(comparison.result_of, seed, following))
-    return told(comparison.tool, ran, differing, occurred)
+    return summary(comparison.tool, ran, differing, occurred)
 
 
-def told(tool: str, ran: int, differing: int, occurred: Counter) -> int:
+def summary(tool: str, ran: int, differing: int, occurred: Counter) -> int:
     expected = EXPECTED[tool]
     for thing in [*expected, *sorted(set(occurred) - set(expected))]:
         print(f'{occurred[thing]:7} with {thing}')
@@ -213,7 +213,7 @@ def main() -> int:
     options = parser.parse_args()
     program = (options.program or ROOT / 'crates' / options.tool / 'out' / options.tool).resolve()
     if not program.is_file():
-        parser.error(f'{program} is not there: ./{options.tool} builds it when it is called first')
+        parser.error(f'{program} is not there: ./build.py {options.tool} builds it')
     folder = options.keep or Path(tempfile.gettempdir()) / f'mpsim-differs-{options.seed}'
     return compare(Comparison(options.tool, program), options.seed, options.count, options.threads, folder)
 

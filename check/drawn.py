@@ -1,6 +1,6 @@
-"""Random cases for compare.py: words and files for `mpsim`, `mpedit` and `mpsweep`. A tool, a seed and an index draw the same case always.
+"""Random cases for compare.py: arguments and files for `mpsim`, `mpedit` and `mpsweep`. A tool, a seed and an index always give the same case.
 
-Most are right, small, and full of ties: times go on by few ticks, and demands are small. Some have a fault, and some a text that is cut.
+Most are valid, small, and full of ties: times advance by few ticks, and service times are short. Some contain an error, and some a truncated text.
 """
 
 from __future__ import annotations
@@ -20,7 +20,7 @@ ODD_COMMANDS = ('', '-', '--', '--help', '--workers', '--jobs', '--made', '--wor
 
 
 class Case(NamedTuple):
-    """The words of a command, and the files that they name, as text of one character a byte. `marks` say what was done to it."""
+    """The arguments of a command, and the files that they name, as text with one character per byte. `marks` records what was done to it."""
     tool: str
     words: list[str]
     files: dict[str, str]
@@ -38,28 +38,28 @@ class Model(NamedTuple):
 
 
 class Drawing(Random):
-    """Draws, and the marks of what was drawn."""
+    """Draws random values, and records marks of what was drawn."""
 
     def __init__(self, seed: str):
         super().__init__(seed)
         self.marks: list[str] = []
 
     def chance(self, share: float, mark: Optional[str] = None) -> bool:
-        """Whether something is done that is done to this share of all."""
+        """Returns True with this probability."""
         done = self.random() < share
         if done and mark:
             self.marks.append(mark)
         return done
 
     def some(self, items, least: int, most: int) -> list:
-        """So many of the items, in any order."""
+        """Returns this many of the items, in random order."""
         return self.sample(list(items), min(len(items), self.randint(least, most)))
 
 
 # Models.
 
 class Growing:
-    """A model to which nodes are added, each of which reads outputs that nobody reads yet."""
+    """A model that grows by nodes, each of which reads outputs that no node reads yet."""
 
     def __init__(self, draw: Drawing, sources: list[str], version: int, columns: list[str]):
         self.draw, self.version, self.columns = draw, version, columns
@@ -85,7 +85,7 @@ class Growing:
         self.unread.extend((f'{name}.{output}' if output else name, origin) for output in range(outputs))
 
     def inputs(self, kind: str) -> list[tuple[str, str]]:
-        """Those of a join come from one fork, where there are such."""
+        """The inputs of a join come from one fork if possible."""
         draw = self.draw
         among = self.unread
         if kind == 'join':
@@ -138,7 +138,7 @@ class Growing:
         return []
 
 
-def model_of(draw: Drawing, sources: Optional[list[str]] = None, faults: float = 0.1, nodes: int = 0) -> Model:
+def model_of(draw: Drawing, sources: Optional[list[str]] = None, errors: float = 0.1, nodes: int = 0) -> Model:
     version = 2 if draw.chance(0.7) else 1
     nodes = nodes or (LARGEST if draw.chance(0.4) else draw.randint(1, LARGEST))
     sources = sources or draw.some(SOURCES, 1, 2)
@@ -157,7 +157,7 @@ def model_of(draw: Drawing, sources: Optional[list[str]] = None, faults: float =
     if draw.chance(0.2):
         lines.insert(draw.randint(0, len(lines)), draw.choice(('# \xff\x00', '#', '', ' \t ', '\t# x')))
     text = ended(draw, [spaced(draw, line) for line in lines])
-    if draw.chance(faults, 'a fault in a model'):
+    if draw.chance(errors, 'an error in a model'):
         text = faulty_model(draw, text)
     return Model(text, sources, named)
 
@@ -167,14 +167,14 @@ def spaced(draw: Drawing, line: str) -> str:
 
 
 def ended(draw: Drawing, lines: list[str]) -> str:
-    """The lines as a text, whose lines end in one way, with a mark in front or not."""
+    """Joins the lines with one kind of line end, with or without a byte order mark."""
     end = '\r\n' if draw.chance(0.1) else '\n'
     mark = '\xef\xbb\xbf' if draw.chance(0.05) else ''
     return mark + end.join(lines) + ('' if draw.chance(0.1) else end)
 
 
 def faulty_model(draw: Drawing, text: str) -> str:
-    """One word or line of it is another, stands twice, or is gone; or one byte is another."""
+    """Changes, repeats or removes a word or a line, or changes a byte."""
     lines = text.split('\n')
     at = draw.randrange(len(lines))
     words = lines[at].split(' ')
@@ -223,8 +223,8 @@ def number(draw: Drawing, value: int) -> str:
     return f'{value:03}' if draw.random() < 0.01 else str(value)
 
 
-def trace_of(draw: Drawing, rows: Rows, faults: float = 0.1) -> str:
-    """A trace with the columns in any order, and perhaps one that nobody reads."""
+def trace_of(draw: Drawing, rows: Rows, errors: float = 0.1) -> str:
+    """A trace with the columns in random order, and perhaps one that no node reads."""
     order = list(range(2, 2 + len(rows.columns)))
     draw.shuffle(order)
     table = [['source', 'time', *rows.columns], *rows.records]
@@ -233,7 +233,7 @@ def trace_of(draw: Drawing, rows: Rows, faults: float = 0.1) -> str:
         place = draw.randint(2, len(table[0]))
         for index, record in enumerate(table):
             record.insert(place, draw.choice(('', 'x', '"a, ""b"""', '"\r\n\n"', 'a"b', '"c"d', '-1')) if index else '"no\nte"')
-    if draw.chance(faults, 'a fault in a trace'):
+    if draw.chance(errors, 'an error in a trace'):
         faulty_records(draw, table)
     elif draw.chance(0.2):
         record = draw.choice(table)
@@ -245,7 +245,7 @@ def trace_of(draw: Drawing, rows: Rows, faults: float = 0.1) -> str:
 
 
 def faulty_records(draw: Drawing, table: list[list[str]]):
-    """One field is another, stands twice, or is gone."""
+    """Changes, repeats or removes a field."""
     record = draw.choice(table[:1] + table[1:] * 3)
     field = draw.randrange(len(record))
     odd = ('', 'x', ' 1', '+1', '-1', '1.0', '9' * 20, '0' * 21, str(2 ** 60 + 1), str(2 ** 36 + 1), str(2 ** 36), 'nobody', 'time', '"1', '1"',
@@ -256,7 +256,7 @@ def faulty_records(draw: Drawing, table: list[list[str]]):
 # Commands.
 
 def cut(draw: Drawing, share: float, what: str, text: str) -> str:
-    """The text, or in this share of all its front up to any byte."""
+    """Returns the text or, with this probability, only its beginning, cut at any byte."""
     return text[:draw.randint(0, len(text))] if draw.chance(share, f'a {what} that is cut') else text
 
 
@@ -275,7 +275,7 @@ def mpsim(draw: Drawing) -> Case:
 
 
 def faulty_words(draw: Drawing, words: list[str]) -> list[str]:
-    if draw.chance(0.05, 'a fault in the words'):
+    if draw.chance(0.05, 'an error in the words'):
         at = draw.randint(0, len(words))
         words[at:at + draw.randint(0, 1)] = [draw.choice(ODD_COMMANDS)] * draw.randint(0, 1)
     elif draw.chance(0.01):
@@ -284,9 +284,9 @@ def faulty_words(draw: Drawing, words: list[str]) -> list[str]:
 
 
 def mpedit(draw: Drawing) -> Case:
-    """Some traces have as many records as one block or two, or nearly, and small models."""
+    """Some traces have exactly or nearly as many records as one block or two, and small models."""
     large = draw.chance(0.1)
-    model = model_of(draw, faults=0.05, nodes=draw.randint(1, 4) if large else 0)
+    model = model_of(draw, errors=0.05, nodes=draw.randint(1, 4) if large else 0)
     count = draw.choice((4_095, 4_096, 4_097, 4_097, 5_000, 8_192)) if large else draw.randint(0, 40)
     rows = rows_of(draw, model.sources, model.columns, count)
     files = {'model.txt': cut(draw, 0.04, 'model', model.text), 'trace.csv': cut(draw, 0.04, 'trace', trace_of(draw, rows, 0.05)),
@@ -312,7 +312,7 @@ def edits_of(draw: Drawing, rows: Rows) -> str:
     if draw.chance(0.1):
         lines.insert(draw.randint(0, len(lines)), draw.choice(('', ' ', '\t\r')))
     text = ended(draw, lines)
-    return faulty_model(draw, text) if text and draw.chance(0.1, 'a fault in edits') else text
+    return faulty_model(draw, text) if text and draw.chance(0.1, 'an error in edits') else text
 
 
 def mpsweep(draw: Drawing) -> Case:
@@ -320,6 +320,6 @@ def mpsweep(draw: Drawing) -> Case:
     count = draw.choice((1, 2, 3, 3, 4, 5, 6, 40 if draw.chance(0.1) else 2))
     files = {f'model-{number}.txt': cut(draw, 0.03, 'model', model_of(draw, sources, 0.05).text) for number in range(1, count + 1)}
     words = ['trace.csv', *files]
-    trace = trace_of(draw, rows_of(draw, sources, list(COLUMNS), draw.randint(0, 400 if draw.chance(0.05) else 40)), faults=0.05)
+    trace = trace_of(draw, rows_of(draw, sources, list(COLUMNS), draw.randint(0, 400 if draw.chance(0.05) else 40)), errors=0.05)
     files['trace.csv'] = cut(draw, 0.05, 'trace', trace)
     return Case('mpsweep', faulty_words(draw, words), files, draw.marks)

@@ -1,8 +1,8 @@
 #!/usr/bin/env python3
-"""mpedit once more: a run over the rows of a trace, and a run from nothing over the rows that its edits make.
+"""A second implementation of mpedit: one run over the rows of a trace, and one from scratch over the edited rows.
 
-It takes the words of `mpedit` and gives the same bytes, status and line, written from docs/EDITS.md and docs/ERRORS.md over the event list
-of reference.py. The blocks of `again A of B blocks` are counted here by the words of docs/EDITS.md, from the visits of both runs.
+It takes the arguments of `mpedit` and gives the same bytes, status and error line. It is written from docs/EDITS.md and docs/ERRORS.md, on top of the
+event list in reference.py. The blocks of `again A of B blocks` are counted here as docs/EDITS.md defines them, from the visits of both runs.
 """
 
 from __future__ import annotations
@@ -20,7 +20,7 @@ COUNTED = ('source', 'server', 'delay', 'split', 'tandem', 'forkjoin')
 
 
 def edited(text: str, rows: list[Row], network: Network) -> list[Row]:
-    """The rows that the edits make of those of the trace, one edit after another."""
+    """Applies the edits to the rows of the trace, one after another."""
     if len(text) > EDIT_BYTES:
         raise Refused(10, 'edits: too long')
     rows = list(rows)
@@ -32,7 +32,7 @@ def edited(text: str, rows: list[Row], network: Network) -> list[Row]:
 
 
 def edit(words: list[str], rows: list[Row], network: Network) -> bool:
-    """Makes one edit, where it is allowed."""
+    """Applies an edit if it is valid."""
     front = {'set': 2, 'add': 1}.get(words[0])   # the words before the source
     if front is None or len(words) != front + 2 + len(network.columns):
         return False
@@ -53,7 +53,7 @@ def edit(words: list[str], rows: list[Row], network: Network) -> bool:
 
 
 def again(before: Network, after: Network) -> str:
-    """How many blocks the nodes that are counted have after the edits, and how many of them stand from the first difference on."""
+    """Returns how many blocks the counted nodes have after the edits, and how many of them lie after the first difference."""
     reached = blocks = 0
     for old, new in zip(before.nodes, after.nodes):
         if new.kind in COUNTED:
@@ -66,7 +66,7 @@ def again(before: Network, after: Network) -> str:
 
 
 def first_difference(old: Node, new: Node) -> Optional[int]:
-    """The first position at which the visits of a node differ, or only one run has one."""
+    """Returns the first position at which the visits of a node differ, or only one run has a visit."""
     for position in range(max(len(old.visits), len(new.visits))):
         if what_comes(old, position) != what_comes(new, position):
             return position
@@ -74,7 +74,7 @@ def first_difference(old: Node, new: Node) -> Optional[int]:
 
 
 def what_comes(node: Node, position: int):
-    """Of a visit: its job, when it comes, and what the node looks at of its record."""
+    """Returns, for a visit, its job, its arrival, and what the node reads from its record."""
     if position >= len(node.visits):
         return None
     visit = node.visits[position]
@@ -91,7 +91,7 @@ def run(network: Network, rows: list[Row], look: Look, when: str):
 
 
 def edit_trace(words: list[str], read: Reader, look: Look = lambda network: None) -> Answer:
-    """What `mpedit` answers to its words."""
+    """Returns the answer of `mpedit` to its arguments."""
     try:
         if len(words) != 3 or any(word.startswith('-') for word in words):
             raise Refused(2, 'usage: mpedit MODEL TRACE EDITS')

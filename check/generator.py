@@ -1,4 +1,4 @@
-"""The made inputs of `mpsim --made N`: the model and the trace that a number stands for (docs/MODEL.md, "Generated inputs")."""
+"""The generated inputs of `mpsim --made N`: the model and the trace for a number (docs/MODEL.md, "Generated inputs")."""
 
 from __future__ import annotations
 
@@ -6,7 +6,7 @@ KINDS = ('server', 'delay', 'loss', 'tandem', 'forkjoin', 'split')
 
 
 class Pcg32:
-    """The generator PCG32 (XSH RR, O'Neill 2014), from a state and with a stream."""
+    """The generator PCG32 (XSH RR, O'Neill 2014), with a state and a stream."""
 
     def __init__(self, state: int, stream: int):
         self.increment = 2 * stream + 1
@@ -17,7 +17,7 @@ class Pcg32:
         self.state = (self.state * 6_364_136_223_846_793_005 + self.increment) % 2 ** 64
 
     def below(self, count: int) -> int:
-        """A draw: the remainder of the next number of 32 bits by `count`."""
+        """Returns the next 32-bit number modulo `count`."""
         state = self.state
         self.step()
         shifted, turn = (state >> 18 ^ state) >> 27 & 0xffff_ffff, state >> 59
@@ -25,7 +25,7 @@ class Pcg32:
 
 
 def made(number: int) -> tuple[str, str]:
-    """The model and the trace, drawn in the order in which they are written."""
+    """Draws the model and the trace, in the order in which they are written."""
     draws = Pcg32(number, 1)
     return model_of(draws), trace_of(draws)
 

@@ -1,7 +1,7 @@
-"""The kinds of node: one class each. A class reads its words of a model's line, and says what is done when a job comes to the node
-and when one of its servers is done (docs/MODEL.md, the tables of lines). What is counted meanwhile is for docs/REPORT.md.
+"""The kinds of node, one class each. A class parses its words in a model's line, and says what happens when a job arrives at the node and when one of
+its servers finishes (docs/MODEL.md, the tables of lines). The counters are for docs/REPORT.md.
 
-A node asks two things of its network: `at` puts an event, and `go_on` sends a job on by an output. All times are in ticks.
+A node uses two methods of its network: `at` schedules an event, and `go_on` sends a job on through an output. All times are in ticks.
 """
 
 from __future__ import annotations
@@ -12,11 +12,11 @@ from typing import Optional
 from texts import Demand, GREATEST_VALUE, Line, Row, demand_of, name_of
 
 VISITS = 1_048_576
-DONE, COMES = 0, 1   # what an event is: a server is done, or a job comes
+DONE, COMES = 0, 1   # the kinds of event: a server finishes, or a job arrives
 
 
 class Visit:
-    """A job at a node, by the number of its record, from 1. `departed` is none as long as it is there."""
+    """A job at a node, by the number of its record, from 1. `departed` is None while it is there."""
     __slots__ = ('job', 'row', 'port', 'position', 'arrived', 'departed', 'lost')
 
     def __init__(self, job: int, row: Row, port: int, position: int, arrived: int):
@@ -28,7 +28,7 @@ class Visit:
 class Node:
     """What all kinds have in common."""
     kind = ''
-    version = 1          # of the models in which it may stand, or later ones
+    version = 1          # of the models that may contain it, or later
     least_inputs = 1
     outputs = 1
     servers = 0          # by which `util` divides
@@ -44,7 +44,7 @@ class Node:
         line.end()
 
     def read(self, line: Line):
-        """Reads the words between the name and `from`."""
+        """Parses the words between the name and `from`."""
 
     def read_service(self, line: Line):
         self.services.append(line.take(demand_of))
@@ -55,17 +55,17 @@ class Node:
         self.columns.append(line.take(name_of))
 
     def start(self, network, rank: int):
-        """Nothing has come yet."""
+        """Resets the node: nothing has arrived yet."""
         self.network, self.rank = network, rank
         self.visits: list[Visit] = []
         self.busy = self.present = self.peak = 0
         self.empty()
 
     def empty(self):
-        """Empties what the kind itself keeps."""
+        """Resets the state of the kind itself."""
 
     def come(self, job: int, row: Row, port: int, now: int):
-        """A job comes. Too many visits refuse the run, so a node that has them only counts: it lets nothing out any more."""
+        """Handles an arrival. A node with too many visits refuses the run, so it only counts further ones and lets nothing out."""
         visit = Visit(job, row, port, len(self.visits), now)
         self.visits.append(visit)
         if len(self.visits) <= VISITS:
@@ -78,13 +78,13 @@ class Node:
         raise NotImplementedError
 
     def serve(self, server: int, visit: Visit, now: int):
-        """The service of a visit begins."""
+        """Begins the service of a visit."""
         ticks = self.services[server].of(visit.row)
         self.busy += ticks
         self.network.at(now + ticks, self, DONE, server, visit.position, visit)
 
     def done(self, server: int, visit: Visit, now: int):
-        """The service of a visit has ended."""
+        """Ends the service of a visit."""
         raise NotImplementedError
 
     def depart(self, visit: Visit, now: int):
@@ -92,7 +92,7 @@ class Node:
         self.present -= 1
 
     def leave(self, visit: Visit, now: int, output: int = 0):
-        """The visit ends, and its job goes on."""
+        """Ends the visit; its job goes on."""
         self.depart(visit, now)
         self.network.go_on(self, output, visit, now)
 
@@ -101,7 +101,7 @@ class Node:
         self.leave(visit, now, 1)
 
     def bare(self, row: Row) -> int:
-        """How long a job stays at the least. What it stays longer is its waiting time."""
+        """Returns the shortest time that a job can stay. The rest is its waiting time."""
         return sum(service.of(row) for service in self.services)
 
 
@@ -113,7 +113,7 @@ class Source(Node):
 
 
 class Delay(Node):
-    """As many servers as there are jobs. They have no numbers: of several that are done the job that came first leaves first."""
+    """As many servers as there are jobs. They aren't numbered: of several that finish together, the job that arrived first leaves first."""
     kind = 'delay'
 
     def read(self, line):
@@ -127,7 +127,7 @@ class Delay(Node):
 
 
 class Trunk(Delay):
-    """A trunk group: a delay for so many jobs at a time."""
+    """A trunk group: a delay for a limited number of jobs at a time."""
     kind, version, outputs = 'trunk', 2, 2
 
     def read(self, line):
@@ -135,14 +135,14 @@ class Trunk(Delay):
         super().read(line)
 
     def arrive(self, visit, now):
-        if self.present > self.servers:   # with this one
+        if self.present > self.servers:   # including this one
             self.lose(visit, now)
         else:
             super().arrive(visit, now)
 
 
 class Queues(Node):
-    """Servers that each have a queue, first come, first served. The job in service stands in front."""
+    """Servers with a queue each, first come, first served. The job in service is first in the queue."""
 
     def empty(self):
         self.queues: list[deque[Visit]] = [deque() for _ in self.services]
@@ -153,7 +153,7 @@ class Queues(Node):
             self.serve(server, visit, now)
 
     def take_out(self, server: int, now: int) -> Visit:
-        """Who stands in front goes from the server, and the next one begins there."""
+        """Removes the first job from the server and begins the next service there."""
         visit = self.queues[server].popleft()
         if self.queues[server]:
             self.serve(server, self.queues[server][0], now)
@@ -174,7 +174,7 @@ class Server(Queues):
 
 
 class Loss(Server):
-    """A server with so many places, that of the job in service among them."""
+    """A server with a limited number of places, including the one in service."""
     kind, outputs = 'loss', 2
 
     def read(self, line):
@@ -189,8 +189,8 @@ class Loss(Server):
 
 
 class Tandem(Queues):
-    """Servers in series, with so many places each behind the first. A job that is done there stays, and blocks its server, until the
-    next one has a place."""
+    """Servers in series; each after the first has a limited number of places. A finished job stays and blocks its server until the next one has a
+    free place."""
     kind = 'tandem'
 
     def read(self, line):
@@ -216,7 +216,7 @@ class Tandem(Queues):
             self.move_on(server, now)
 
     def move_on(self, server: int, now: int):
-        """A job goes on from the server, and who is blocked before it takes its place."""
+        """A job moves on from the server, and the job blocked before it takes its place."""
         visit = self.take_out(server, now)
         if server + 1 < self.servers:
             self.queue_up(server + 1, visit, now)
@@ -228,8 +228,8 @@ class Tandem(Queues):
 
 
 class ForkJoin(Queues):
-    """Branches of servers in series. A job is in all branches at once, and leaves when it is through the last of them. The servers of
-    all branches are numbered in one row."""
+    """Branches of servers in series. A job is in all branches at once, and leaves when it has passed the last of them. The servers of all branches
+    are numbered consecutively."""
     kind = 'forkjoin'
 
     def read(self, line):
@@ -291,7 +291,7 @@ class Split(Node):
         self.leave(visit, now, self.route(visit))
 
     def route(self, visit: Visit) -> int:
-        """The output by which it goes."""
+        """Returns the output that a job takes."""
         if self.way == 'turn':
             return visit.position % self.outputs
         value = visit.row.values[self.columns[0]]
@@ -311,7 +311,7 @@ class Fork(Node):
 
 
 class Join(Node):
-    """Keeps what comes of a job, by its port, until there is something by each port; then these leave as one."""
+    """Keeps the parts of a job, by input, until one has arrived at each; then they leave as one."""
     kind, version, least_inputs = 'join', 2, 2
 
     def empty(self):

@@ -1,16 +1,16 @@
-"""The blocks of code of README.md and of the pages in docs, and the sections of the man pages."""
+"""Reads the code blocks of README.md and the pages in docs, and the sections of the man pages."""
 import collections
 import re
 from typing import NamedTuple
 
 from programs import ROOT
 
-# In the line above a block, for one that a check can't run. It isn't seen where the page is shown.
+# Marks, on the line above, a block that a check can't run. It is invisible when the page is shown.
 MARK = "<!-- not run"
 
 
 class Block(NamedTuple):
-    """A block of code: the heading that it stands below, the number of its first line, its text, and whether it is marked as one that isn't run."""
+    """A code block: the heading above it, the number of its first line, its text, and whether it is marked as not to be run."""
 
     heading: str
     line: int
@@ -19,7 +19,7 @@ class Block(NamedTuple):
 
 
 def blocks(page):
-    """The blocks of a page, in order."""
+    """Returns the blocks of a page, in order."""
     found, heading, before, begun, block = [], "", "", 0, None
     for number, line in enumerate((ROOT / page).read_text().splitlines(), 1):
         if line.startswith("```"):
@@ -37,7 +37,7 @@ def blocks(page):
 
 
 def sections(page):
-    """The texts of the blocks of a page, in order, by the heading that they stand below."""
+    """Returns the texts of the blocks of a page, in order, by heading."""
     texts = collections.defaultdict(list)
     for block in blocks(page):
         texts[block.heading].append(block.text)
@@ -45,7 +45,7 @@ def sections(page):
 
 
 def manual_section(program, name):
-    """The lines of a section of a program's man page, with dashes as they are shown."""
+    """Returns the lines of a section of a program's man page, with dashes as they are shown."""
     text = (ROOT / "docs" / f"{program}.1").read_text().replace("\\-", "-")
     sections = re.split(r"^\.SH ", text, flags=re.MULTILINE)
-    return next(it for it in sections if it.strip('"').startswith(name)).splitlines()[1:]
+    return next(section for section in sections if section.strip('"').startswith(name)).splitlines()[1:]

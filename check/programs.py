@@ -1,4 +1,4 @@
-"""How the checks run the programs, and how they compare what these do. Every file test_*.py beside this one stands on it."""
+"""Runs the programs for the checks, and compares what they do. Every file test_*.py uses it."""
 import os
 import pathlib
 import pprint
@@ -17,17 +17,17 @@ CASES = EXAMPLES / "cases"
 DESK, CALL = EXAMPLES / "desk", EXAMPLES / "callcentre"
 # The model and the trace of the smallest example.
 DESK_FILES = DESK / "model.txt", DESK / "trace.csv"
-# What runs for the name of a program: the scripts at the top folder, or executables that `use` names.
+# What runs for the name of a program: the scripts at the root, or executables set by `use`.
 SCRIPTS = {name: ROOT / name for name in ("mpsim", "mpsweep", "mpedit")}
 PROGRAMS = dict(SCRIPTS)
-# How long a run may take, in seconds, where nothing else is said.
+# The default limit for a run, in seconds.
 LONGEST = 600
-# How many lines of a difference are shown.
+# The most lines of a difference that are shown.
 SHOWN = 60
 
 
 class Ran(NamedTuple):
-    """What a run did: its command line, its status (of one that a signal ended less than 0), and what it wrote on both outputs."""
+    """The result of a run: its command line, its status (negative after a signal), and what it wrote to stdout and stderr."""
 
     command: str
     status: int
@@ -36,27 +36,27 @@ class Ran(NamedTuple):
 
 
 def use(folder):
-    """Has the executables in a folder run in place of the scripts, which build them."""
+    """Uses the executables in a directory instead of the scripts, which build them."""
     PROGRAMS.update({name: pathlib.Path(folder).resolve() / name for name in SCRIPTS})
 
 
 def executable(name):
-    """The program itself, without its script."""
+    """Returns the program itself, without its script."""
     return ROOT / "crates" / name / "out" / name if PROGRAMS[name] == SCRIPTS[name] else PROGRAMS[name]
 
 
 def run(*words, folder=ROOT, given=b"", out=None, line=None, settings=None, seconds=LONGEST):
-    """Runs a command in a folder, with these bytes on its input. A first word mpsim, mpsweep or mpedit stands for what runs by that name.
-    `out` and `line` name a file that stands in place of the output or the error output; `settings` are variables of the environment."""
+    """Runs a command in a directory, with these bytes as its input. A first word of mpsim, mpsweep or mpedit means the program used for that name.
+    `out` and `line` name files for stdout and stderr; `settings` are environment variables."""
     words = [PROGRAMS.get(words[0], words[0]), *words[1:]]
     command = "".join(f"{name}={value} " for name, value in (settings or {}).items() if name not in os.environ)
-    command += shlex.join(os.fsencode(it).decode(errors="backslashreplace") for it in words)
-    # With a colon, so that the line can be given to a shell as it stands.
+    command += shlex.join(os.fsencode(word).decode(errors="backslashreplace") for word in words)
+    # With a colon, so that the line can be pasted into a shell.
     command = f"cd {shlex.quote(str(folder))}; {command}" + f" >{out}" * bool(out) + f" 2>{line}" * bool(line)
     outputs = [open(file, "wb") if file else subprocess.PIPE for file in (out, line)]
     try:
         ran = subprocess.run(
-            [os.fsencode(it) for it in words],
+            [os.fsencode(word) for word in words],
             cwd=folder,
             input=given,
             stdout=outputs[0],
@@ -74,12 +74,12 @@ def run(*words, folder=ROOT, given=b"", out=None, line=None, settings=None, seco
 
 
 def bytes_of(text):
-    """The bytes of a text, or of the file of that path."""
+    """Returns the bytes of a text, or of the file at that path."""
     return text.read_bytes() if isinstance(text, pathlib.Path) else text.encode() if isinstance(text, str) else text
 
 
 def difference(written, wanted):
-    """What `diff -u` says of two texts."""
+    """Returns the output of `diff -u` for two texts."""
     with tempfile.TemporaryDirectory(prefix="check-") as folder:
         for name, text in ("wanted", wanted), ("written", written):
             pathlib.Path(folder, name).write_bytes(text)
@@ -91,12 +91,12 @@ def difference(written, wanted):
 
 
 def form_of(report):
-    """The words that ask for a report in its form: none for form 2."""
+    """Returns the arguments that request a report's form: none for form 2."""
     return ["--report", "1"] if bytes_of(report).startswith(b"mpsim report 1\n") else []
 
 
 def once(call):
-    """A call without arguments that is made once, whoever asks first, and answers the same to all."""
+    """Makes a call without arguments run once and return the same result to every caller."""
     lock, answers = threading.Lock(), []
 
     def answered():
@@ -109,7 +109,7 @@ def once(call):
 
 
 class Check(unittest.TestCase):
-    """A test of several cases: each is a run, or a text, that is compared with what is wanted. `cases` counts them."""
+    """A test of several cases: in each, a run or a text is compared with what is expected. `cases` counts them."""
 
     cases = 0
 
@@ -118,57 +118,57 @@ class Check(unittest.TestCase):
         self.addCleanup(shutil.rmtree, self.folder, ignore_errors=True)
 
     def file(self, name, *parts):
-        """A file of the test's own folder, with this text, which may be given in parts."""
+        """Writes a file with this text, which may be given in parts, into the test's own directory."""
         path = self.folder / name
         with open(path, "wb") as file:
-            file.writelines(bytes_of(it) for it in parts)
+            file.writelines(bytes_of(part) for part in parts)
         return path
 
-    def fail(self, told):
-        """Ends a case that differs. The files of the test are kept, in a folder that the command line then names."""
+    def fail(self, differences):
+        """Fails a case. The files of the test are kept, in the directory that the command line then names."""
         if any(self.folder.iterdir()):
             kept = tempfile.mkdtemp(prefix="check-differs-")
             shutil.copytree(self.folder, kept, symlinks=True, dirs_exist_ok=True)
-            told = told.replace(str(self.folder), kept)
-        super().fail(told)
+            differences = differences.replace(str(self.folder), kept)
+        super().fail(differences)
 
     def same(self, what, written, wanted):
-        """A case: two texts, or values, are the same."""
+        """A case: two texts or values are equal."""
         self.cases += 1
         if written != wanted:
-            texts = (bytes_of(it if isinstance(it, (bytes, str)) else pprint.pformat(it)) for it in (written, wanted))
+            texts = (bytes_of(item if isinstance(item, (bytes, str)) else pprint.pformat(item)) for item in (written, wanted))
             self.fail(f"{what}\n{difference(*texts)}")
 
     def holds(self, what, truth):
-        """A case: something holds."""
+        """A case: a condition is true."""
         self.cases += 1
         if not truth:
             self.fail(what)
 
     def did(self, ran, status=0, out=b"", line=b""):
-        """A case: a run ended with this status, and wrote these texts, or what stands in these files, byte for byte."""
+        """A case: a run ended with this status and wrote these texts, or the contents of these files, byte for byte."""
         self.cases += 1
-        out, line, told = bytes_of(out), bytes_of(line), []
+        out, line, differences = bytes_of(out), bytes_of(line), []
         for name, written, wanted in ("output", ran.out, out), ("error output", ran.line, line):
             if written != wanted:
-                told.append(f"{name}:\n{difference(written, wanted)}")
-        if told or ran.status != status:
-            self.fail("\n".join([ran.command, f"status {ran.status}" + f", wanted {status}" * (ran.status != status), *told]))
+                differences.append(f"{name}:\n{difference(written, wanted)}")
+        if differences or ran.status != status:
+            self.fail("\n".join([ran.command, f"status {ran.status}" + f", wanted {status}" * (ran.status != status), *differences]))
 
     def writes(self, report, *words, **more):
-        """mpsim writes this report with these words, and those for its form, and nothing else."""
+        """mpsim with these arguments, and those for the report's form, writes this report and nothing else."""
         self.did(run("mpsim", *words, *form_of(report), **more), 0, report)
 
     def accepts(self, *words):
-        """mpsim takes these words: it writes some report of form 2."""
+        """mpsim accepts these arguments: it writes a report of form 2."""
         ran = run("mpsim", *words)
         self.did(ran._replace(out=ran.out[: ran.out.find(b"\n") + 1]), 0, "mpsim report 2\n")
         return ran
 
     def refuses(self, status, line, *words, **more):
-        """A program refuses these words, of which the first names it, with a status and a line, and writes nothing else."""
+        """A program rejects these arguments, the first of which names it, with a status and an error line, and writes nothing else."""
         self.did(run(*words, **more), status, "", line + "\n")
 
     def mutely(self, status, out, *words):
-        """With a full error output a program ends with this status, and writes what it writes otherwise."""
+        """If stderr is full, a program ends with this status and writes what it otherwise writes."""
         self.did(run(*words, line="/dev/full"), status, out)

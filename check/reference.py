@@ -1,10 +1,10 @@
 #!/usr/bin/env python3
-"""mpsim once more, as a plain sequential event list: what the program's answers are compared with.
+"""A second implementation of mpsim as a plain sequential event list, with which the program's answers are compared.
 
-It is a check, for reading, and no second engine. It takes the words of `mpsim` and gives the same bytes, status and line, written from
-docs/MODEL.md, docs/REPORT.md and docs/ERRORS.md alone. A heap has the events; nodes.py has a class for each kind of node, texts.py reads
-models, traces and words, and generator.py draws made inputs. `--workers` and `--block` are judged and change nothing here. Want of memory
-and faults of the output it doesn't answer.
+It is written to be read, not as a second engine. It takes the arguments of `mpsim` and gives the same bytes, status and error line, from
+docs/MODEL.md, docs/REPORT.md and docs/ERRORS.md alone. A heap holds the events; nodes.py has a class for each kind of node, texts.py reads models,
+traces and arguments, and generator.py draws generated inputs. `--workers` and `--block` are checked but change nothing here. It doesn't model lack of
+memory or errors of the output.
 """
 
 from __future__ import annotations
@@ -23,13 +23,13 @@ MODEL_BYTES, NODES = 65_536, 64
 
 
 class Network:
-    """The nodes of a model by rank, and in a run the events that are pending."""
+    """The nodes of a model by rank and, during a run, the pending events."""
 
     def __init__(self, version: int, bound: int, declared: list[Node]):
         self.version, self.bound = version, bound
         self.columns = list(dict.fromkeys(column for node in declared for column in node.columns))
         by_name = {node.name: node for node in declared}
-        self.readers: dict[tuple[str, int], tuple[Node, int]] = {}   # who reads an output, by which port
+        self.readers: dict[tuple[str, int], tuple[Node, int]] = {}   # the reader of each output, and at which input
         for node in declared:
             for port, (name, output) in enumerate(node.inputs):
                 if name not in by_name or output >= by_name[name].outputs:
@@ -43,10 +43,10 @@ class Network:
         self.nodes = ranked(declared)
 
     def run(self, rows: list[Row]):
-        """Runs until nothing is pending."""
+        """Runs until no event is pending."""
         self.events: list[tuple] = []
         self.span = self.sent = 0
-        self.exits: dict[tuple[str, int], list[int]] = {}   # the times in the network of those who left it, by output
+        self.exits: dict[tuple[str, int], list[int]] = {}   # the times in the network of jobs that left it, by output
         for rank, node in enumerate(self.nodes):
             node.start(self, rank)
         for job, row in enumerate(rows, 1):
@@ -59,7 +59,7 @@ class Network:
                 self.nodes[rank].come(*whom, where, self.span)
 
     def judge(self):
-        """Refuses the run for the first node that has too many visits, or else a visit past the bound, the first by position."""
+        """Refuses the run for the first node with too many visits, else for a visit past the bound, the first by position."""
         for node in self.nodes:
             if len(node.visits) > VISITS:
                 raise Refused(9, f'node {node.name} has {len(node.visits)} visits')
@@ -68,12 +68,12 @@ class Network:
                     raise Refused(5, f'node {node.name} position {visit.position} passes the bound at time {visit.departed}')
 
     def at(self, time: int, node: Node, what: int, where: int, turn: int, whom):
-        """Puts an event. At one time the node of lower rank goes first; at one node what is done goes before who comes, by server, and
-        who comes by port; then they go by turns, which are positions or the order of sending (docs/MODEL.md, "Who goes first")."""
+        """Schedules an event. At equal times the node of lower rank goes first; at a node, departures go before arrivals, departures by server and
+        arrivals by input; then by turn, which is the position or the order of sending (docs/MODEL.md, "Who goes first")."""
         heapq.heappush(self.events, (time, node.rank, what, where, turn, whom))
 
     def go_on(self, node: Node, output: int, visit: Visit, now: int):
-        """A job goes to the node that reads the output, or leaves the network."""
+        """Sends a job to the node that reads the output, or out of the network."""
         if (node.name, output) in self.readers:
             reader, port = self.readers[node.name, output]
             self.sent += 1
@@ -83,7 +83,7 @@ class Network:
 
 
 def ranked(declared: list[Node]) -> list[Node]:
-    """Again and again the first declared node whose inputs are all ranked comes next."""
+    """Ranks the nodes: next always comes the first declared node whose inputs are all ranked."""
     order: list[Node] = []
     names: set[str] = set()
     while len(order) < len(declared):
@@ -97,7 +97,7 @@ def ranked(declared: list[Node]) -> list[Node]:
 
 
 def read_model(text: str) -> Network:
-    """The network that a model declares."""
+    """Returns the network that a model declares."""
     if len(text) > MODEL_BYTES:
         raise Refused(3, f'model: longer than {MODEL_BYTES} bytes')
     version, bound, declared, columns = 0, None, [], set()
@@ -131,7 +131,7 @@ def read_model(text: str) -> Network:
 
 
 def report(network: Network, rows: list[Row], form: int = 2, jobs: bool = False) -> Iterator[str]:
-    """The lines of the report of a network that has run over the rows (docs/REPORT.md)."""
+    """Yields the lines of the report of a network that has run over the rows (docs/REPORT.md)."""
     yield f'mpsim report {form}'
     yield f'jobs {len(rows)} span {network.span}'
     for node in network.nodes:
@@ -174,12 +174,12 @@ def node_line(node: Node, network: Network, form: int) -> str:
 
 
 def percentile(waits: list[int], share: int) -> int:
-    """The least of the sorted waits that at least so many of 100 don't exceed; 0 where there are none."""
+    """Returns the lowest of the sorted waits that at least this many percent don't exceed; 0 if there are none."""
     return waits[(share * len(waits) + 99) // 100 - 1] if waits else 0
 
 
 def utilisation(node: Node, span: int) -> str:
-    """Busy time over servers times span, cut off behind four digits."""
+    """Returns busy time / (servers × span), truncated to four digits."""
     if not node.servers:
         return '-'
     share = 10_000 * node.busy // (node.servers * span) if span else 0
@@ -187,20 +187,20 @@ def utilisation(node: Node, span: int) -> str:
 
 
 class Answer(NamedTuple):
-    """How a program ends: its status, and what it writes on its output and on its error output."""
+    """How a program ends: its status, and what it writes to stdout and stderr."""
     status: int
     output: str
     error: str
 
 
-Reader = Callable[[str], Optional[bytes]]   # the content of a file, or none where it can't be read
+Reader = Callable[[str], Optional[bytes]]   # the content of a file, or None if it can't be read
 
 
-Look = Callable[[Network], None]            # what is shown each network when it has run, and before it is judged
+Look = Callable[[Network], None]            # is called with each network after its run, before it is judged
 
 
 def simulate(words: list[str], read: Reader, look: Look = lambda network: None) -> Answer:
-    """What `mpsim` answers to its words."""
+    """Returns the answer of `mpsim` to its arguments."""
     try:
         settings = settings_of(words)
         texts = texts_of(settings, read)
@@ -215,7 +215,7 @@ def simulate(words: list[str], read: Reader, look: Look = lambda network: None) 
 
 
 def texts_of(settings: Settings, read: Reader) -> Iterator[str]:
-    """The model, and then, when that has been judged, the trace."""
+    """Returns the model and then, once the model has been checked, the trace."""
     if settings.made is not None:
         yield from made(settings.made)
     for name, what in zip(settings.names, ('the model', 'the trace')):
@@ -238,7 +238,7 @@ def read_file(name: str) -> Optional[bytes]:
 
 
 def main(program: str, answer_of: Callable[[list[str], Reader], Answer]) -> int:
-    """Runs a program of this folder over its words, and answers its status."""
+    """Runs a program of this directory on its arguments, and returns its status."""
     try:
         words = [os.fsencode(word).decode('utf-8') for word in sys.argv[1:]]
     except UnicodeDecodeError:

@@ -1,4 +1,4 @@
-"""Refuses the programs memory and threads, one allocation after another, by refuse.c."""
+"""Refuses memory and threads to the programs, one allocation after another, with refuse.c."""
 import atexit
 import pathlib
 import shutil
@@ -10,7 +10,7 @@ from programs import CHECKS, executable, once, run
 
 @once
 def library():
-    """What refuses, built with the compiler of the kit: it is loaded before a program's own libraries."""
+    """The library that refuses, built with the toolchain's compiler: it is loaded before a program's own libraries."""
     folder = tempfile.mkdtemp(prefix="check-")
     atexit.register(shutil.rmtree, folder, ignore_errors=True)
     kit = pathlib.Path(subprocess.run(["rt", "doc"], stdout=subprocess.PIPE, text=True, check=True).stdout.strip()).parent / "toolchain"
@@ -20,8 +20,8 @@ def library():
 
 
 def refusing(check, name, *words, line=None, **settings):
-    """Runs a program in whose run this is refused: REFUSED, the number of an allocation, or THREADS, all threads behind so many. What it did, and
-    whether anything was refused."""
+    """Runs a program with something refused: REFUSED, the number of an allocation, or THREADS, the number of threads allowed. Returns what it did,
+    and whether anything was refused."""
     told = check.folder / "told"
     settings = {"LD_PRELOAD": library(), "TOLD": str(told), **settings}
     ran = run(executable(name), *words, settings=settings, line=line, seconds=60)
@@ -29,8 +29,8 @@ def refusing(check, name, *words, line=None, **settings):
 
 
 def each_refused(check, status, out, name, *words):
-    """Each allocation is refused in turn: the program ends with status 8, its line and nothing written, or with this status and output, as where none
-    is refused."""
+    """Refuses each allocation in turn: the program must end with status 8, its error line and no output, or with this status and output, as when
+    nothing is refused."""
     number, refused = 0, True
     while refused:
         number += 1
@@ -43,6 +43,6 @@ def each_refused(check, status, out, name, *words):
 
 
 def first_refused_mutely(check, name, *words):
-    """The first allocation is refused, and the error output is full."""
+    """Refuses the first allocation while stderr is full."""
     ran, _ = refusing(check, name, *words, line="/dev/full", REFUSED="1")
     check.did(ran, 8)

@@ -1,5 +1,5 @@
-// What refuses the program that loads it one allocation, that of the number REFUSED, from 1, or each thread behind the first THREADS.
-// The file TOLD is there afterwards exactly where it has refused. refusals.py builds it with the kit's compiler, which has no headers.
+// Refuses the program that loads it one allocation, number REFUSED (from 1), or all threads after the first THREADS.
+// It creates the file TOLD when it has refused something. refusals.py builds it with the toolchain's compiler, which has no headers.
 typedef unsigned long size;
 
 extern void *__libc_malloc(size), *__libc_calloc(size, size), *__libc_realloc(void *, size), *__libc_memalign(size, size);
@@ -25,7 +25,7 @@ __attribute__((constructor)) static void begin(void) {
 }
 
 static int refuses(void) {
-    // before the program begins the loader's own allocations aren't counted
+    // the loader's own allocations, before the program begins, aren't counted
     if (refused == 0 || __atomic_add_fetch(&count, 1, __ATOMIC_SEQ_CST) != refused) {
         return 0;
     }
@@ -57,6 +57,6 @@ int pthread_create(size *thread, const void *how, void *(*run)(void *), void *wi
         creat(told, 0600);
         return NO_THREAD;
     }
-    // the next library's function of this name, which is the C library's
+    // the function of this name in the next library, which is the C library
     return ((starts *)dlsym((void *)-1, "pthread_create"))(thread, how, run, with);
 }

@@ -1,13 +1,14 @@
-"""The rules of queues that docs/MODEL.md has recipes for, as simulations that go tick by tick: they know no recurrence, and share no line with a recipe."""
+"""The queueing rules of docs/MODEL.md's recipes, as simulations that advance tick by tick: they use no recurrence, and share no code with a
+recipe."""
 import collections
 import random
 
-# A job as it comes to a queue: with `back` it comes a second time, for that demand.
+# A job on arrival at a queue; with `back` it returns once, for that service time.
 Job = collections.namedtuple("Job", "time number demand urgent back", defaults=(False, 0))
 
 
 def drawn(seed, sources, *ranges, jobs=40):
-    """Rows of jobs, many of them at one time: source, time and a number of each range."""
+    """Draws rows of jobs, many of them at equal times: a source, a time and a number from each range."""
     draw, now, rows = random.Random(seed), 0, []
     for _ in range(jobs):
         now += draw.choice([0, 0, 1, 2, 3])
@@ -16,16 +17,16 @@ def drawn(seed, sources, *ranges, jobs=40):
 
 
 def queued(rows, inputs, **more):
-    """The jobs of a trace as they come: by time, then by the order of the inputs, then as they stand in the file."""
+    """Returns the jobs of a trace in order of arrival: by time, then by the order of the inputs, then as in the file."""
     order = sorted(range(len(rows)), key=lambda i: (rows[i][1], inputs.index(rows[i][0])))
     return [Job(rows[i][1], i + 1, rows[i][2], **{name: of(rows[i]) for name, of in more.items()}) for i in order]
 
 
 def simulated(jobs, servers=1, urgent_first=False, places=None):
-    """Tick by tick: the wait and the departure of each job at one queue with so many servers; None where all places are taken.
+    """Simulates tick by tick, and returns the wait and the departure of each job at one queue with this many servers; None if all places are taken.
 
-    A job that is done leaves before another comes. One with `back` comes again when it leaves, behind those who come then, with
-    that demand and the number -number.
+    A finished job leaves before another arrives. One with `back` returns when it leaves, after the arrivals of that moment, with that service time
+    and the number -number.
     """
     comes, line, busy, ends, now = collections.deque(jobs), [], [], {}, 0
     while comes or line or busy:
@@ -47,8 +48,8 @@ def simulated(jobs, servers=1, urgent_first=False, places=None):
 
 
 def blocked(jobs, places):
-    """Tick by tick: when each job leaves the second of two machines, where `back` is its demand, and which has so many places with
-    the one in work. A job that the first is done with stays there until the second has a place."""
+    """Simulates tick by tick, and returns when each job leaves the second of two machines, whose service time is `back` and which has this many
+    places, including the one in work. A job finished at the first stays there until the second has a place."""
     line, first, second, ends, now = collections.deque(jobs), [], [], {}, 0
     while len(ends) < len(jobs):
         before = None

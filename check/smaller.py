@@ -1,4 +1,4 @@
-"""Makes a case smaller as long as it differs: nodes, rows, edits, lines and words are taken away, many at a time first and then one."""
+"""Makes a case smaller for as long as it still differs: it removes nodes, rows, edits, lines and words, first many at a time and then one by one."""
 
 from __future__ import annotations
 
@@ -12,7 +12,7 @@ SECONDS = 40
 
 
 def smaller(case: Case, differs: Callable[[Case], bool]) -> Case:
-    """A case that differs, of which nothing can be taken away alone, or what is left after so many seconds."""
+    """Returns a differing case from which no single thing can be removed, or what is left after this many seconds."""
     end = monotonic() + SECONDS
     found = True
     while found:
@@ -27,7 +27,7 @@ def smaller(case: Case, differs: Callable[[Case], bool]) -> Case:
 
 
 def candidates(case: Case) -> Iterator[Case]:
-    """What is left of a case where something is taken away."""
+    """Yields the case with something removed."""
     for count in (8, 4, 2, 1):
         for at in range(len(case.words) - count + 1):
             yield with_words(case, case.words[:at] + case.words[at + count:])
@@ -43,7 +43,7 @@ def candidates(case: Case) -> Iterator[Case]:
 
 
 def with_words(case: Case, words: list[str]) -> Case:
-    """The case with these words, and the files that they name."""
+    """Returns the case with these words, and the files that they name."""
     return case._replace(words=words, files={name: text for name, text in case.files.items() if name in words})
 
 
@@ -52,7 +52,7 @@ def with_file(case: Case, name: str, lines: list[str]) -> Case:
 
 
 def without_node(lines: list[str]) -> Iterator[list[str]]:
-    """The lines of a model without one node, where the first who reads it reads what it read; who has no input left is gone too."""
+    """Returns the lines of a model without one node: its first reader reads its inputs, and nodes left without inputs are removed too."""
     for at, line in enumerate(lines):
         words = line.split()
         if 'from' in words[2:]:

@@ -1,7 +1,7 @@
 #!/usr/bin/env python3
-"""mpsweep once more: the single runs of reference.py, one behind the other.
+"""A second implementation of mpsweep: the single runs of reference.py, one after another.
 
-It takes the words of `mpsweep` and gives the same bytes, status and line, written from docs/SWEEPS.md and docs/ERRORS.md.
+It takes the arguments of `mpsweep` and gives the same bytes, status and error line, written from docs/SWEEPS.md and docs/ERRORS.md.
 """
 
 from __future__ import annotations
@@ -13,7 +13,7 @@ from texts import Refused, TRACE_BYTES
 
 
 def contents_of(words: list[str], read: Reader) -> list[bytes]:
-    """The trace and the models, which are all read before the first run."""
+    """Returns the trace and the models, which are all read before the first run."""
     if not 2 <= len(words) <= 65 or any(word.startswith('-') for word in words):
         raise Refused(2, 'usage: mpsweep TRACE MODEL..')
     contents = []
@@ -28,7 +28,7 @@ def contents_of(words: list[str], read: Reader) -> list[bytes]:
 
 
 def sweep(words: list[str], read: Reader, look: Look = lambda network: None) -> Answer:
-    """What `mpsweep` answers to its words."""
+    """Returns the answer of `mpsweep` to its arguments."""
     try:
         trace, *models = contents_of(words, read)
     except Refused as refusal:

@@ -1,4 +1,4 @@
-"""Faults of what mpsim writes to and reads from, and want of memory. Those of mpsweep and mpedit stand with their other checks."""
+"""Errors of the devices that mpsim reads and writes, and lack of memory. Those of mpsweep and mpedit are with their other checks."""
 from programs import CASES, DESK, DESK_FILES, Check, run
 from refusals import each_refused, first_refused_mutely
 
@@ -11,7 +11,7 @@ class Devices(Check):
         self.refuses(12, "mpsim: cannot read the words", "mpsim", b"\xff")
 
     def test_full_error_output(self):
-        """A fault of the error output changes no status: a run of each, and what it writes."""
+        """An error of stderr changes no status: one run of each, and what it writes."""
         model, trace = DESK_FILES
         of_case = lambda name: (CASES / name / "model.txt", CASES / name / "trace.csv")
         self.mutely(0, DESK / "report.txt", "mpsim", model, trace)

@@ -1,4 +1,4 @@
-"""mpedit beside stored texts, and beside the reference, which runs the edited rows from nothing and counts the blocks by itself (edits.py)."""
+"""Compares mpedit with stored texts and with the reference, which runs the edited rows from scratch and counts the blocks itself (edits.py)."""
 import sys
 
 from inputs import lines_of, records, two_nodes, unescaped
@@ -13,7 +13,7 @@ USAGE = "mpedit: usage: mpedit MODEL TRACE EDITS"
 
 
 def bound_by(bound):
-    """The desk's model with this bound."""
+    """Returns the desk's model with this bound."""
     return f"model 1\nbound {bound}\nsource src\nserver desk d from src\n"
 
 
@@ -40,7 +40,7 @@ class Edits(Check):
         self.as_apart(MOVED / "model.txt", calls, edits)
 
     def test_no_edits(self):
-        """The report of the trace, and nothing is done again."""
+        """The report is that of the trace, and nothing is computed again."""
         none = self.file("none.txt")
         for model in sorted(EXAMPLES.glob("*/model.txt")):
             ran = self.as_apart(model, model.parent / "trace.csv", none)
@@ -77,7 +77,7 @@ class Edits(Check):
         self.refuses_edits(10, "edits line 3: not allowed", ONE_SOURCE, trace, edits)
 
     def test_too_many_visits(self):
-        """Before the edits or after them. Edits are judged before the first run."""
+        """Before the edits or after them. Edits are checked before the first run."""
         edits, faulty = self.file("edits.txt", "add src 3\n"), self.file("faulty.txt", "add nobody 3\n")
         model, trace = self.file("model.txt", two_nodes("delay w =0 from f f.1 f.2 f.3")), self.file("trace.csv", records(262144))
         self.refuses_edits(9, "node w has 1048580 visits after the edits", model, trace, edits)

@@ -1,16 +1,16 @@
-"""The examples and the cases: folders with a model and a trace, and what a call over them answers.
+"""The examples and the cases: directories with a model and a trace, and the expected answers.
 
-report.txt is what the call writes, in the form that its first line names, line.txt its line on the error output, and `status` its status, which is 0
-where no file tells it. Where there are several calls, or other words, each line of the file `words` is a call. jobs.txt has the report with the lines
-of the jobs. The answer is the same whatever the workers and the block are.
+report.txt is the expected report, in the form that its first line names, line.txt the line on stderr, and `status` the status (default 0). If there
+are several calls or other arguments, each line of the file `words` is a call. jobs.txt has the report with job lines. The answer is the same for all
+numbers of workers and block sizes.
 """
 import shlex
 
 from programs import CASES, EXAMPLES, Check, form_of, run
 
-# Workers and jobs in a block.
+# Numbers of workers and of jobs per block.
 SETTINGS = [("1", "5"), ("4", "1"), ("4", "4096"), ("64", "1")]
-# These have examples of mpsweep, of mpedit and of the Python package, and the cases.
+# These contain examples of mpsweep, of mpedit and of the Python package, and the cases.
 OTHERS = ["cases", "edits", "python", "sweep"]
 FOLDERS = [it for it in sorted(EXAMPLES.iterdir()) if it.is_dir() and it.name not in OTHERS] + [it for it in sorted(CASES.iterdir()) if it.is_dir()]
 
@@ -22,12 +22,12 @@ class Examples(Check):
         status = int((folder / "status").read_text()) if (folder / "status").is_file() else 0
         wanted = status, report if report.is_file() else b"", line if line.is_file() else b""
         form = form_of(wanted[1])
-        told = (folder / "words").is_file()
-        for words in (folder / "words").read_text().splitlines() if told else ["model.txt trace.csv"]:
+        has_words = (folder / "words").is_file()
+        for words in (folder / "words").read_text().splitlines() if has_words else ["model.txt trace.csv"]:
             self.did(run("mpsim", *shlex.split(words), *form, folder=folder), *wanted)
         if jobs.is_file():
             self.writes(jobs, "model.txt", "trace.csv", "--jobs", folder=folder)
-        if line.is_file() and told:
+        if line.is_file() and has_words:
             return
         for workers, block in SETTINGS:
             self.did(run("mpsim", "--workers", workers, "model.txt", "--block", block, "trace.csv", *form, folder=folder), *wanted)
@@ -43,6 +43,7 @@ class Examples(Check):
     def test_a_week_is_drawn(self):
         week = EXAMPLES / "week"
         self.did(run(week / "calls.py"), 0, week / "trace.csv")
+        self.did(run(week / "recorded.py"), 0, week / "recorded.csv")
 
 
 for folder in FOLDERS:

@@ -1,4 +1,4 @@
-"""Texts of models and traces: each refused one with the line of its first fault, and each accepted one with its report.
+"""Texts of models and traces: each invalid one with the error line of its first error, each valid one with its report.
 
 The texts are lines of files in examples/cases.
 """
@@ -20,7 +20,7 @@ exit desk.0 1 sojourn 4
 
 class Faults(Check):
     def test_first_bytes_of_a_model(self):
-        """The first bytes of the desk's model, of each length from one to another: the case whose report they give, or their refusal."""
+        """Prefixes of the desk's model, for each length in a range: the case whose report they give, or their error line."""
         model = (DESK / "model.txt").read_bytes()
         for line in lines_of("model-cuts.txt"):
             least, most, answer, *refusal = line.split(" ", 3)
@@ -51,7 +51,7 @@ class Faults(Check):
                 self.refuses(4, line, "mpsim", DESK / "model.txt", self.file("trace.csv", unescaped(text)))
 
     def test_traces_of_one_job(self):
-        """Each text has one job, who comes at 7 and is served for 4."""
+        """Each text has one job, which arrives at 7 and is served for 4."""
         for text in lines_of("traces-of-one-job.txt"):
             with self.subTest(text):
                 self.writes(ONE_JOB, DESK / "model.txt", self.file("trace.csv", unescaped(text)))

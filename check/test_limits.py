@@ -1,9 +1,9 @@
-"""Limits, each at its end and one past it, and large inputs, which have to be done in little time."""
+"""Limits, each reached and exceeded by one, and large inputs that must be fast."""
 from inputs import line_feeds, records, two_nodes
 from programs import CASES, DESK, EXAMPLES, Check
 
 ONE_SOURCE = EXAMPLES / "source" / "model.txt"
-# Rows of jobs, one a tick, each with the demand that is put in.
+# Rows of jobs, one per tick, each with this service time.
 TICKS = "source,time,d\n" + "".join(f"src,{time},%s\n" for time in range(100000))
 LARGE = """mpsim report 1
 jobs 100000 span 100000
@@ -37,7 +37,7 @@ node t trunk in 200000 out 133334 lost 66666 held 0 wait 0 max 0 busy 400002 are
 exit t.0 133334 sojourn 400002
 exit t.1 66666 sojourn 0
 """
-# Each row comes to the delay four times, and leaves at once.
+# Each row visits the delay four times, and leaves at once.
 FOUR_VISITS = """model 2
 source src
 fork f 4 from src
@@ -50,7 +50,7 @@ node f fork in 262144 out 262144 lost 0 held 0 wait 0 max 0 busy 0 area 0 peak 0
 node w delay in 1048576 out 1048576 lost 0 held 0 wait 0 max 0 busy 0 area 0 peak 1 util -
 exit w.0 1048576 sojourn 0
 """
-# Stations whose jobs leave in the order in which they came, one behind the other.
+# Stations whose jobs leave in order of arrival, in series.
 IN_TURN = """model 1
 source src
 server a =1 from src
@@ -67,7 +67,7 @@ node f forkjoin in 1048576 out 1048576 lost 0 wait 0 max 0 busy 1048576 area 104
 node b server in 1048576 out 1048576 lost 0 wait 0 max 0 busy 0 area 0 peak 1 util 0.0000
 exit b.0 1048576 sojourn 549758435328
 """
-# Four forks in a row, a fifth, and a server, which passes the bound.
+# Four forks in series, a fifth, and a server that exceeds the bound.
 FIVE_FORKS = """model 2
 bound 5
 source src
@@ -81,13 +81,13 @@ server z =9 from e e.1 e.2 e.3
 
 
 def servers(many, demand="c{}"):
-    """A model of so many servers in a row, each with a column of its own, or this demand."""
+    """A model with this many servers in series, each with a column of its own, or with this service time."""
     lines = [f"server q{node + 1} {demand.format(node)} from q{node}" for node in range(many)]
     return "\n".join(["model 1", "source q0", *lines, ""])
 
 
 def header(many):
-    """The header of a trace with so many columns behind the time."""
+    """The header of a trace with this many columns after the time."""
     return ",".join(["source", "time", *(f"c{column}" for column in range(many))]) + "\n"
 
 
@@ -127,18 +127,18 @@ class Limits(Check):
         self.refuses_texts(9, "mpsim: node w has 1048580 visits", model, records(262145))
 
     def test_visits_in_turn(self):
-        """As many visits as a node may have, at stations of which no visits are made, each read by the next."""
+        """The greatest number of visits per node, at stations that store no visits, each read by the next."""
         model, trace = self.file("turn.txt", IN_TURN), self.file("trace.csv", records(1048576))
         for workers in "1", "4":
             self.writes(ALL_IN_TURN, model, trace, "--workers", workers)
 
     def test_visits_behind_forks(self):
-        """Behind four forks in a row a few thousand rows are too many. What stands behind the fifth isn't run: it would pass the bound."""
+        """After four forks in series a few thousand rows are too many. What follows the fifth isn't run: it would exceed the bound."""
         self.refuses_texts(9, "mpsim: node z has 4194304 visits", FIVE_FORKS, records(4096))
         self.refuses_texts(9, "mpsim: node e has 1048832 visits", FIVE_FORKS, records(4097))
 
     def test_late_or_too_many(self):
-        """Of a node that passes the bound and one that has too many visits the first by rank is told."""
+        """If one node exceeds the bound and one has too many visits, the error names the first by rank."""
         late, many, both = "delay p =9 from f.3", "delay w =0 from f f.1 f.2", "delay w =9 from f f.1 f.2"
         trace = records(349526)
         self.refuses_texts(5, "mpsim: node p position 0 passes the bound at time 9", two_nodes(late, many), trace)
@@ -148,12 +148,12 @@ class Limits(Check):
 
 class Large(Check):
     def test_trace_of_a_megabyte(self):
-        """It is read whole: a job a tick, each served for one."""
+        """It is read completely: a job per tick, each served for one."""
         self.writes(LARGE, DESK / "model.txt", self.file("large.csv", TICKS.replace("%s", "1")))
 
     def test_long_waits(self):
-        """A desk that falls behind by a tick a job: the waits are 0 to 99,999 ticks, each once, and are counted by long pieces. Those of a hundred
-        jobs of 1,000 ticks each are longer than the jobs are many, and are put in order."""
+        """A desk that falls behind by a tick per job: the waits are 0 to 99,999 ticks, each once, and are counted in long pieces. With a hundred jobs
+        of 1,000 ticks each, the waits are longer than the number of jobs, and are sorted."""
         behind = self.file("behind.csv", TICKS.replace("%s", "2"))
         few = self.file("few.csv", *TICKS.replace("%s", "1000").splitlines(True)[:101])
         for workers in "1", "4":
@@ -161,7 +161,7 @@ class Large(Check):
             self.writes(FEW, "--workers", workers, DESK / "model.txt", few)
 
     def test_overload(self):
-        """Half of an overload is lost at a loss station, and a third at a trunk group: whole rounds over all arrivals would not end in time."""
+        """Half of an overload is lost at a loss station, and a third at a trunk group: full rounds over all arrivals would be too slow."""
         trace = self.file("overload.csv", "source,time\n", *(f"src,{time}\n" for time in range(200000)))
         self.writes(HALF_LOST, CASES / "loss" / "model.txt", trace, seconds=60)
         self.writes(THIRD_LOST, CASES / "trunk" / "model.txt", trace, seconds=60)

@@ -1,4 +1,4 @@
-"""Made inputs (--made): what the program writes for a number it writes over the two texts that generator.py draws for it."""
+"""Generated inputs (--made): for a number, the program writes the same as for the two texts that generator.py draws for it."""
 from generator import made
 from inputs import lines_of, unescaped
 from programs import EXAMPLES, Check, run
@@ -6,7 +6,7 @@ from programs import EXAMPLES, Check, run
 
 class Made(Check):
     def draws(self, number, model, size, first, last):
-        """The model, the lines and the bytes of the trace, its first three lines and its last are as they stand in examples/cases."""
+        """The model, the number of lines and bytes of the trace, and its first three lines and its last match examples/cases."""
         texts = made(int(number))
         rows = texts[1].splitlines(True)
         sizes = f"{len(rows)} {len(texts[1])}\n"
@@ -19,18 +19,18 @@ class Made(Check):
         self.did(run("mpsim", "--jobs", "--made", number.rjust(20, "0")), 0, run("mpsim", "--jobs", *files).out)
 
     def whatever(self, number, report):
-        """The report of a number is the same whatever the workers and the block are."""
+        """The report of a number is the same for all numbers of workers and block sizes."""
         self.writes(report, "--made", number)
         for workers in 1, 2, 3, 4, 64:
             for block in 1, 5, 7, 64, 4096, 65536:
                 self.writes(report, "--workers", str(workers), "--made", number, "--block", str(block))
 
     def test_made_7(self):
-        """Its report is that of an event list in another language."""
+        """The report is that of an event list in another language."""
         self.whatever("7", EXAMPLES / "made-7.txt")
 
     def test_made_9(self):
-        """It has servers. Its report is what one worker gives."""
+        """The input has servers. The report is that of one worker."""
         self.whatever("9", self.accepts("--workers", "1", "--made", "9").out)
 
 

@@ -1,4 +1,4 @@
-"""The examples of the man pages: each command is run, and what stands below it has to be what it writes."""
+"""Runs the examples of the man pages: each command must write what is shown below it."""
 import os
 import shutil
 
@@ -7,7 +7,7 @@ from programs import DESK_FILES, EXAMPLES, PROGRAMS, ROOT, Check, difference, ru
 
 
 def commands_of(program):
-    """The commands of the examples of a program's page, each with the lines that stand below it."""
+    """Returns the commands in the examples of a program's page, each with the lines below it."""
     found, within = [], False
     for line in manual_section(program, "EXAMPLES"):
         within = line == ".nf" or within and line != ".fi"
@@ -16,7 +16,7 @@ def commands_of(program):
         if line.startswith("$ "):
             found.append((line[2:], []))
         elif line.startswith("    "):
-            # A command that goes on.
+            # A continued command.
             found[-1] = f"{found[-1][0]}\n{line}", []
         else:
             found[-1][1].append(line)
@@ -24,18 +24,19 @@ def commands_of(program):
 
 
 def is_like(written, shown):
-    """Whether a line is as it is shown, where three dots at the end stand for the rest of it."""
+    """Returns whether a line is as shown, where three dots at the end stand for the rest."""
     return written.startswith(shown[:-3]) if shown.endswith("...") else written == shown
 
 
 class Manual(Check):
     def setUp(self):
-        """A folder with the files that the pages name: the desk's, a day of calls and a model in which the number of agents is a word."""
+        """Makes a directory with the files that the pages name: the desk's, a day of calls, and a model with a placeholder for the number of
+        agents."""
         super().setUp()
         self.settings = {"PATH": f"{self.folder}:{os.environ['PATH']}"}
         for name, program in PROGRAMS.items():
             (self.folder / name).symlink_to(program)
-        (self.folder / "planner").symlink_to(ROOT / "tools" / "planner")
+        (self.folder / "mpplan").symlink_to(ROOT / "mpplan")
         for file in DESK_FILES:
             shutil.copy(file, self.folder)
         shutil.copy(EXAMPLES / "sweep" / "trace.csv", self.folder / "calls.csv")
@@ -63,5 +64,5 @@ class Manual(Check):
         self.file("model.txt", model.replace("trunk agents 12", "trunk agents AGENTS"))
         self.runs_examples("mpsweep")
 
-    def test_planner(self):
-        self.runs_examples("planner")
+    def test_mpplan(self):
+        self.runs_examples("mpplan")

@@ -1,12 +1,19 @@
-"""Options and statuses are the same wherever they stand: in the usage line that a program writes, the head of its script, its man page, its completions,
-docs/ERRORS.md, docs/REPORT.md and docs/EDITS.md; and the words of `planner` are those of its parsers."""
+"""Checks that options and statuses agree wherever they appear: in a program's usage line, its script, its man page, its completions, docs/ERRORS.md,
+docs/REPORT.md and docs/EDITS.md; and that those of `mpplan` are those of its parsers."""
 import re
 import shlex
 import shutil
+import sys
 
-import planner_words
+import help_texts
+import mpplan_words
+from help_texts import plain
 from pages import manual_section
 from programs import PROGRAMS, ROOT, Check, run
+
+
+sys.path.insert(0, str(ROOT / "tools"))
+from unproved import VALUED, usage
 
 
 def text_of(name):
@@ -14,25 +21,17 @@ def text_of(name):
 
 
 def forms_of(program):
-    """The forms of a program's words, from the usage line that it writes."""
+    """Returns the forms of a program's arguments, from its usage line."""
     return run(program).line.decode().rstrip("\n").removeprefix(f"{program}: usage: ").split(" or ")
 
 
 def options_of(text):
-    """The options that a text names, in order, each once."""
+    """Returns the options that a text names, in order, each once."""
     return sorted(set(re.findall(r"--[a-z]+", text)))
 
 
-def plain(line):
-    """A line of a man page as it is shown: words in two fonts by turns stand side by side without a space."""
-    macro, *words = shlex.split(line.replace("'", "\\'"))
-    if not macro.startswith("."):
-        return line
-    return ("" if len(macro) == 3 else " ").join(words)
-
-
 def rows_of(page, heading=""):
-    """The cells of the first table of a page below a heading."""
+    """Returns the cells of the first table of a page below a heading."""
     text = text_of(page)
     lines = text[text.index(f"\n{heading}\n") if heading else 0 :].splitlines()
     first = next(at for at, line in enumerate(lines) if line.startswith("| "))
@@ -48,7 +47,9 @@ def numbers_of(text):
     return set(re.findall(r"\d+", text.replace(",", "")))
 
 
-# The table of a program in docs/ERRORS.md stands below this heading.
+# What the commands answer without a run, if it is the only argument.
+OWN = ["--help", "--version"]
+# The heading in docs/ERRORS.md above the table of each program.
 ERRORS = {"mpsim": "", "mpsweep": "## `mpsweep`", "mpedit": "## `mpedit`"}
 
 
@@ -61,34 +62,51 @@ class Options(Check):
                 self.same("docs/ERRORS.md", (line, status), (f"`{program}: usage: {' or '.join(forms)}`", "2"))
                 head = re.findall(r"^# (?:Runs the program:|or) \./(.*)$", text_of(program), flags=re.MULTILINE)
                 self.same(f"the head of the script {program}", head, forms)
-                synopsis = " ".join("\n" if it == ".br" else plain(it) for it in manual_section(program, "SYNOPSIS"))
-                self.same(f"docs/{program}.1", [it.strip() for it in synopsis.split("\n")], forms)
+                self.same(f"docs/{program}.1", help_texts.synopsis(program), forms)
+                self.same(f"{program} without arguments, with nothing built", usage(program), f"usage: {' or '.join(forms)}")
 
     def test_names_of_options(self):
         for program in PROGRAMS:
             with self.subTest(program):
                 options = options_of(" ".join(forms_of(program)))
-                described = "\n".join(it for it in manual_section(program, "OPTIONS") if it.startswith(".B"))
-                self.same(f"docs/{program}.1", options_of(described), options)
+                described = "\n".join(item for item in manual_section(program, "OPTIONS") if item.startswith(".B"))
+                self.same(f"docs/{program}.1", options_of(described), sorted([*options, *OWN]))
                 self.same(f"completions/_{program}", sorted(re.findall(r"^ *'(--[a-z]+)\[", text_of(f"completions/_{program}"), flags=re.MULTILINE)), options)
+                self.same(f"completions/_{program}, alone", re.findall(r"'\(- \*\)(--[a-z]+)\[", text_of(f"completions/_{program}")), OWN)
                 if (ROOT / "completions" / f"{program}.bash").is_file():
-                    self.same(f"completions/{program}.bash", options_of(text_of(f"completions/{program}.bash")), options)
+                    self.same(f"completions/{program}.bash", options_of(text_of(f"completions/{program}.bash")), sorted([*options, *OWN]))
         self.same("docs/REPORT.md", options_of("".join(words for words, _ in rows_of("docs/REPORT.md", "## Options"))), options_of(" ".join(forms_of("mpsim"))))
 
+    def test_help(self):
+        """It is written from the man pages; the scripts at the root print it, and the version, if nothing else is asked for."""
+        version = text_of("VERSION").strip()
+        for program in PROGRAMS:
+            file = help_texts.file_of(program)
+            self.same(f"{file}: check/help_texts.py writes it", file.read_text(), help_texts.help_of(program))
+            self.did(run(ROOT / program, "--help", folder="/"), 0, file)
+            self.did(run(ROOT / program, "--version", folder="/"), 0, f"{program} {version}\n")
+            self.same("lines that are too long", [line for line in file.read_text().splitlines() if len(line) > 79 and not line.startswith(("  $ ", "usage: "))], [])
+
+    def test_options_with_values(self):
+        """tools/unproved.py knows which arguments name no file."""
+        for program in PROGRAMS:
+            found = re.findall(r"(--[a-z]+) [A-Z]", " ".join(forms_of(program)))
+            self.same(program, sorted(VALUED[program]), sorted(set(found)))
+
     def test_what_bash_completes(self):
-        """All options, but for those that stand there already; both forms of the report; else files."""
+        """All options that aren't given yet; both forms of the report; otherwise files."""
         if not shutil.which("bash"):
             self.skipTest("no bash here")
         options = options_of(" ".join(forms_of("mpsim")))
-        for before, wanted in (["-"], options), (["--jobs", "-"], [it for it in options if it != "--jobs"]), (["--report", ""], ["1", "2"]), (["--block", ""], []):
-            words = " ".join(shlex.quote(it) for it in ["mpsim", *before])
+        for before, wanted in (["-"], sorted([*options, *OWN])), (["--jobs", "-"], [it for it in options if it != "--jobs"]), (["--report", ""], ["1", "2"]), (["--block", ""], []):
+            words = " ".join(shlex.quote(item) for item in ["mpsim", *before])
             script = f"source completions/mpsim.bash; COMP_WORDS=({words}); COMP_CWORD={len(before)}; _mpsim; echo ${{COMPREPLY[@]}}"
-            self.same(f"bash behind {words}", sorted(run("bash", "-c", script).out.decode().split()), wanted)
+            self.same(f"bash after {words}", sorted(run("bash", "-c", script).out.decode().split()), wanted)
 
     def test_ranges_of_numbers(self):
-        """The numbers of the line that refuses an option's value stand in its descriptions."""
+        """The numbers in the error line for an option's value also appear in its descriptions."""
         rows, page = rows_of("docs/REPORT.md", "## Options"), "\n".join(manual_section("mpsim", "OPTIONS"))
-        described = {options_of(it)[0]: it for it in page.split(".TP")[1:]}
+        described = {options_of(part)[0]: part for part in page.split(".TP")[1:]}
         for line, _, _ in rows_of("docs/ERRORS.md"):
             for option in re.findall(r"`mpsim: (--[a-z]+) takes ", line):
                 numbers = numbers_of(line)
@@ -103,69 +121,70 @@ class Options(Check):
                 told = {status for _, cell, _ in rows_of("docs/ERRORS.md", ERRORS[program]) for status in cell.split(", ")} | {"0"}
                 page = re.findall(r"^\.B (\d+)$", "\n".join(manual_section(program, "EXIT STATUS")), flags=re.MULTILINE)
                 self.same(f"docs/{program}.1", page, sorted(told, key=int))
-        cells = [cell for cell, _ in rows_of("docs/EDITS.md", "## How it ends")]
+        cells = [cell for cell, _ in rows_of("docs/EDITS.md", "## Exit statuses")]
         self.same("docs/EDITS.md", sorted(int(it) for cell in cells for it in cell.split(", ")), sorted(map(int, told)))
 
 
 class Planner(Check):
-    """What its parsers say, in its man page and its completions, which check/planner_words.py writes; and what its help says."""
+    """The man page and the completions, which check/mpplan_words.py writes from the parsers; and the help."""
 
     def test_files(self):
-        for file, made in (planner_words.BASH, planner_words.bash()), (planner_words.ZSH, planner_words.zsh()):
-            self.same(f"{file}: check/planner_words.py writes it", file.read_text(), made)
-        page = planner_words.MANUAL.read_text()
-        self.same("docs/planner.1: check/planner_words.py writes its commands", page, planner_words.with_commands(page))
+        for file, made in (mpplan_words.BASH, mpplan_words.bash()), (mpplan_words.ZSH, mpplan_words.zsh()):
+            self.same(f"{file}: check/mpplan_words.py writes it", file.read_text(), made)
+        page = mpplan_words.MANUAL.read_text()
+        self.same("docs/mpplan.1: check/mpplan_words.py writes its commands", page, mpplan_words.with_commands(page))
 
     def helps(self):
-        """The options that the help of each command has, by its name."""
-        for name in planner_words.COMMANDS:
-            told = run(ROOT / "tools" / "planner", name, "--help").out.decode()
-            yield name, sorted(re.findall(r"^  (?:-h, )?(--[a-z-]+)", told, flags=re.MULTILINE))
+        """Yields the options in the help of each command, by its name."""
+        for name in mpplan_words.COMMANDS:
+            found = run(ROOT / "mpplan", name, "--help").out.decode()
+            yield name, sorted(re.findall(r"^  (?:-h, )?(--[a-z-]+)", found, flags=re.MULTILINE))
 
     def completed(self, *before):
-        """What bash completes behind these words."""
-        words = " ".join(shlex.quote(it) for it in ["planner", *before])
-        script = f"compopt() {{ :; }}; source completions/planner.bash; COMP_WORDS=({words}); COMP_CWORD={len(before)}; _planner; echo ${{COMPREPLY[@]}}"
+        """Returns what bash completes after these words."""
+        words = " ".join(shlex.quote(item) for item in ["mpplan", *before])
+        script = f"compopt() {{ :; }}; source completions/mpplan.bash; COMP_WORDS=({words}); COMP_CWORD={len(before)}; _mpplan; echo ${{COMPREPLY[@]}}"
         return sorted(run("bash", "-c", script).out.decode().split())
 
     def test_help(self):
         """All options of each command are in all three, and no others."""
-        commands = "".join(f"{it}\n" for it in manual_section("planner", "COMMANDS")).split(".SS ")[1:]
-        described = {it.split("\n", 1)[0]: re.findall(r"^\.TP\n\.BI? (--[a-z-]+)", it, flags=re.MULTILINE) for it in commands}
-        zsh = planner_words.ZSH.read_text().split(";;")
+        commands = "".join(f"{item}\n" for item in manual_section("mpplan", "COMMANDS")).split(".SS ")[1:]
+        described = {command.split("\n", 1)[0]: re.findall(r"^\.TP\n\.BI? (--[a-z-]+)", command, flags=re.MULTILINE) for command in commands}
+        zsh = mpplan_words.ZSH.read_text().split(";;")
         for name, options in self.helps():
-            wanted = [it for it in options if it != "--help"]
-            self.same(f"docs/planner.1, {name}", sorted(described.pop(name)), wanted)
-            mine = next(it for it in zsh if f"\n    {name})\n" in it)
-            self.same(f"completions/_planner, {name}", sorted(re.findall(r"^ *'\*?(--[a-z-]+)(?:=-)?\[", mine, flags=re.MULTILINE)), options)
+            wanted = [option for option in options if option != "--help"]
+            self.same(f"docs/mpplan.1, {name}", sorted(described.pop(name)), wanted)
+            mine = next(item for item in zsh if f"\n    {name})\n" in item)
+            self.same(f"completions/_mpplan, {name}", sorted(re.findall(r"^ *'\*?(--[a-z-]+)(?:=-)?\[", mine, flags=re.MULTILINE)), options)
             if shutil.which("bash"):
-                self.same(f"completions/planner.bash, {name}", self.completed(name, "-"), options)
-        self.same("further commands in docs/planner.1", described, {})
+                self.same(f"completions/mpplan.bash, {name}", self.completed(name, "-"), options)
+        self.same("further commands in docs/mpplan.1", described, {})
 
     def test_what_bash_completes(self):
-        """Commands; all options, but for those that stand there already and may stand once; the choices of a value; else files."""
+        """Commands; all options that aren't given yet or may be repeated; the choices of a value; otherwise files."""
         if not shutil.which("bash"):
             self.skipTest("no bash here")
         for before, wanted in (
-            ([""], sorted([*planner_words.COMMANDS, "--help", "--version"])),
-            (["s"], ["scale", "service", "sojourns", "sweep"]),
+            ([""], sorted([*mpplan_words.COMMANDS, "--help", "--version"])),
+            (["s"], ["scale", "service", "sojourns", "staff", "sweep"]),
             (["scale", "--shift", "5", "--source", "web", "--s"], ["--source"]),
             (["hours", "--by", ""], ["day", "each", "hour", "weekday"]),
             (["scale", "--by", ""], []),
             (["sojourns", "--by", "s"], ["source"]),
             (["nothing", "-"], []),
         ):
-            self.same(f"bash behind {before}", self.completed(*before), wanted)
+            self.same(f"bash after {before}", self.completed(*before), wanted)
 
     def test_zsh_reads_them(self):
         if not shutil.which("zsh"):
             self.skipTest("no zsh here")
-        self.did(run("zsh", "-n", planner_words.ZSH))
+        for file in mpplan_words.ZSH, *(ROOT / "completions" / f"_{program}" for program in PROGRAMS):
+            self.did(run("zsh", "-n", file))
 
     def test_words_of_its_own(self):
-        described = "\n".join(it for it in manual_section("planner", "OPTIONS") if it.startswith(".B"))
-        self.same("docs/planner.1", options_of(described), sorted(planner_words.OWN))
-        told = run(ROOT / "tools" / "planner", "--help").out.decode()
-        self.same("its help", re.findall(r"^  (?:-h, )?(--[a-z-]+)", told, flags=re.MULTILINE), list(planner_words.OWN))
-        page = re.findall(r"^\.B (\d+)$", "\n".join(manual_section("planner", "EXIT STATUS")), flags=re.MULTILINE)
-        self.same("statuses", page, ["0", "1", "2", "11", "130", "141"])
+        described = "\n".join(item for item in manual_section("mpplan", "OPTIONS") if item.startswith(".B"))
+        self.same("docs/mpplan.1", options_of(described), sorted(mpplan_words.OWN))
+        found = run(ROOT / "mpplan", "--help").out.decode()
+        self.same("its help", re.findall(r"^  (?:-h, )?(--[a-z-]+)", found, flags=re.MULTILINE), list(mpplan_words.OWN))
+        page = re.findall(r"^\.B (\d+)$", "\n".join(manual_section("mpplan", "EXIT STATUS")), flags=re.MULTILINE)
+        self.same("statuses", page, ["0", "1", "2", "11", "13", "130", "141"])

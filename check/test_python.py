@@ -1,6 +1,6 @@
-"""The Python package: each file of python/tests is run by unittest, in a process of its own, over the programs that the other checks run.
+"""Runs each file of python/tests with unittest, in a process of its own, with the programs of the other checks.
 
-A case is a test there; one that is left out, since pandas, a browser, hatchling, GNU parallel or Slurm isn't there, is told here.
+A case is a test there. Tests skipped because pandas, a browser, hatchling, GNU parallel or Slurm is missing are listed.
 """
 import re
 import sys
@@ -15,10 +15,10 @@ class Python(Check):
         for name in PROGRAMS:
             (self.folder / name).symlink_to(executable(name))
         ran = run(sys.executable, "-B", file, "-v", settings={"MPSIM_PROGRAMS": str(self.folder)})
-        told = ran.line.decode(errors="backslashreplace")
-        self.cases += int(re.search(r"^Ran (\d+) tests? in ", told, flags=re.MULTILINE)[1]) - 1 if ran.status == 0 else 0
-        self.holds(f"{ran.command}\nstatus {ran.status}\n{told}", ran.status == 0)
-        for name, _, why in re.findall(r"^(\w+) \(.*\)(?:\n.*)? \.\.\. skipped (['\"])(.*)\2$", told, flags=re.MULTILINE):
+        output = ran.line.decode(errors="backslashreplace")
+        self.cases += int(re.search(r"^Ran (\d+) tests? in ", output, flags=re.MULTILINE)[1]) - 1 if ran.status == 0 else 0
+        self.holds(f"{ran.command}\nstatus {ran.status}\n{output}", ran.status == 0)
+        for name, _, why in re.findall(r"^(\w+) \(.*\)(?:\n.*)? \.\.\. skipped (['\"])(.*)\2$", output, flags=re.MULTILINE):
             with self.subTest(name):
                 self.skipTest(f"{name}: {why}")
 

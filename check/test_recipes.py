@@ -1,7 +1,7 @@
-"""The recipes of docs/MODEL.md, with the models, traces and commands that stand there.
+"""The recipes of docs/MODEL.md, with the models, traces and commands shown there.
 
-What the page shows of an answer has to be in it. Where it calls a recipe exact, or says between which runs the truth is, random traces are run beside
-a simulation of the real rule (rules.py).
+The output shown on the page must be in the output of the command. If a recipe is called exact, or the truth is said to lie between two runs, random
+traces are compared with a simulation of the real rule (rules.py).
 """
 import shutil
 
@@ -14,13 +14,13 @@ MODEL = sections("docs/MODEL.md")
 
 
 def visits(text, *nodes):
-    """Of each job its wait and its departure at one of these nodes; None where it is lost."""
+    """Returns the wait and the departure of each job at one of these nodes; None if it is lost."""
     lines = [line.split() for line in text.splitlines() if line.startswith("job ")]
     return {int(w[1]): (int(w[6]), int(w[8])) if w[5] == "wait" else None for w in lines if w[2] in nodes}
 
 
 def pool_visits(text):
-    """Of each job at the queue `desk` its wait, in the delay in front of the trunk group, and its departure."""
+    """Returns the wait, in the delay before the trunk group, and the departure of each job at the queue `desk`."""
     ends = visits(text, "desk")
     lines = [line.split() for line in text.splitlines() if line.startswith("job ")]
     return {int(w[1]): (int(w[8]) - int(w[4]), ends[int(w[1])][1]) for w in lines if w[2] == "desk_queue"}
@@ -35,33 +35,34 @@ class Recipes(Check):
         super().setUp()
         (self.folder / "mpsim").symlink_to(PROGRAMS["mpsim"])
         (self.folder / "examples").symlink_to(EXAMPLES)
-        (self.folder / "tools").symlink_to(ROOT / "tools")
+        for name in "tools", "mpplan":
+            (self.folder / name).symlink_to(ROOT / name)
         (self.folder / "programs").mkdir()
         (self.folder / "programs" / "mpsim").symlink_to(executable("mpsim"))
 
     def kept(self, **texts):
-        """Writes these texts into the folder: model_txt is model.txt."""
+        """Writes these texts into the directory: model_txt becomes model.txt."""
         for name, text in texts.items():
             self.file(name.replace("_", "."), text)
 
-    def told(self, command, shell="sh"):
-        """What a command writes in the folder."""
+    def output_of(self, command, shell="sh"):
+        """Returns what a command writes in the directory."""
         ran = run(shell, "-c", command, folder=self.folder, settings={"MPSIM_PROGRAMS": str(self.folder / "programs")})
         self.assertEqual(ran.status, 0, f"{ran.command}\n{ran.line.decode()}")
         return ran.out.decode()
 
     def served(self, commands):
-        """What the run of a pool writes, with the lines of the jobs; what is told of the pool before it goes nowhere."""
+        """Returns the output of the run of a pool, with job lines; messages about the pool are dropped."""
         pool, run_it = commands.splitlines()
-        return self.told(f"{pool} >/dev/null && {run_it} --jobs")
+        return self.output_of(f"{pool} >/dev/null && {run_it} --jobs")
 
     def report(self, model, trace):
-        """The report of two texts, with the lines of the jobs."""
+        """Returns the report of two texts, with job lines."""
         self.kept(model_txt=model, trace_csv=trace)
-        return self.told("./mpsim model.txt trace.csv --jobs")
+        return self.output_of("./mpsim model.txt trace.csv --jobs")
 
     def shows(self, what, text, lines):
-        """A case: each of these lines stands in a text."""
+        """A case: each of these lines is in a text."""
         missing = set(lines.splitlines()) - set(text.splitlines())
         self.same(f"{what}: lines that aren't in the answer", sorted(missing), [])
 
@@ -88,13 +89,13 @@ class Recipes(Check):
                 self.kept(desk_txt=two)
                 jobs = queued(rows, inputs.split())
                 self.same("two sources", pool_visits(self.served(commands)), simulated(jobs, 2))
-                # Behind a way that takes w ticks: by the time at which a job is through it, then as they came to it.
+                # After a way that takes w ticks: ordered by the end of the way, then by arrival at it.
                 self.kept(desk_txt=two.replace(f"from {inputs}", f"from way\ndelay way w from {inputs}"))
                 jobs = sorted((job._replace(time=job.time + rows[job.number - 1][3]) for job in jobs), key=lambda job: job.time)
-                self.same("behind a delay", pool_visits(self.served(commands)), simulated(jobs, 2))
+                self.same("after a delay", pool_visits(self.served(commands)), simulated(jobs, 2))
 
     def test_many_servers_at_one_queue(self):
-        """Also with a node for each, behind two splits and before a further station; 55 are 64 nodes."""
+        """Also with a node per agent, after two splits and before a further station; 55 of them make 64 nodes."""
         desk, commands, _ = MODEL["Several servers at one queue"][3:]
         for servers, seeds in (14, range(5)), (55, [0]):
             behind = "delay out =0 from desk\n" if servers == 14 else ""
@@ -147,7 +148,7 @@ class Recipes(Check):
             found = visits(self.report(model, table("source,time,d,pausing", rows)), "desk")
             jobs = queued(rows, ["pause", "door"], urgent=lambda row: row[0] == "pause")
             self.same("breaks", found, simulated(jobs))
-            # Where a break begins as soon as a service ends, those who wait when it comes wait for longer, and nobody else.
+            # If a break begins as soon as a service ends, those waiting at that time wait longer, and no one else.
             soon = simulated(jobs, urgent_first=True)
             for job in (job for job in jobs if not job.urgent):
                 waits = range(job.time, job.time + soon[job.number][0] + 1)
@@ -158,11 +159,11 @@ class Recipes(Check):
     def test_feedback_and_rework(self):
         model, first, script, lines = MODEL["Feedback and rework"]
         self.kept(model_txt=model, first_csv=first, rework_py=script)
-        self.shows("rework", self.told("python3 rework.py"), lines)
+        self.shows("rework", self.output_of("python3 rework.py"), lines)
         for seed in range(TRACES):
             rows = [(*row[:3], max(0, row[3] - 4)) for row in drawn(seed, ["new"], (1, 6), (1, 9))]
             self.kept(first_csv=table("source,time,d,back", rows))
-            found = visits(self.told("python3 rework.py"), "desk")
+            found = visits(self.output_of("python3 rework.py"), "desk")
             ends = simulated(queued(rows, ["new"], back=lambda row: row[3]))
             firsts = {job: end for job, end in found.items() if job <= len(rows)}
             self.same("first visits", firsts, {job: end for job, end in sorted(ends.items()) if job > 0})
@@ -175,7 +176,7 @@ class Recipes(Check):
         self.same("patience", visits(text, "desk"), {1: (0, 4), 2: (3, 8), 3: (6, 12), 4: None, 5: (8, 16)})
         for seed in range(TRACES):
             rows = drawn(seed, ["door"])
-            # Nobody is served who would wait for more than 8 ticks; all others are, one after another.
+            # Jobs that would wait more than 8 ticks aren't served; all others are, one after another.
             free, wanted = 0, {}
             for job, (_, time) in enumerate(rows, 1):
                 wait = max(0, free - time)
@@ -191,7 +192,7 @@ class Recipes(Check):
             departs = lambda text, node="line": {job: end[1] for job, end in visits(text, node).items()}
             for places, line in (5, "a / 1 =0 / 4 b"), (8, "a / 4 =0 / 4 b"), (12, "a / 4 =0 / 4 =0 / 4 b"):
                 self.same(f"{places} places", departs(self.report(two(line), trace)), blocked(jobs, places))
-            # With 20 places the truth is between servers in a row and 12 places.
+            # With 20 places the truth is between servers in series and 12 places.
             late, truth = departs(self.report(two("a / 4 =0 / 4 =0 / 4 b"), trace)), blocked(jobs, 20)
             soon = departs(self.report("model 1\nsource parts\nserver one a from parts\nserver two b from one\n", trace), "two")
             self.holds(f"20 places: {rows}", all(soon[job] <= truth[job] <= late[job] for job in truth))
@@ -199,16 +200,16 @@ class Recipes(Check):
     def test_trace_from_a_log(self):
         log, model, by_awk, trace, by_python, commands = MODEL["A trace from a log"]
         self.kept(calls_log=log, model_txt=model, trace_py=by_python)
-        self.told(by_awk)
+        self.output_of(by_awk)
         self.same("a log by awk", (self.folder / "trace.csv").read_text(), trace)
-        self.same("a log by Python", self.told("python3 trace.py <calls.log"), trace)
-        self.told("gzip -c trace.csv >trace.csv.gz")
-        wanted = self.told("./mpsim model.txt trace.csv")
+        self.same("a log by Python", self.output_of("python3 trace.py <calls.log"), trace)
+        self.output_of("gzip -c trace.csv >trace.csv.gz")
+        wanted = self.output_of("./mpsim model.txt trace.csv")
         for command in commands.splitlines():
-            # The last two are for bash or zsh.
+            # The last two need bash or zsh.
             shell = "bash" if "<(" in command else "sh"
             if shutil.which(shell):
-                self.same(command, self.told(command, shell), wanted)
+                self.same(command, self.output_of(command, shell), wanted)
         # The end of a run.
         self.kept(model_txt=model.replace("model 1", "model 1\nbound 200"))
         self.refuses(5, "mpsim: node desk position 1 passes the bound at time 220", "mpsim", "model.txt", "trace.csv", folder=self.folder)

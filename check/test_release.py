@@ -1,4 +1,4 @@
-"""The files of a release: made twice, in two folders, they are the same bytes; what is in them runs with no kit and no clone."""
+"""The files of a release: made twice, in two directories, they are byte-identical; their contents run without the toolchain and without a clone."""
 import gzip
 import hashlib
 import os
@@ -12,21 +12,21 @@ from programs import CALL, EXAMPLES, PROGRAMS, ROOT, SCRIPTS, Check, executable,
 VERSION = (ROOT / "VERSION").read_text().strip()
 ARCHIVE, PACKAGE = f"mpsim-{VERSION}-linux-x86_64.tar.gz", f"mpsim_{VERSION}_amd64.deb"
 TREE = ARCHIVE.removesuffix(".tar.gz")
-# What a release is made of.
-SOURCES = ["README.md", "CHANGELOG.md", "CONTRIBUTING.md", "VERSION", "build.py", "crates.txt", "completions", "docs", "examples", "python", "tools"]
-# Nothing of this process, and no kit.
+# What a release is made from.
+SOURCES = ["README.md", "CHANGELOG.md", "CONTRIBUTING.md", "VERSION", "build.py", "crates.txt", "completions", "docs", "examples", "mpplan", "python", "tools"]
+# Nothing of this process, and no toolchain.
 NOTHING = ["env", "-i", "PATH=/usr/bin:/bin"]
 
 
 @once
 def debian():
-    """Whether dpkg-deb is there."""
+    """Returns whether dpkg-deb is available."""
     return shutil.which("dpkg-deb") is not None
 
 
 class Release(Check):
     def clone(self, name, mask):
-        """A folder with what a release is made of, and the programs, with modes as under this mask; its times are its own."""
+        """Makes a directory with what a release is made from, and the programs, with modes as under this umask and timestamps of its own."""
         top = self.folder / name
         (top / "programs").mkdir(parents=True)
         for source in SOURCES:
@@ -37,50 +37,50 @@ class Release(Check):
                 shutil.copy(ROOT / source, top / source)
         for program in SCRIPTS:
             shutil.copy(executable(program), top / "programs")
-        for it in top.rglob("*"):
-            it.chmod(it.stat().st_mode & ~mask)
+        for path in top.rglob("*"):
+            path.chmod(path.stat().st_mode & ~mask)
         return top
 
     def made(self, name="one", mask=0o022, **settings):
-        """The folder of a release that is made in a clone of its own."""
+        """Makes a release in a clone of its own, and returns its directory."""
         top = self.clone(name, mask)
         settings = {"MPSIM_PROGRAMS": str(top / "programs"), "TZ": "UTC", **settings}
-        # The mask is that of a process of its own, since the tests run side by side in one.
+        # The umask is set in a separate process, since the tests run side by side in one.
         words = ["sh", "-c", 'umask "$1"; exec "$2" "$3"', "sh", f"{mask:03o}", top / "tools" / "release", top / "to"]
         ran = run(*words, folder=self.folder, settings=settings)
         files = ran.out.decode().splitlines()
-        missing = [] if any(it.endswith(".whl") for it in files) else ["release: the wheel is left out: hatchling isn't there"]
-        missing = ["release: the Debian package is left out: dpkg-deb isn't there"] * (not debian()) + missing
-        self.did(ran._replace(out=b""), 0, "", "".join(f"{it}\n" for it in missing))
-        self.same("the files that are told", sorted(files), sorted(str(it) for it in (top / "to").iterdir()))
+        missing = [] if any(file.endswith(".whl") for file in files) else ["release: the wheel is left out: hatchling is missing"]
+        missing = ["release: the Debian package is left out: dpkg-deb is missing"] * (not debian()) + missing
+        self.did(ran._replace(out=b""), 0, "", "".join(f"{item}\n" for item in missing))
+        self.same("the files that are told", sorted(files), sorted(str(path) for path in (top / "to").iterdir()))
         return top / "to"
 
     def unpacked(self):
-        """The archive of a release, unpacked elsewhere."""
+        """Returns the archive of a release, unpacked elsewhere."""
         with tarfile.open(self.made() / ARCHIVE) as archive:
             archive.extractall(self.folder / "else where")
         return self.folder / "else where" / TREE
 
     def test_the_same_bytes_from_two_folders(self):
-        """Other times, another mask of modes, another zone and encoding change nothing."""
+        """Other timestamps, umasks, time zones and encodings change nothing."""
         one, two = self.made(), self.made("another one", 0o077, TZ="Asia/Tokyo", LC_ALL="C", PYTHONUTF8="0", PYTHONCOERCECLOCALE="0")
-        names = sorted(it.name for it in one.iterdir())
-        self.same("files", sorted(it.name for it in two.iterdir()), names)
+        names = sorted(path.name for path in one.iterdir())
+        self.same("files", sorted(path.name for path in two.iterdir()), names)
         for name in names:
             self.same(name, hashlib.sha256((two / name).read_bytes()).hexdigest(), hashlib.sha256((one / name).read_bytes()).hexdigest())
-            self.same(f"the modes of {name}", [oct((it / name).stat().st_mode & 0o777) for it in (one, two)], ["0o644"] * 2)
+            self.same(f"the modes of {name}", [oct((item / name).stat().st_mode & 0o777) for item in (one, two)], ["0o644"] * 2)
         summed = [line.split()[1] for line in (one / "SHA256SUMS").read_text().splitlines()]
         self.same("files with a sum", sorted([*summed, "SHA256SUMS"]), names)
         self.did(run("sha256sum", "--quiet", "-c", "SHA256SUMS", folder=one))
         with tarfile.open(one / ARCHIVE) as archive:
-            self.same("owners", {(it.uid, it.gid, it.uname) for it in archive}, {(0, 0, "root")})
-            self.same("modes", {oct(it.mode) for it in archive if not it.issym()}, {"0o755", "0o644"})
+            self.same("owners", {(item.uid, item.gid, item.uname) for item in archive}, {(0, 0, "root")})
+            self.same("modes", {oct(item.mode) for item in archive if not item.issym()}, {"0o755", "0o644"})
 
     def runs(self, *words, out="", status=0, line="", settings=()):
         self.did(run(*NOTHING, *settings, *words, folder="/"), status, out, line)
 
     def runs_all(self, bin):
-        """Each command of a folder does what its program does."""
+        """Each command in a directory does what its program does."""
         report, files = CALL / "report.txt", (CALL / "model.txt", CALL / "trace.csv")
         self.runs(bin / "mpsim", *files, out=report)
         self.runs(bin / "mpsweep", files[1], files[0], out="scenario 1 status 0\n" + report.read_text())
@@ -88,6 +88,9 @@ class Release(Check):
         self.runs(bin / "mpedit", *files, edited / "edits.txt", out=edited / "report.txt")
         for name in PROGRAMS:
             self.runs(bin / name, status=2, line=run(name).line)
+            self.runs(bin / name, "--help", out=ROOT / "python" / "src" / "mpsim" / "help" / f"{name}.txt")
+            self.runs(bin / name, "--version", out=f"{name} {VERSION}\n")
+            self.runs(bin / name, "--help", "x", status=2, line=run(name).line)
 
     def test_the_archive_runs_anywhere(self):
         tree = self.unpacked()
@@ -97,7 +100,7 @@ class Release(Check):
         self.did(run("sh", "-c", 'cd "$1/bin" && exec env -i PATH=.:/usr/bin mpsim --made 7 --report 1', "sh", tree), 0, EXAMPLES / "made-7.txt")
 
     def test_settings_of_memory(self):
-        """A command gives its program those that the script of a clone gives, and the package; who has others keeps them."""
+        """A command runs its program with the same memory settings as the scripts of a clone, and the package; existing settings are kept."""
         tree = self.unpacked()
         program = tree / "libexec" / "mpsim" / "mpsim"
         program.unlink()
@@ -105,10 +108,10 @@ class Release(Check):
         program.chmod(0o755)
         script = 'unset GLIBC_TUNABLES; "$@" -B -c "from mpsim.programs import surroundings as it; print(it().get(\'GLIBC_TUNABLES\', str()))"'
         words, settings = ["sh", sys.executable], {"PYTHONPATH": str(ROOT / "python" / "src")}
-        told = run("sh", "-c", script, *words, settings=settings).out
-        self.holds(f"settings: {told}", b"glibc.malloc.arena_max=1" in told)
+        output = run("sh", "-c", script, *words, settings=settings).out
+        self.holds(f"settings: {output}", b"glibc.malloc.arena_max=1" in output)
         self.did(run("sh", "-c", f"ulimit -v 4000000; {script}", *words, settings=settings), 0, "glibc.malloc.arena_max=1\n")
-        self.runs(tree / "bin" / "mpsim", out=told)
+        self.runs(tree / "bin" / "mpsim", out=output)
         self.runs(tree / "bin" / "mpsim", out="glibc.malloc.check=1\n", settings=["GLIBC_TUNABLES=glibc.malloc.check=1"])
         limited = ["sh", "-c", 'ulimit -v 60000 && exec "$@"', "sh"]
         self.runs(*limited, tree / "bin" / "mpsim", out="glibc.malloc.arena_max=1\n")
@@ -124,17 +127,15 @@ class Release(Check):
         wanted = f"{VERSION} {os.path.realpath(tree)}/libexec/mpsim/mpedit\n{(CALL / 'report.txt').read_text()}"
         self.did(run(sys.executable, "-B", "-c", script, folder="/", settings=settings), 0, wanted)
 
-    def test_the_command_planner(self):
-        """It is there where the clone has it."""
-        tree, script = self.unpacked(), ROOT / "tools" / "planner"
-        self.same("bin/planner", (tree / "bin" / "planner").exists(), script.exists())
-        if script.exists():
-            settings = {"PYTHONDONTWRITEBYTECODE": "1", "MPSIM_PROGRAMS": ""}
-            self.did(run(tree / "bin" / "planner", "--help", folder="/", settings=settings), 0, run(script, "--help").out)
+    def test_the_command_mpplan(self):
+        """It does what the clone's does, with the package and the programs of the archive."""
+        tree, settings = self.unpacked(), {"PYTHONDONTWRITEBYTECODE": "1", "MPSIM_PROGRAMS": ""}
+        self.did(run(tree / "bin" / "mpplan", "--help", folder="/", settings=settings), 0, run(ROOT / "mpplan", "--help").out)
+        self.did(run(tree / "bin" / "mpplan", "run", CALL / "model.txt", CALL / "trace.csv", folder="/", settings=settings), 0, CALL / "report.txt")
 
     def test_pages_in_the_archive(self):
         tree = self.unpacked()
-        for name in [*PROGRAMS, "planner"]:
+        for name in [*PROGRAMS, "mpplan"]:
             page = gzip.decompress((tree / "share" / "man" / "man1" / f"{name}.1.gz").read_bytes()).decode()
             self.holds(f"{name}.1: {page.splitlines()[0]}", re.match(rf'\.TH {name.upper()} 1 "\w+ \d+" "mpsim {re.escape(VERSION)}" ', page))
             self.same(f"{name}.1 but for its head", page.split("\n", 1)[1], (ROOT / "docs" / f"{name}.1").read_text().split("\n", 1)[1])
@@ -144,7 +145,7 @@ class Release(Check):
         for file in (ROOT / "completions").iterdir():
             there = file.name if file.name.startswith("_") else file.name.removesuffix(".bash")
             self.holds(f"{file.name} is there", sum(1 for it in tree.rglob(there) if it.is_file() and it.read_bytes() == file.read_bytes()) == 1)
-        self.same("nothing that Python compiled", [str(it) for it in tree.rglob("*.pyc")], [])
+        self.same("nothing that Python compiled", [str(path) for path in tree.rglob("*.pyc")], [])
 
     def test_the_debian_package_in_a_root_of_its_own(self):
         if not debian():
@@ -154,7 +155,7 @@ class Release(Check):
             for name in "info", "updates", "triggers", "parts":
                 (root / "var" / "lib" / "dpkg" / name).mkdir(parents=True, exist_ok=True)
             (root / "var" / "lib" / "dpkg" / "status").touch()
-            # It wants programs of folders that not everyone has on the path.
+            # It needs programs from directories that aren't on everyone's PATH.
             paths = {"PATH": f"{os.environ.get('PATH', os.defpath)}:/usr/local/sbin:/usr/sbin:/sbin"}
             ran = run("dpkg", f"--root={root}", "--force-depends", "--log=/dev/null", "--install", package, settings=paths)
             self.same(f"{ran.command}\n{ran.line.decode()}", ran.status, 0)
@@ -173,16 +174,16 @@ class Release(Check):
     def test_what_is_refused(self):
         top = self.clone("top", 0o022)
         release, settings = top / "tools" / "release", {"MPSIM_PROGRAMS": str(top / "programs")}
-        self.refuses(1, "release: there is no program mpsim: ./mpsim builds it", release, folder=top, settings={"MPSIM_PROGRAMS": ""})
+        self.refuses(1, "release: there is no program mpsim: ./build.py mpsim builds it", release, folder=top, settings={"MPSIM_PROGRAMS": ""})
         (top / "programs" / "mpedit").unlink()
-        self.did(run(release, folder=top, settings=settings), 1, "", "release: there is no program mpedit: ./mpedit builds it\n")
+        self.did(run(release, folder=top, settings=settings), 1, "", "release: there is no program mpedit: ./build.py mpedit builds it\n")
         (top / "VERSION").write_text("9.9\n")
         self.did(run(release, folder=top, settings=settings), 1, "", "release: CHANGELOG.md has no heading with the version 9.9 and its date\n")
         self.holds("nothing is written", not (top / "dist").exists())
         self.same("words", run(release, "a", "b").status, 2)
 
     def test_programs_of_other_sources(self):
-        """The programs of a clone have to be built of what its sources hold."""
+        """The programs of a clone must be built from its current sources."""
         top = self.clone("top", 0o022)
         (top / "crates.txt").write_text("".join(f"{name}:\n" for name in PROGRAMS))
         for name in PROGRAMS:
@@ -194,5 +195,5 @@ class Release(Check):
         ran = run(top / "tools" / "release", "to", folder=top, settings=settings)
         self.same(f"{ran.command}\n{ran.line.decode()}", (ran.status, (top / "to" / ARCHIVE).is_file()), (0, True))
         (top / "crates" / "mpsweep" / "src" / "main.rt").write_text("two\n")
-        line = "release: mpsweep isn't built of what the sources hold: ./mpsweep builds it"
+        line = "release: mpsweep is out of date with its sources: ./build.py mpsweep rebuilds it"
         self.refuses(1, line, top / "tools" / "release", "to", folder=top, settings=settings)

@@ -1,4 +1,4 @@
-"""mpsweep: a sweep writes what the single runs of mpsim write, whatever the order; its refusals, and faults of devices, memory and threads."""
+"""mpsweep: a sweep writes what the single runs of mpsim write, in any order of threads; its errors, and errors of devices, memory and threads."""
 from inputs import line_feeds
 from programs import CASES, DESK_FILES, EXAMPLES, ROOT, Check, run
 from refusals import each_refused, first_refused_mutely, refusing
@@ -7,16 +7,16 @@ DAY = EXAMPLES / "sweep"
 STORED = ROOT / "crates" / "mpsweep" / "stdout"
 MODEL, TRACE = DESK_FILES
 UNKNOWN = CASES / "unknown-kind" / "model.txt"
-# The models of the examples and cases, and some traces, which few of these models accept: most are refused, for each of the causes.
+# The models of the examples and cases, and some traces that few of these models accept: most runs are refused, for every cause.
 MODELS = [*sorted(EXAMPLES.glob("*/model.txt")), *sorted(CASES.glob("*/model.txt"))]
 TRACES = [TRACE, *(CASES / name / "trace.csv" for name in ("rows-by-time", "too-many-visits", "past-the-bound"))]
-# More models than workers, of which one is refused at once, and one is a trace.
+# More models than workers; one is refused at once, and one is a trace.
 MIXED = [MODEL, UNKNOWN, MODEL, MODEL, TRACE, MODEL]
 USAGE = "mpsweep: usage: mpsweep TRACE MODEL.."
 
 
 def single_runs(trace, *models):
-    """The status and the text of a sweep: what mpsim writes for each model behind a line that counts it and has its status."""
+    """Returns the status and the text of a sweep: for each model a line with its number and status, then what mpsim writes."""
     runs = [run("mpsim", model, trace) for model in models]
     parts = [f"scenario {number} status {ran.status}\n".encode() + ran.out + ran.line for number, ran in enumerate(runs, 1)]
     return 11 if any(ran.status for ran in runs) else 0, b"".join(parts)
@@ -39,7 +39,7 @@ class Sweeps(Check):
                     self.is_single_runs(trace, model)
 
     def test_a_sweep_again_and_again(self):
-        """One worker or another comes last each time."""
+        """Different workers finish last each time."""
         wanted = single_runs(TRACE, *MIXED)
         for _ in range(101):
             self.did(run("mpsweep", TRACE, *MIXED), *wanted)
@@ -50,7 +50,7 @@ class Sweeps(Check):
         self.refuses(12, "mpsweep: cannot read the words", "mpsweep", b"\xff", MODEL)
 
     def test_files_that_are_refused(self):
-        """The first of them by the words is told."""
+        """The error names the first of them, in the order of the arguments."""
         absent, long_model, long_trace = self.folder / "absent", self.file("long.txt", *line_feeds(65537)), self.file("long.csv", *line_feeds(134217729))
         self.refuses(3, "mpsweep: file 1 is too long", "mpsweep", long_trace, absent)
         self.refuses(3, "mpsweep: file 3 is too long", "mpsweep", TRACE, MODEL, long_model, absent)
@@ -86,7 +86,7 @@ class Devices(Check):
 
 
 class Memory(Check):
-    """What a worker has no memory for is run again when all have ended."""
+    """Runs for which a worker lacks memory are repeated once all have ended."""
 
     WORDS = "mpsweep", TRACE, MODEL, UNKNOWN, MODEL
 
@@ -99,7 +99,7 @@ class Memory(Check):
         first_refused_mutely(self, "mpsweep", TRACE, MODEL)
 
     def test_threads(self):
-        """One thread after another is refused, and all of them: the whole text."""
+        """Refuses one thread after another, and all of them: the text is complete."""
         wanted = single_runs(*self.WORDS[1:])
         for threads in range(3):
             ran, refused = refusing(self, *self.WORDS, THREADS=str(threads))

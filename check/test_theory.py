@@ -1,13 +1,13 @@
-"""Beside queueing theory (theory.py), with few jobs: figures of mpsim are where theory has them, and those of two wrong programs aren't.
+"""Compares few jobs with queueing theory (theory.py): the figures of mpsim agree with it, and those of two wrong programs don't.
 
-docs/VALIDATION.md has the figures of a million jobs; here its rows are compared with what is told now.
+docs/VALIDATION.md has the figures of a million jobs; its rows are compared with what is printed now.
 """
 import re
 import sys
 
 from programs import CHECKS, PROGRAMS, ROOT, Check, executable, run
 
-# A server that serves who came last first, in place of every model: its report is whole, and by its means alone nobody would see it.
+# A last-come-first-served server instead of every model: its report is complete, and its means alone look right.
 LAST_FIRST = """#!/usr/bin/env python3
 import sys
 rows = [line.split(",") for line in open(sys.argv[2]).read().splitlines()[1:]]
@@ -31,7 +31,7 @@ for job, (time, _) in enumerate(jobs):
 for job, (time, _) in enumerate(jobs):
     print(f"job {job + 1} desk arrive {time} wait {waits[job]} depart {ends[job]}")
 """
-# A loss station has a place more than its model says.
+# A loss station has one place more than its model says.
 PLACE_MORE = """#!/bin/sh
 places=$(sed -n 's/^loss desk \\([0-9]*\\).*/\\1/p' "$1")
 sed "s/^loss desk $places/loss desk $((places + 1))/" "$1" >"$0.model"
@@ -42,7 +42,7 @@ exec "$MPSIM" "$0.model" "$@"
 
 class Theory(Check):
     def figures(self, only, jobs, program=None):
-        """What theory.py tells of a section: its status, and of each figure whether it holds."""
+        """Returns the output of theory.py for a section: its status, and whether each figure holds."""
         folder = self.folder / f"programs {only} {bool(program)}".replace("/", "")
         folder.mkdir()
         for name in PROGRAMS:
@@ -58,26 +58,26 @@ class Theory(Check):
 
     def test_figures_of_mpsim(self):
         for only, count in ("M/M/1", 4), ("M/M/1/K", 3), ("Saturated tandems", 3), ("M/G/∞", 4), ("Erlang C", 4):
-            ran, told = self.figures(only, 31_000)
-            self.same(f"{ran.command}\n{ran.out.decode()}", (ran.status, len(told), set(told.values())), (0, count, {True}))
+            ran, results = self.figures(only, 31_000)
+            self.same(f"{ran.command}\n{ran.out.decode()}", (ran.status, len(results), set(results.values())), (0, count, {True}))
 
     def test_who_came_last_is_served_first(self):
-        """Means are the same, and percentiles aren't."""
-        ran, told = self.figures("M/M/1", 31_000, LAST_FIRST)
+        """The means are the same, but the percentiles aren't."""
+        ran, results = self.figures("M/M/1", 31_000, LAST_FIRST)
         means = ["M/M/1: mean wait", "M/M/1: share that waits"]
-        self.same(f"{ran.command}\n{ran.out.decode()}", (ran.status, [it for it in told if told[it]]), (1, means))
+        self.same(f"{ran.command}\n{ran.out.decode()}", (ran.status, [result for result in results if results[result]]), (1, means))
 
     def test_a_place_too_many(self):
-        ran, told = self.figures("M/M/1/K", 31_000, PLACE_MORE)
-        self.same(f"{ran.command}\n{ran.out.decode()}", (ran.status, told), (1, dict.fromkeys(told, False)))
+        ran, results = self.figures("M/M/1/K", 31_000, PLACE_MORE)
+        self.same(f"{ran.command}\n{ran.out.decode()}", (ran.status, results), (1, dict.fromkeys(results, False)))
 
     def test_rows_of_the_page(self):
-        """They are the figures that are told, in their order, and all hold."""
-        ran, told = self.figures("", 3_100)
+        """They are the figures printed now, in the same order, and all hold."""
+        ran, results = self.figures("", 3_100)
         page, title, rows = (ROOT / "docs" / "VALIDATION.md").read_text(), "", []
         for line in page.splitlines():
             title = line[3:] if line.startswith("## ") else title
             if line.startswith("| ") and not line.startswith("| What"):
                 rows.append(f"{title}: {line.split(' | ')[0][2:]}")
-        self.same("docs/VALIDATION.md", rows, list(told))
+        self.same("docs/VALIDATION.md", rows, list(results))
         self.holds("docs/VALIDATION.md: a figure that doesn't hold", "**no**" not in page and "fails" not in page)

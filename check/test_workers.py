@@ -1,4 +1,4 @@
-"""Workers: a text that is read in pieces, threads that come in any order, and how many threads a run starts."""
+"""Workers: a text that is read in pieces, threads that finish in any order, and how many threads a run starts."""
 import shutil
 
 from inputs import lines_of, unescaped
@@ -10,7 +10,8 @@ HALF = 65536
 
 
 def padded(marked, many):
-    """The bytes of a text in which each @ stands for line feeds: the first for so many, each further one for what is left of two halves."""
+    """Returns the bytes of a text in which each @ stands for line feeds: this many for the first, and for each further one what is left of two
+    halves."""
     first, *behind = marked.split("@")
     parts = [unescaped(first)]
     for number, part in enumerate(behind):
@@ -20,8 +21,8 @@ def padded(marked, many):
 
 class Workers(Check):
     def pieces(self, marked):
-        """Four workers read a text in pieces, and answer what one answers, who reads it whole. Line feeds have it cut at other bytes each time,
-        and a cut goes on to the next line feed."""
+        """Four workers read a text in pieces, and answer like one worker that reads it whole. Line feeds shift the cuts to other bytes each time, and
+        a cut moves to the next line feed."""
         whole = run("mpsim", "--workers", "1", "--jobs", DESK / "model.txt", self.file("whole.csv", padded(marked, HALF)))
         for first in range(65480, 65561, 3):
             with self.subTest(f"{marked} with {first} line feeds"):
@@ -35,21 +36,22 @@ class Workers(Check):
     def test_threads_that_start(self):
         if not shutil.which("strace") or run("strace", "-f", "-o", "/dev/null", "-e", "trace=clone,clone3", "true").status:
             self.skipTest("no strace here, so the threads of a run are not counted")
-        # Few rows are one worker's, and one worker starts none. Four workers read the trace of made input 7, which is cut into three pieces: the ends
-        # of two, the rows of three, and more lists of rows than workers want one, two and three threads.
+        # Few rows are left to one worker, and one worker starts no threads. Four workers read the trace of generated input 7, which is cut into three
+        # pieces: the ends of two, the rows of three, and more lists of rows than workers need one, two and three threads.
         self.starts(0, 0, *CALL_FILES)
         self.starts(0, 0, "--made", "7", "--workers", "1")
         self.starts(6, 6, "--made", "7", "--workers", "4")
-        # Of 64 workers no more start than a list has pieces or a server blocks: all lists together want fewer threads than one list would for all workers.
+        # Of 64 workers only as many start as a list has pieces or a server has blocks: all lists together need fewer threads than one list would for
+        # all workers.
         source = EXAMPLES / "source" / "model.txt", EXAMPLES / "source" / "trace.csv"
         self.starts(1, 62, "--jobs", "--workers", "64", "--block", "1", *source)
         self.starts(1, 62, "--jobs", "--workers", "64", "--block", "1", *DESK_FILES)
-        # Without the lines of the jobs nothing of a source is worked out, and a station's pieces are.
+        # Without job lines nothing is computed for a source, but the pieces of a station are.
         self.starts(0, 0, "--workers", "64", "--block", "1", *source)
         self.starts(1, 62, "--workers", "64", "--block", "1", *DESK_FILES)
 
     def starts(self, least, most, *words):
-        """A run starts at least and at most so many threads besides its own."""
+        """A run starts at least and at most this many threads besides its own."""
         calls = self.file("calls.txt")
         ran = run("strace", "-f", "-qq", "-o", calls, "-e", "trace=clone,clone3", PROGRAMS["mpsim"], *words)
         self.assertEqual(ran.status, 0, ran.command)

@@ -1,7 +1,6 @@
-"""The texts that the reference reads: lines, words and numbers of a model, the records of a trace, the words of a command.
+"""The texts that the reference reads: lines, words and numbers of a model, the records of a trace, the arguments of a command.
 
-They are as docs/MODEL.md says ("The lines", "The trace"), and refused as docs/ERRORS.md says. A text is a string of
-characters up to 255, one a byte.
+They follow docs/MODEL.md ("The lines", "The trace"), and errors follow docs/ERRORS.md. A text is a string of characters up to 255, one per byte.
 """
 
 from __future__ import annotations
@@ -20,7 +19,7 @@ USAGE = ('usage: mpsim MODEL TRACE [--workers N] [--block N] [--jobs] [--report 
 
 
 class Refused(Exception):
-    """A refusal: its status, and its line without the program's name."""
+    """A rejection: its status, and its error line without the program's name."""
 
     def __init__(self, status: int, line: str):
         super().__init__(line)
@@ -28,7 +27,7 @@ class Refused(Exception):
 
 
 def lines_of(text: str) -> list[str]:
-    """The lines of a model or of edits. A line feed ends each but perhaps the last; a carriage return at a line's end is dropped."""
+    """Returns the lines of a model or of edits. Each ends with a line feed, except perhaps the last; a carriage return at a line's end is dropped."""
     lines = without_mark(text).split('\n')
     if lines[-1] == '':
         lines.pop()
@@ -36,36 +35,36 @@ def lines_of(text: str) -> list[str]:
 
 
 def without_mark(text: str) -> str:
-    """The text without one byte order mark at its front."""
+    """Returns the text without one leading byte order mark."""
     return text[3:] if text.startswith('\xef\xbb\xbf') else text
 
 
 def words_of(line: str) -> list[str]:
-    """What spaces and tabs part."""
+    """Splits a line at spaces and tabs."""
     return re.findall(r'[^ \t]+', line)
 
 
 def number_of(word: str, least: int, most: int) -> Optional[int]:
-    """The number that 1 to 20 digits stand for, where it is in the range; else none."""
+    """Returns the number with 1 to 20 digits in a word if it is in the range, else None."""
     if not re.fullmatch(r'[0-9]{1,20}', word) or not least <= int(word) <= most:
         return None
     return int(word)
 
 
 def name_of(word: str) -> Optional[str]:
-    """The word, where it is a name of a node or of a column."""
+    """Returns the word if it is a valid name of a node or a column."""
     return word if re.fullmatch(r'[a-z][a-z0-9_]{0,31}', word) and word != 'from' else None
 
 
 class Row(NamedTuple):
-    """A record of the trace: its source, its time, and its values by the columns that the model names."""
+    """A record of the trace: its source, its time, and its values by column, for the columns that the model names."""
     source: str
     time: int
     values: dict[str, int]
 
 
 class Demand(NamedTuple):
-    """How much service a job asks for: the value of a column of the trace, or a fixed number, in ticks."""
+    """The service time of a job: the value of a column of the trace, or a fixed number, in ticks."""
     column: Optional[str]
     ticks: int
 
@@ -81,7 +80,7 @@ def demand_of(word: str) -> Optional[Demand]:
 
 
 class Input(NamedTuple):
-    """What a node reads: an output of another node."""
+    """An input of a node: an output of another node."""
     name: str
     output: int
 
@@ -94,7 +93,7 @@ def input_of(word: str) -> Optional[Input]:
 
 
 class Line:
-    """The words of a line of a model, taken one after another. The first that can't stand where it does is refused."""
+    """The words of a line of a model, taken one after another. The first that isn't allowed is an error."""
 
     def __init__(self, number: int, words: list[str]):
         self.number, self.words, self.taken = number, words, 0
@@ -106,7 +105,7 @@ class Line:
         return self.taken < len(self.words) and self.words[self.taken] == word
 
     def take(self, meaning: Callable):
-        """What the next word means."""
+        """Returns the meaning of the next word."""
         value = meaning(self.words[self.taken]) if self.taken < len(self.words) else None
         if value is None:
             raise self.refused(f'word {self.taken + 1} not allowed')
@@ -120,7 +119,7 @@ class Line:
         return self.take(lambda word: number_of(word, least, most))
 
     def inputs(self, least: int) -> list[Input]:
-        """`from`, and then `least` to 8 inputs, to the end of the line."""
+        """Reads `from`, and then `least` to 8 inputs, to the end of the line."""
         self.literal('from')
         inputs = [self.take(input_of) for _ in range(least)]
         while self.taken < len(self.words) and len(inputs) < 8:
@@ -133,11 +132,12 @@ class Line:
 
 
 def read_trace(text: str, sources, columns: list[str]) -> list[Row]:
-    """The rows of a trace, for a model with these sources that names these columns. The first record is the header; empty lines are none."""
+    """Returns the rows of a trace, for a model with these sources that names these columns. The first record is the header; empty lines are
+    skipped."""
     if len(text) > TRACE_BYTES:
         raise Refused(4, f'trace: longer than {TRACE_BYTES} bytes')
     csv.field_size_limit(TRACE_BYTES)
-    text = without_mark(text).replace('\0', '\u0100')   # before Python 3.11 csv takes no NUL
+    text = without_mark(text).replace('\0', '\u0100')   # before Python 3.11 csv rejects NUL
     records = [record for record in csv.reader(io.StringIO(text, newline='')) if record]
     header = records.pop(0) if records else []
     for field in range(max(len(header), 2)):
@@ -174,7 +174,7 @@ def row_of(number: int, record: list[str], fields: int, sources, places: dict[st
 
 
 class Settings(NamedTuple):
-    """What the words of `mpsim` ask for: the names of the model and the trace, or the number of a made input."""
+    """The arguments of `mpsim`: the names of the model and the trace, or the number of a generated input."""
     names: list[str]
     made: Optional[int]
     jobs: bool

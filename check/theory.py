@@ -1,16 +1,16 @@
 #!/usr/bin/env python3
-"""Sets mpsim beside what queueing theory says, on random jobs, and makes docs/VALIDATION.md and docs/validation.svg.
+"""Compares mpsim with queueing theory on random jobs. With --write it writes docs/VALIDATION.md and docs/validation.svg.
 
-usage: check/theory.py [--jobs N] [--seeds S..] [--only TITLE] [--write]    a million jobs a run, seeds 1, 2 and 3, all sections; nothing is written
-TITLE is that of a section, or a part of several.
+usage: check/theory.py [--jobs N] [--seeds S..] [--only TITLE] [--write]
+The defaults are a million jobs per run, seeds 1, 2 and 3, and all sections; nothing is written without --write. TITLE is the title of a section, or a
+part of it.
 
-How far a figure may be from theory's isn't chosen: the jobs of a run are cut into 31 batches by the order in which they come, the first is left out
-(the network is empty when it begins), and the means of the other 30 give a standard error. A figure holds where it is at most 4.5 of these off: where
-all is well, one of a hundred runs of this program has a figure that is further off. Each figure is told on the output; the status is 1 where one doesn't
-hold.
+The tolerance isn't chosen. The jobs of a run are divided into 31 batches, in order of arrival. The first is left out, because the network starts empty;
+the means of the other 30 give a standard error. A figure holds if it is at most 4.5 standard errors from theory. If all is well, one run of this program
+in a hundred has a figure that is further off. Each figure is printed; the status is 1 if one doesn't hold.
 
-The programs are those that the package of python/src finds: those of MPSIM_PROGRAMS, or of this clone. A seed takes some four minutes of processor
-time, most of it to read what mpsim writes.
+The programs are found as by the Python package: those of MPSIM_PROGRAMS, or those of this clone. A seed takes some four minutes of processor time, most
+of it to read the output of mpsim.
 """
 import argparse
 import heapq
@@ -34,7 +34,7 @@ SECTIONS = {}
 
 
 class Figure(NamedTuple):
-    """What is told, by which formula, what theory has, what the program has, and the standard error of that."""
+    """A figure: its name, the formula, the value by theory, the measured value and its standard error."""
 
     what: str
     formula: str
@@ -44,7 +44,7 @@ class Figure(NamedTuple):
 
     @property
     def off(self):
-        """How many standard errors the program's is above theory's."""
+        """The number of standard errors by which the measured value is above theory."""
         difference = self.measured - self.theory
         return difference / self.error if self.error else math.copysign(math.inf, difference) if difference else 0.0
 
@@ -140,7 +140,7 @@ def lost_of(visits):
 SERVER = "model 1\nsource door\nserver desk a from door\n"
 
 
-@section("M/M/1", "Arrivals at random, exponential services of mean 1, load ρ = 0.8.")
+@section("M/M/1", "Poisson arrivals, exponential services of mean 1, load ρ = 0.8.")
 def one_server(it):
     load = 0.8
     waits = it.run(SERVER, it.arrivals(TICKS / load), it.exponential(TICKS)).visits["desk"].wait
@@ -155,14 +155,14 @@ def one_server(it):
 
 @section(
     "M/D/1 and M/G/1",
-    "Pollaczek and Khinchine: the mean wait is ρ (1 + c²) / (2 (1 - ρ)), where c² is the variance of a service over the square of its mean. Load 0.8.",
+    "Pollaczek and Khinchine: the mean wait is ρ (1 + c²) / (2 (1 - ρ)), where c² is the squared coefficient of variation of the services. Load 0.8.",
 )
 def any_services(it):
     load = 0.8
     services = {
-        "equal services": (0, [TICKS] * it.jobs),
+        "constant services": (0, [TICKS] * it.jobs),
         "services uniform from 0 to 2": (1 / 3, it.uniform(2 * TICKS)),
-        "services of two exponentials, c² = 4": (4, it.two_exponentials(TICKS, 4)),
+        "hyperexponential services, c² = 4": (4, it.two_exponentials(TICKS, 4)),
     }
     for name, (square, column) in services.items():
         waits = it.run(SERVER, it.arrivals(TICKS / load), column).visits["desk"].wait
@@ -171,8 +171,8 @@ def any_services(it):
 
 @section(
     "Stations in a row",
-    "Burke: jobs leave M/M/1 as they come, at random at the same rate, each time between two departures apart from the one before it. So each of three "
-    "servers in a row is as M/M/1 by itself (Jackson). Loads 0.5, 0.7 and 0.8; times between departures in mean times between arrivals.",
+    "Burke: the departures from M/M/1 are a Poisson process with the rate of the arrivals. So each of three servers in a row behaves as M/M/1 by itself "
+    "(Jackson). Loads 0.5, 0.7 and 0.8; times between departures are in mean times between arrivals.",
 )
 def in_a_row(it):
     loads, names = (0.5, 0.7, 0.8), ("first", "second", "third")
@@ -187,12 +187,12 @@ def in_a_row(it):
     gaps = [(after - before) / TICKS for before, after in zip(departs, departs[1:])]
     it.tell("square of the time between departures", "2", 2, [gap * gap for gap in gaps])
     it.tell("share of these times above 1", "1 / e", math.exp(-1), [gap > 1 for gap in gaps])
-    it.tell("product of two in a row", "1", 1, [before * after for before, after in zip(gaps, gaps[1:])])
+    it.tell("product of two successive times", "1", 1, [before * after for before, after in zip(gaps, gaps[1:])])
 
 
 @section(
     "Splits by chance",
-    "Jackson: two sources, three servers and a split by a drawn column. Each server is as M/M/1 by itself, with a mean time in it of S / (1 - ρ).",
+    "A Jackson network: two sources, three servers and a split by a random column. Each server behaves as M/M/1 by itself; the mean time in it is S / (1 - ρ).",
 )
 def by_chance(it):
     model = "model 1\nsource door\nsource web\nserver front a from door\nsplit ways cut d 500000 from front\nserver left b from ways\n"
@@ -207,7 +207,7 @@ def by_chance(it):
         it.tell(f"mean time in `{name}`, load {load}", "S / (1 - ρ)", load / shares[name] / (1 - load), stays_of(visits[name]), TICKS)
 
 
-@section("M/M/1/K", "A loss station with K places, load 0.8: the share that finds all of them taken.")
+@section("M/M/1/K", "A loss station with K places, load 0.8: the share of jobs that find all places taken.")
 def few_places(it):
     load = 0.8
     times, services = it.arrivals(TICKS / load), it.exponential(TICKS)
@@ -226,21 +226,21 @@ def erlang_b(lines, load):
 
 @section(
     "Erlang B",
-    "Erlang's loss formula: the share of calls that find all of 30 lines taken, where 25 would be on average. How holding times are spread changes nothing.",
+    "Erlang's loss formula: the share of calls that find all 30 lines taken, at an offered load of 25 erlangs. The distribution of holding times makes no difference.",
 )
 def no_line_free(it):
     load, lines, model = 25, 30, "model 2\nsource door\ntrunk lines {lines} a from door\n"
     holding = {
         "exponential": it.exponential(load * TICKS),
-        "equal": [load * TICKS] * it.jobs,
+        "constant": [load * TICKS] * it.jobs,
         "uniform": it.uniform(2 * load * TICKS),
-        "of two exponentials, c² = 10": it.two_exponentials(load * TICKS, 10),
+        "hyperexponential, c² = 10": it.two_exponentials(load * TICKS, 10),
     }
     for name, column in holding.items():
         times = it.arrivals(TICKS)
         visits = it.run(model.format(lines=lines), times, column).visits["lines"]
         it.tell(f"share lost, holding times {name}", "B(30, 25)", erlang_b(lines, load), lost_of(visits))
-        if it.drawn and name in ("exponential", "equal"):
+        if it.drawn and name in ("exponential", "constant"):
             models, trace = mpsim.variants(model, lines=range(15, 41, 5)), trace_of(times, column)
             it.points[name] = [(lines, mpsim.run(text, trace)["lines"].share_lost) for lines, text in models.items()]
 
@@ -257,9 +257,9 @@ def queued(times, services, servers):
 
 @section(
     "Erlang C",
-    "Ten agents with one queue, load 0.85 for each. No node is such a queue: the wait of each call is worked out by a recurrence over the agents' next free "
-    "times (`queued` of `check/theory.py`) and goes into the trace as a column, a delay holds the call so long, and a trunk group of ten has it served. So "
-    "these figures are that recurrence's; that no call is lost at the trunk group is the program's word that ten agents are enough for the waits.",
+    "Ten agents with one queue, at a load of 0.85 each. No node is such a queue. A recurrence over the agents' next free times computes the wait of each "
+    "call (`queued` of `check/theory.py`). The wait goes into the trace as a column, a delay holds the call that long, and a trunk group of ten serves it. "
+    "So these figures test that recurrence. The trunk group loses no call, which confirms that ten agents are enough for these waits.",
 )
 def one_queue(it):
     agents, load = 10, 8.5
@@ -277,11 +277,11 @@ def one_queue(it):
 
 @section(
     "M/G/∞",
-    "A delay, in which 20 jobs are on average: how many a job finds there has a Poisson distribution, whatever the spread of the times in it, so that "
-    "mean and variance are one.",
+    "A delay with 20 jobs in it on average. The number of jobs that an arrival finds has a Poisson distribution, whatever the distribution of the times, so "
+    "its mean and its variance are equal.",
 )
 def nobody_waits(it):
-    for name, held in ("uniform", it.uniform(40 * TICKS)), ("of two exponentials, c² = 4", it.two_exponentials(20 * TICKS, 4)):
+    for name, held in ("uniform", it.uniform(40 * TICKS)), ("hyperexponential, c² = 4", it.two_exponentials(20 * TICKS, 4)):
         visits = it.run("model 1\nsource door\ndelay room a from door\n", it.arrivals(TICKS), held).visits["room"]
         gone, found, left = sorted(visits.depart), [], 0
         for before, arrive in enumerate(visits.arrive):
@@ -289,13 +289,13 @@ def nobody_waits(it):
                 left += 1
             found.append(before - left)
         it.tell(f"jobs found, times {name}", "λ S", 20, found)
-        it.tell(f"square of that less 20, times {name}", "λ S", 20, [(count - 20) ** 2 for count in found])
+        it.tell(f"squared deviation from 20, times {name}", "λ S", 20, [(count - 20) ** 2 for count in found])
 
 
 @section(
     "Fork and join of two",
-    "Flatto and Hahn: of two servers to which each job goes at once, each M/M/1, the mean time until it is through both. As one node, and by a fork and a "
-    "join, with half as many jobs: each of its two parts is a visit to the join, and a node has 1,048,576 at most.",
+    "Flatto and Hahn: each job goes to two M/M/1 servers at once, and the figure is the mean time until both are done. It is modelled as one node, and as a "
+    "fork and a join. The latter has half as many jobs, since both parts of a job are visits to the join, and a node has at most 1,048,576.",
 )
 def two_at_once(it):
     node = "model 1\nsource door\nforkjoin both a | b from door\n"
@@ -313,8 +313,8 @@ def two_at_once(it):
 
 @section(
     "Saturated tandems",
-    "Two exponential servers in a row, the first of which never lacks work; K places at the second, with the one in service. The mean time between "
-    "departures, which Hunt found in 1956 for no place to spare; for more it follows from the same birth and death process.",
+    "Two exponential servers in a row. The first always has work; the second has K places, counting the one in service. The figure is the mean time between "
+    "departures, which Hunt found in 1956 for K = 1; for more places it follows from the same birth and death process.",
 )
 def never_idle(it):
     for places in 1, 2, 4:

@@ -1,7 +1,7 @@
-"""What theory.py writes: docs/VALIDATION.md and its picture."""
+"""Makes what theory.py writes: docs/VALIDATION.md and its picture."""
 import math
 
-from theory import ALLOWED, SECTIONS, erlang_b
+from theory import ALLOWED, BATCHES, SECTIONS, erlang_b
 
 # Where the axes of a panel begin and end, in the picture's units; shares go from 1 down to LEAST.
 TOP, BOTTOM, WIDTH, LEAST = 40, 265, 290, 1e-4
@@ -13,7 +13,7 @@ def number(value):
 
 
 def table(samples):
-    """The table of a section: the first seed's figures, and how far off those of each seed are."""
+    """The table of a section: the first seed's figures, and how far off each seed's are."""
     seeds = len(samples)
     yield f"| What | Formula | Theory | mpsim | Standard error | {' | '.join(['Off', *[''] * (seeds - 1)])} |"
     yield f"|{'---|' * (5 + seeds)}"
@@ -23,34 +23,43 @@ def table(samples):
         yield f"| {first.what} | {first.formula} | {number(first.theory)} | {number(first.measured)} | {first.error:.2g} | {offs} |"
 
 
-def page(found, words):
-    """The page, of samples by the titles of their sections, one for each seed."""
-    figures = [it for samples in found.values() for sample in samples for it in sample.figures]
-    samples = [it for samples in found.values() for it in samples]
-    nodes, visits = sum(it.nodes for it in samples), sum(it.visits for it in samples)
-    off = [name for it in samples for name in it.off_little]
-    lines = [
-        "# Beside theory",
+def beginning(jobs, seeds, held, count, nodes, visits, off):
+    """The lines before the sections. `off` has the names of the nodes at which Little's law doesn't hold."""
+    little = "the sum of the times in it that the lines of `--jobs` give, to the tick."
+    return [
+        "# Comparison with theory",
         "",
-        f"`check/theory.py --write` wrote this page. It draws {words.jobs:,} random jobs for each run, has `mpsim` run them, and compares: {len(figures)} figures",
-        f"by {'the seeds' if words.seeds[1:] else 'seed'} {', '.join(map(str, words.seeds))}, of which {sum(it.holds for it in figures)} are where theory has them. Theory and what `mpsim` has by the"
-        " first seed stand below; times are in mean",
-        f"services where nothing else is said. Off is how many standard errors each seed's figure is from theory's: {ALLOWED} are allowed, and where all is well one",
-        "of a hundred such pages has a figure that is further off. The standard error comes from the means of 30 batches of jobs, behind a first one that isn't",
-        "counted, since the network is empty when it begins.",
+        f"`check/theory.py --write` writes this page. It runs `mpsim` on {jobs:,} random jobs per run and compares the results with",
+        f"queueing theory. By {'seeds' if seeds[1:] else 'seed'} {', '.join(map(str, seeds))}, {held} of {count} figures agree.",
         "",
-        "So a fault shows that moves a figure by some standard errors, here a tenth of a per cent to a few per cent. No fault of a tick, of the order at one time",
-        "or of a single job does: these are proved, and compared with an event list (`check/compare.py`). And a figure that is off may be the draws' fault. Two",
-        "wrong forms are seen in `check/run theory`: a server that serves who came last first, and a loss station with a place too many.",
+        "- *Theory* and *mpsim* (by the first seed) are in mean service times, unless stated otherwise.",
+        f"- *Off* is each seed's distance from theory in standard errors. Up to {ALLOWED} are allowed. If all is well, one such page in",
+        "  a hundred has a figure that is further off.",
+        f"- The standard error comes from the means of {BATCHES} batches of jobs. A first batch isn't counted, because the network starts",
+        "  empty.",
         "",
-        f"**Little's law holds exactly** at each of {nodes} nodes, over {visits:,} visits: `area`, the number in the node summed over time, is the sum of the times"
+        "An error that moves a figure by several standard errors, here 0.1% to a few per cent, would show. An error of one tick,",
+        "in the order of simultaneous events or in a single job would not; these are proved, and compared with an event list",
+        "(`check/compare.py`). A figure may also be off because of the random draws. `check/run theory` shows that two wrong",
+        "programs are noticed: a server that serves the last arrival first, and a loss station with one place too many.",
+        "",
+        f"**Little's law holds exactly** at all {nodes} nodes, over {visits:,} visits: `area`, the number in the node summed over time, is"
         if not off
-        else f"**Little's law fails** at {', '.join(off)}: `area`, the number in the node summed over time, isn't the sum of the times",
-        "in it that the lines of the jobs tell, tick by tick.",
+        else f"**Little's law fails** at {', '.join(off)}: `area`, the number in the node summed over time, isn't",
+        little,
         "",
         "![Waits of M/M/1 and calls lost, by mpsim and by formula](validation.svg)",
         "",
     ]
+
+
+def page(found, words):
+    """The page, from samples by the titles of their sections, one per seed."""
+    figures = [it for samples in found.values() for sample in samples for it in sample.figures]
+    samples = [it for samples in found.values() for it in samples]
+    nodes, visits = sum(it.nodes for it in samples), sum(it.visits for it in samples)
+    off = [name for it in samples for name in it.off_little]
+    lines = beginning(words.jobs, words.seeds, sum(it.holds for it in figures), len(figures), nodes, visits, off)
     for title, samples in found.items():
         lines += [f"## {title}", "", SECTIONS[title][1], "", *table(samples), ""]
     return "\n".join(lines)
@@ -113,9 +122,9 @@ def picture(found):
         panel.line([(lines, erlang_b(lines, 25)) for lines in range(15, 41)])
         for lines, share in points["exponential"]:
             panel.circle(lines, share)
-        for lines, share in points["equal"]:
+        for lines, share in points["constant"]:
             panel.cross(lines, share)
-        panel.key(("○", MARK, "exponential holding times"), ("+", DARK, "equal ones"), ("—", LINE, "by formula"))
+        panel.key(("○", MARK, "exponential holding times"), ("+", DARK, "constant ones"), ("—", LINE, "by formula"))
         panels.append(panel)
     head = '<svg xmlns="http://www.w3.org/2000/svg" viewBox="0 0 760 320" font-family="sans-serif" font-size="12" role="img" '
     head += 'aria-label="Waits of M/M/1 and calls lost, by mpsim and by formula">'

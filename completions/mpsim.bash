@@ -18,6 +18,8 @@ _mpsim() {
         for i in $options; do
             [[ $given == *" $i "* ]] || left+="$i "
         done
+        # These are answered only without other arguments.
+        ((COMP_CWORD > 1)) || left+='--help --version '
         COMPREPLY=($(compgen -W "$left" -- "$word"))
         return
     fi

@@ -1,6 +1,6 @@
 #!/usr/bin/env python3
 """A month of calls, each day a run of its own that begins at 8 o'clock, so that nights and weekends don't spoil what a day tells. The calls are drawn
-here, more of them on Mondays; those of a log would come by `planner prepare`."""
+here, more of them on Mondays; those of a log would come by `mpplan prepare`."""
 
 import random
 
@@ -9,7 +9,7 @@ from mpsim.planner.days import by_calendar, days
 from mpsim.planner.traces import Trace
 
 MODEL = "model 1\nsource calls\nserver desk talk from calls\n"
-DAY, HOUR, SECOND = 86400, 3600, 10**6
+DAY, HOUR, SECOND = 86400, 3600, 10**9
 
 
 def drawn():

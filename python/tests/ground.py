@@ -1,5 +1,5 @@
-"""What the tests stand on: the files of the repository, reports read word by word apart from the package, stand-ins for programs, and what is left
-behind."""
+"""Common ground of the tests: the files of the repository, reports parsed independently of the package, stand-ins for programs, and checks that
+nothing is left behind."""
 
 import contextlib
 import os
@@ -22,51 +22,51 @@ sys.dont_write_bytecode = True
 
 
 def text_of(*parts):
-    """The text of a file, byte for byte."""
+    """Returns the text of a file, byte for byte."""
     return pathlib.Path(*parts).read_bytes().decode(errors="surrogateescape")
 
 
 def folders():
-    """The folders of examples and cases with a model and a trace, but for those that are called by other words."""
-    found = [it for top in (EXAMPLES, CASES) for it in sorted(top.iterdir()) if (it / "model.txt").is_file() and (it / "trace.csv").is_file()]
-    return [it for it in found if not (it / "words").exists()]
+    """Returns the directories of examples and cases with a model and a trace, except those run with other arguments."""
+    found = [path for top in (EXAMPLES, CASES) for path in sorted(top.iterdir()) if (path / "model.txt").is_file() and (path / "trace.csv").is_file()]
+    return [item for item in found if not (item / "words").exists()]
 
 
 def reports():
-    """The paths of the stored reports, of both forms, with and without lines of jobs."""
+    """Returns the paths of the stored reports, in both forms, with and without job lines."""
     paths = [EXAMPLES / "made-7.txt"]
     for name in "report.txt", "jobs.txt":
         paths += [*EXAMPLES.glob(f"*/{name}"), *CASES.glob(f"*/{name}")]
-    found = [it for it in sorted(paths) if text_of(it).startswith("mpsim report ")]
+    found = [path for path in sorted(paths) if text_of(path).startswith("mpsim report ")]
     assert len(found) > 100, len(found)
     return found
 
 
 def words_of(text, first):
-    """The words of the lines of a report that begin with this one."""
+    """Returns the words of the lines of a report that begin with this one."""
     return [line.split(" ") for line in text.splitlines() if line.startswith(f"{first} ")]
 
 
 def nodes_of(text):
-    """A dict a line `node`: its name, its kind, and each word's number as it is written."""
+    """Returns a dict per `node` line: its name, its kind, and each number as it is written."""
     return [{"name": words[1], "kind": words[2], **dict(zip(words[3::2], words[4::2]))} for words in words_of(text, "node")]
 
 
 def waits_of(text, node):
-    """The waits of the visits of a node that departed, as the lines of the jobs have them."""
+    """Returns the waits of a node's visits that departed, from the job lines."""
     return [int(words[6]) for words in words_of(text, "job") if words[2] == node and words[5] == "wait"]
 
 
 def hour_of(clock):
-    """What an hour of a day is called that a clock shows (a datetime with a zone): with the offset where it comes twice, or a part of it."""
-    shown = [clock.replace(minute=it, fold=0) for it in range(60)]
-    is_twice = any(it.utcoffset() > it.replace(fold=1).utcoffset() for it in shown)
+    """Returns the name of an hour of a day (given as a datetime with a zone): with the offset if any part of it occurs twice."""
+    shown = [clock.replace(minute=number, fold=0) for number in range(60)]
+    is_twice = any(item.utcoffset() > item.replace(fold=1).utcoffset() for item in shown)
     return clock.strftime("%Y-%m-%d %H:00") + clock.isoformat()[-6:] * is_twice
 
 
 @contextlib.contextmanager
 def programs_in(folder):
-    """Has the programs of a folder run, within the block."""
+    """Makes the package use the programs in a directory, within the block."""
     before = os.environ.get("MPSIM_PROGRAMS")
     os.environ["MPSIM_PROGRAMS"] = str(folder)
     try:
@@ -78,7 +78,7 @@ def programs_in(folder):
 
 
 def stand_in(folder, name, script):
-    """Puts a script of the shell into a folder, as the program of this name."""
+    """Puts a shell script into a directory, in place of the program of this name."""
     path = pathlib.Path(folder, name)
     path.write_text(f"#!/bin/sh\n{script}\n")
     path.chmod(0o755)
@@ -86,17 +86,17 @@ def stand_in(folder, name, script):
 
 
 def heeds_signals():
-    """Between fork and exec: has Ctrl-C end the program, which one that a shell started behind its back ignores."""
+    """Between fork and exec: lets Ctrl-C end the program even if a shell started it in the background, which ignores it."""
     signal.signal(signal.SIGINT, signal.default_int_handler)
 
 
 def children_of(process):
-    """The numbers of the processes that a process started and that are there."""
-    return [int(it) for task in pathlib.Path(f"/proc/{process}/task").iterdir() for it in (task / "children").read_text().split()]
+    """Returns the numbers of the running child processes of a process."""
+    return [int(part) for task in pathlib.Path(f"/proc/{process}/task").iterdir() for part in (task / "children").read_text().split()]
 
 
 class Test(unittest.TestCase):
-    """A test behind which no file is open, no process and no thread runs that wasn't before it."""
+    """A test that must leave behind no open file, process or thread."""
 
     maxDiff = 2000
 
@@ -105,5 +105,5 @@ class Test(unittest.TestCase):
         self.addCleanup(lambda: self.assertEqual(self._there(), before, "left behind"))
 
     def _there(self):
-        # The folder itself is open while it is listed.
+        # The directory itself is open while it is listed.
         return len(os.listdir("/proc/self/fd")), children_of(os.getpid()), threading.active_count()

@@ -1,5 +1,5 @@
-"""Who looks at a page: a browser, or in its place a program for node that has as much of a document as the page's script asks for. Both do the same:
-`all` gives the text and the attributes of elements by a selector, the other calls do what a person does with the one at a place."""
+"""Looks at a page through a browser, or through a program for node that provides as much of a document as the page's script uses. Both have the same
+methods: `all` gives the text and the attributes of elements by a selector, the other calls act on one of them as a person would."""
 
 import html.parser
 import json
@@ -50,17 +50,17 @@ class Tree(html.parser.HTMLParser):
 
 
 def elements(tree, name=None):
-    """The elements of a tree, or those of this name, in their order."""
-    for it in tree[2]:
-        if isinstance(it, list):
-            if name in (None, it[0]):
-                yield it
-            yield from elements(it, name)
+    """Yields the elements of a tree, or those of this name, in order."""
+    for item in tree[2]:
+        if isinstance(item, list):
+            if name in (None, item[0]):
+                yield item
+            yield from elements(item, name)
 
 
 def text_of(tree):
-    """The text of an element."""
-    return "".join(it if isinstance(it, str) else text_of(it) for it in tree[2])
+    """Returns the text of an element."""
+    return "".join(item if isinstance(item, str) else text_of(item) for item in tree[2])
 
 
 class StandIn:
@@ -81,7 +81,7 @@ class StandIn:
         return told["answer"]
 
     def all(self, selector):
-        return [(it["text"], it["attributes"]) for it in self._ask("all", selector)]
+        return [(item["text"], item["attributes"]) for item in self._ask("all", selector)]
 
     def click(self, selector, at=0):
         self._ask("click", selector, at)
@@ -102,12 +102,12 @@ class StandIn:
 
 
 class Browser:
-    """Chromium, without a window."""
+    """Headless Chromium."""
 
     def __init__(self):
         options = webdriver.ChromeOptions()
-        for it in "--headless=new", "--no-sandbox", "--disable-gpu", "--disable-dev-shm-usage", "--window-size=1200,1000":
-            options.add_argument(it)
+        for item in "--headless=new", "--no-sandbox", "--disable-gpu", "--disable-dev-shm-usage", "--window-size=1200,1000":
+            options.add_argument(item)
         options.set_capability("goog:loggingPrefs", {"browser": "ALL"})
         self.driver = webdriver.Chrome(service=Service(DRIVER), options=options)
         self._folder = tempfile.TemporaryDirectory()
@@ -123,7 +123,7 @@ class Browser:
     def all(self, selector):
         script = """return [...document.querySelectorAll(arguments[0])].map(it =>
             [it.textContent, Object.fromEntries([...it.attributes].map(one => [one.name, one.value]))]);"""
-        return [tuple(it) for it in self.driver.execute_script(script, selector)]
+        return [tuple(item) for item in self.driver.execute_script(script, selector)]
 
     def click(self, selector, at=0):
         self._one(selector, at).click()

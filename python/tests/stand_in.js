@@ -1,5 +1,5 @@
-// A stand-in for a browser, for node: as much of a document as the script of a page asks for. The first line that it reads has the tree of the page,
-// each element a list of its name, its attributes and its children; each further line is a call of one of `calls`, which is answered by a line.
+// A stand-in for a browser, for node: as much of a document as the page's script uses. The first line of the input has the tree of the page, each
+// element a list of its name, its attributes and its children; each further line calls one of `calls`, and gets a line as its answer.
 'use strict';
 const readline = require('readline');
 
@@ -60,7 +60,7 @@ class Element {
       if (part[0] === '.') return this.classList.contains(part.slice(1));
       if (part[0] !== '[') return this.name === part;
       const [name, value] = part.slice(1, -1).split('=');
-      // As a browser: a value that begins with a digit stands in quotes.
+      // As in a browser: a value that begins with a digit must be quoted.
       if (/^\d/.test(value)) throw new Error(`a value without quotes: ${word}`);
       return value === undefined ? this.hasAttribute(name) : this.getAttribute(name) === value.replace(/^'(.*)'$/, '$1');
     });

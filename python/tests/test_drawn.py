@@ -1,4 +1,4 @@
-"""Random cases, as check/compare.py draws them: what a program writes is read and comes back byte for byte, and no report is refused."""
+"""Random cases, drawn by check/compare.py: the output of a program is read and reproduced byte for byte, and no report is rejected."""
 
 import os
 import pathlib
@@ -26,19 +26,19 @@ class Drawn(Test):
         super().setUp()
 
     def each(self, tool):
-        """Of each case of a program a name, its words, the paths that these may be, and what the program does with them."""
+        """Yields, for each case of a program, a name, its arguments, the paths that these may be, and what the program does with them."""
         for index in range(COUNT):
             case = case_of(tool, 51, index)
             for name, text in case.files.items():
                 pathlib.Path(self.folder, name).write_bytes(text.encode("latin-1"))
             ran = subprocess.run([programs.find(tool), *case.words], cwd=self.folder, stdout=subprocess.PIPE, stderr=subprocess.PIPE)
-            paths = [os.path.join(self.folder, it) for it in case.words if it in case.files or tool != "mpsim"]
+            paths = [os.path.join(self.folder, word) for word in case.words if word in case.files or tool != "mpsim"]
             yield f"{tool} {index}", case.words, paths, ran.returncode, ran.stdout.decode(), ran.stderr.decode()
             for name in case.files:
                 pathlib.Path(self.folder, name).unlink()
 
     def agrees(self, call, status, out, line):
-        """A call gives this report, or raises this line."""
+        """A call returns this report, or raises this error line."""
         if status == 0:
             self.assertEqual("".join(call().lines()), out)
             return
@@ -67,12 +67,12 @@ class Drawn(Test):
         for name, _, paths, status, out, _ in self.each("mpsweep"):
             with self.subTest(name):
                 for sweep in (mpsim.Sweep.parse(out), mpsim.sweep(paths[0], paths[1:])) if status in (0, 11) else ():
-                    told = [f"scenario {it.label} status {it.status}\n{it.report or it.refusal.told + chr(10)}" for it in sweep.values()]
+                    told = [f"scenario {item.label} status {item.status}\n{item.report or item.refusal.told + chr(10)}" for item in sweep.values()]
                     self.assertEqual("".join(told), out)
 
 
 def form_of(words):
-    """The form that the words of a command ask for, or None."""
+    """Returns the form that a command's arguments request, or None."""
     return words[words.index("--report") + 1] if "--report" in words else None
 
 

@@ -1,5 +1,6 @@
-"""A trace with changes in its records as the trace of a model: what the model says of its columns, and edits as mpedit has them."""
+"""Changes to the trace of a model: what the model says about its columns, and edits for mpedit."""
 
+import re
 import unittest
 
 from changing import CALLS, EXPECTED, VALUE, Changing
@@ -11,20 +12,20 @@ class Models(Changing):
     def test_with_a_model(self):
         model = self.file("m.txt", "model 1\nsource phone\nsource branch\nserver s g from phone branch\n")
         words = "--model", model
-        self.refused(f'"source" of record 1: "web" is no source of {model}', "record,source\n1,web\n", CALLS, *words)
-        self.refused('"g" of record 1: "x" is no number, +N, -N or *N', "record,g\n1,x\n", CALLS, *words)
-        # What it doesn't name may hold anything, though the trace has numbers there.
+        self.refused(f'"source" of record 1: "web" is not a source of {model}', "record,source\n1,web\n", CALLS, *words)
+        self.refused('"g" of record 1: "x" is not a number, +N, -N or *N', "record,g\n1,x\n", CALLS, *words)
+        # Columns that it doesn't name may hold anything, although the trace has numbers there.
         out = planner("edit", self.file("t.csv", CALLS), self.file("c.csv", "record,source,kind\n3,branch,k\n"), *words)[1]
         self.assertTrue(out.endswith("branch,9,2,k,z\n"), out)
         trace = self.file("t.csv", "source,time,h\nphone,0,1\n")
-        self.refuses(f"{trace}: there is no column 'g', which {model} names; it has h", "edit", trace, self.folder / "c.csv", *words)
-        self.refuses("--edits wants --model, which has the order of their values", "edit", trace, self.folder / "c.csv", "--edits", "e.txt")
-        # An edit has values that no row changed, and that mpedit would refuse.
+        self.refuses(f"{trace}: no column 'g', which {model} names; it has h", "edit", trace, self.folder / "c.csv", *words)
+        self.refuses("--edits requires --model, which has the order of their values", "edit", trace, self.folder / "c.csv", "--edits", "e.txt")
+        # An edit includes values that no row changed, which mpedit may reject.
         trace, changes = self.file("t.csv", "source,time,g\nphone,0,x\n"), self.file("c.csv", "record,time\n1,5\n")
-        self.refuses('--edits: "g" of record 1: "x" is no number', "edit", trace, changes, *words, "--edits", self.folder / "e.txt")
+        self.refuses('--edits: "g" of record 1: "x" is not a number', "edit", trace, changes, *words, "--edits", self.folder / "e.txt")
 
-    def test_the_model_is_judged(self):
-        """By mpsim, whose status it has; where there is no mpsim, a line says so."""
+    def test_the_model_is_checked(self):
+        """mpsim checks it, and its status is kept; without mpsim, a line says so."""
         trace, changes = self.file("t.csv", "source,time,talk\nweb,5,20\n"), self.file("c.csv", "record,time\n1,+60\n")
         for text, line in (
             ("model 1\nsource web\nsever desk talk from web\n", "model line 3: word 1 not allowed: sever desk talk from web"),
@@ -36,51 +37,51 @@ class Models(Changing):
             model = self.file("m.txt", text)
             for more in (), ("--edits", self.folder / "e.txt"):
                 self.refuses(f"{model}: {line}", "edit", trace, changes, "--model", model, *more, status=3)
-        model, counts = self.file("m.txt", "model 1\nsource web\nsever desk talk from web\n"), "1 record of 1: 1 changed, 0 added, 0 taken out"
+        model, counts = self.file("m.txt", "model 1\nsource web\nsever desk talk from web\n"), "1 record (from 1): 1 changed, 0 added, 0 removed"
         with programs_in(self.folder):
-            why = f"there is no program mpsim in {self.folder}; MPSIM_PROGRAMS names a folder that has it"
-            told = f"planner: warning: {model} isn't judged: {why}\nplanner: {counts}\n"
+            why = f"no program mpsim in {self.folder}; set MPSIM_PROGRAMS to a directory that has it"
+            told = f"mpplan: warning: {model} isn't checked: {why}\nmpplan: {counts}\n"
             self.assertEqual(self.tells("edit", trace, changes, "--model", model, error=told), "source,time,talk\nweb,65,20\n")
         self.assertFalse((self.folder / "e.txt").exists())
-        # What a sweep fills in isn't judged, but in a comment.
-        told = f"planner: warning: {{}} isn't judged: {{}} gets its values by planner sweep --set\nplanner: {counts}\n"
+        # Text that a sweep fills in isn't checked, except in a comment.
+        told = f"mpplan: warning: {{}} isn't checked: {{}} gets its values from mpplan sweep --set\nmpplan: {counts}\n"
         for text, name in (
             ("loss desk {agents} talk from web\n", "{agents}"),
             ("loss desk {n:d} talk from web\n", "{n:d}"),
             ("# {a}\nserver s talk from web\n", None),
         ):
             model = self.file("m.txt", f"model 1\nsource web\n{text}")
-            error = told.format(model, name) if name else f"planner: {counts}\n"
+            error = told.format(model, name) if name else f"mpplan: {counts}\n"
             self.assertEqual(self.tells("edit", trace, changes, "--model", model, error=error), "source,time,talk\nweb,65,20\n")
         model, edits = self.file("m.txt", "model 1\nsource web\nserver s {talk} from web\n"), self.folder / "e.txt"
-        line = f"--edits: {model} has {{talk}}, and mpedit takes no model with names in braces"
+        line = f"--edits: {model} contains {{talk}}, but mpedit takes no model with names in braces"
         self.refuses(line, "edit", trace, changes, "--model", model, "--edits", edits)
         self.assertFalse(edits.exists())
-        # Nor by an mpsim that can't be run.
+        # Nor with an mpsim that can't be run.
         model, broken = self.file("m.txt", "model 1\nsource web\n"), self.folder / "mpsim"
         broken.write_text("#!/bin/sh\nexit 99\n")
         broken.chmod(0o700)
         with programs_in(self.folder):
             status, out, error = planner("edit", trace, changes, "--model", model)
             self.assertEqual((status, out), (0, "source,time,talk\nweb,65,20\n"))
-            self.assertRegex(error, f"^planner: warning: {model} isn't judged: mpsim ended with status 99.*\nplanner: {counts}\n$")
+            self.assertRegex(error, rf"^mpplan: warning: {model} isn't checked: mpsim ended with status 99.*\nmpplan: {re.escape(counts)}\n$")
 
     def test_what_edits_do_not_have(self):
-        """A change of a column that the model doesn't name is told where edits are written."""
+        """A change to a column that the model doesn't name is reported when edits are written."""
         model, edits = self.file("m.txt", "model 1\nsource web\nserver s g from web\n"), self.folder / "e.txt"
-        trace, counts = self.file("t.csv", "source,time,note,g,n\nweb,5,x,20,1\n"), "1 record of 1: 1 changed, 0 added, 0 taken out"
+        trace, counts = self.file("t.csv", "source,time,note,g,n\nweb,5,x,20,1\n"), "1 record (from 1): 1 changed, 0 added, 0 removed"
         for row, names, edit in (
             ("1,y,,\n", "note", "set 1 web 5 20\n"),
             ("1,y,+1,7\n", "note, n", "set 1 web 5 21\n"),
             ("1,,+1,\n", None, "set 1 web 5 21\n"),
         ):
             words = "edit", trace, self.file("c.csv", f"record,note,g,n\n{row}"), "--model", model
-            told = f"planner: {edits} has no change of {names}, which {model} doesn't name\n" if names else ""
-            self.tells(*words, "--edits", edits, error=f"{told}planner: {counts}\n")
+            told = f"mpplan: {edits} leaves out the changes of {names}, which {model} doesn't name\n" if names else ""
+            self.tells(*words, "--edits", edits, error=f"{told}mpplan: {counts}\n")
             self.assertEqual(text_of(edits), edit)
-            self.tells(*words, error=f"planner: {counts}\n")
+            self.tells(*words, error=f"mpplan: {counts}\n")
         trace = self.file("t.csv", "source,time,g,\nweb,5,20,1\n")
-        told = f'planner: {edits} has no change of "", which {model} doesn\'t name\nplanner: {counts}\n'
+        told = f"mpplan: {edits} leaves out the changes of \"\", which {model} doesn't name\nmpplan: {counts}\n"
         self.tells("edit", trace, self.file("c.csv", "record,\n1,2\n"), "--model", model, "--edits", edits, error=told)
 
     def test_edits_of_mpedit(self):
@@ -88,34 +89,34 @@ class Models(Changing):
         words, set_, add = ("--model", model), "set R source time kind g", "add source time kind g"
         for text, why in (
             ("set 1 phone 5 1 2\nsets 1 phone 5 1\n", '"sets" is neither set nor add'),
-            ("\nset 1 phone 5 1\n", f"5 words, where set has 6: {set_}"),
-            ("\nset\n", f"1 word, where set has 6: {set_}"),
-            ("\nadd phone 5 1 2 3\n", f"6 words, where add has 5: {add}"),
+            ("\nset 1 phone 5 1\n", f"5 words, but set takes 6: {set_}"),
+            ("\nset\n", f"1 word, but set takes 6: {set_}"),
+            ("\nadd phone 5 1 2 3\n", f"6 words, but add takes 5: {add}"),
             ("\nset 4 phone 5 1 2\n", 'record "4": expected a number from 1 to 3'),
             ("\nset + phone 5 1 2\n", 'record "+": expected a number from 1 to 3'),
             ("\nset 1-2 phone 5 1 2\n", 'record "1-2": expected a number from 1 to 3'),
-            ("\nset 1 door 5 1 2\n", f'"source" of record 1: "door" is no source of {model}'),
-            ("\nset 1 web +5 1 2\n", '"time" of record 1: "+5" is no number'),
-            ("\nset 1 web 5 1 *2\n", '"g" of record 1: "*2" is no number'),
-            ("\nadd web 5 x 2\n", '"kind" of record 4: "x" is no number'),
+            ("\nset 1 door 5 1 2\n", f'"source" of record 1: "door" is not a source of {model}'),
+            ("\nset 1 web +5 1 2\n", '"time" of record 1: "+5" is not a number'),
+            ("\nset 1 web 5 1 *2\n", '"g" of record 1: "*2" is not a number'),
+            ("\nadd web 5 x 2\n", '"kind" of record 4: "x" is not a number'),
             (f"\nadd web 5 {VALUE + 1} 2\n", f'"kind" of record 4: "{VALUE + 1}" is above {VALUE}'),
         ):
-            self.refused(why, text, CALLS, *words, where=" line 2: ")
-        self.refused("these are edits of mpedit: --model has the order of their values", "set 1 web 5 1 2\n", where=": ")
+            self.refused(why, text, CALLS, *words, where=": line 2: ")
+        self.refused("these are edits for mpedit: give --model for the order of their values", "set 1 web 5 1 2\n", where=": ")
         for text in "", "\n \t":
             self.refused(f"it is empty: {EXPECTED}", text, where=": ")
         self.refused(f"it is empty: {EXPECTED}", "sep=;\n", where=": ")
         self.refused(f"it is empty: {EXPECTED}", "sep=;\n\n", CALLS, *words, where=": ")
-        path, nul = self.folder / "c.csv", "NUL bytes: is it UTF-16 without a mark? It is read as UTF-8, or as UTF-16 by a mark"
+        path, nul = self.folder / "c.csv", "NUL bytes: is it UTF-16 without a byte order mark? Without one it is read as UTF-8"
         for data, why in (
-            ("record,time\n1,5\n".encode("utf-16-le"), f" row 1: it begins with {nul}"),
-            ("record,time\n1,5\n".encode("utf-16-be"), f" row 1: it begins with {nul}"),
-            (b"\xff\xfer", ": it is no UTF-16, which its mark says"),
+            ("record,time\n1,5\n".encode("utf-16-le"), f": row 1: it begins with {nul}"),
+            ("record,time\n1,5\n".encode("utf-16-be"), f": row 1: it begins with {nul}"),
+            (b"\xff\xfer", ": not valid UTF-16, although it has a UTF-16 byte order mark"),
         ):
             path.write_bytes(data)
             self.refuses(f"{path}{why}", "edit", self.file("t.csv", CALLS), path)
         size = (1 << 24) + 1
-        self.refused(f"{size} bytes, where mpedit takes {size - 1}", "add web 5 1 2".ljust(size), CALLS, *words, where=": ")
+        self.refused(f"{size} bytes; the limit of mpedit is {size - 1}", "add web 5 1 2".ljust(size), CALLS, *words, where=": ")
 
 
 if __name__ == "__main__":

@@ -1,4 +1,4 @@
-"""A trace that planner edit makes, run by mpsim, beside mpedit over the same changes; and beside changes that are made by hand."""
+"""A trace made by mpplan edit and run by mpsim, compared with mpedit and the same changes, and with changes made by hand."""
 
 import random
 import re
@@ -17,17 +17,17 @@ LATE, MOVED = EXAMPLES / "edits" / "late-caller", EXAMPLES / "edits" / "shift-mo
 
 
 def unescaped(text):
-    r"""A line of examples/cases, where \n, \r, \t and \0357, a byte by its octal number, stand for what can't be written there."""
+    r"""Returns the bytes of a line in examples/cases, in which \n, \r, \t and an octal byte such as \0357 are escapes."""
     signs = {"n": b"\n", "r": b"\r", "t": b"\t"}
     parts = re.split(r"\\(0[0-7]{3}|.)", text)
     return b"".join(it.encode() if not at % 2 else signs.get(it) or bytes([int(it, 8)]) for at, it in enumerate(parts))
 
 
 class Beside(InFolder):
-    """mpedit over a trace and edits gives the report of mpsim over the trace that is made."""
+    """mpedit over a trace and edits gives the report of mpsim over the edited trace."""
 
     def same(self, model, trace, changes):
-        """The report of the trace that these changes make of another; and mpedit's, by the edits that are written with it."""
+        """Returns the report of the trace edited with these changes; mpedit must give it too, for the edits written with it."""
         out, edits = self.folder / "o.csv", self.folder / "e.txt"
         status, _, error = planner("edit", trace, changes, "--model", model, "--out", out, "--edits", edits)
         self.assertEqual(status, 0, error)
@@ -41,7 +41,7 @@ class Beside(InFolder):
         return "".join(lines)
 
     def test_late_caller(self):
-        """By edits and by names: the report that is stored, without its last line."""
+        """With edits and with names: the stored report, without its last line."""
         stored = text_of(LATE, "report.txt").rsplit("again", 1)[0]
         for changes in LATE / "edits.txt", self.file("c.csv", "record,time\n10,+11\n"):
             self.assertEqual(self.same(MODEL, TRACE, changes), stored)
@@ -52,13 +52,13 @@ class Beside(InFolder):
         trace = self.file("t.csv", run("awk", "-f", MOVED / "calls.awk"))
         rows = Trace.read(trace).rows
         late = [number for number, row in enumerate(rows, 1) if row[0] == "web" and int(row[1]) // 86400 == 19]
-        changes = self.file("c.csv", "record,time\n" + "".join(f"{it},+3600\n" for it in late))
+        changes = self.file("c.csv", "record,time\n" + "".join(f"{item},+3600\n" for item in late))
         stored = text_of(MOVED, "report.txt").rsplit("again", 1)[0]
         self.assertEqual(self.same(MOVED / "model.txt", trace, changes), stored)
         self.assertEqual(text_of(self.folder, "e.txt"), run(sys.executable, "-B", MOVED / "edits.py", trace, "take", "handle"))
 
     def test_texts_of_edits(self):
-        """Those that mpedit takes give what it gives, those that it refuses are refused."""
+        """Edits that mpedit accepts give the same result, others are rejected."""
         model, trace, edits = EXAMPLES / "desk" / "model.txt", EXAMPLES / "desk" / "trace.csv", self.folder / "edits.txt"
         for text in text_of(CASES, "edit-texts.txt").splitlines():
             with self.subTest(text):
@@ -72,38 +72,38 @@ class Beside(InFolder):
                 status, out, error = planner("edit", trace, edits, "--model", model)
                 number = why.split()[3].rstrip(":")
                 self.assertEqual((status, out), (1, ""))
-                self.assertRegex(error, rf"^planner: {re.escape(str(edits))} (line|row) {number}: .+\n$")
+                self.assertRegex(error, rf"^mpplan: {re.escape(str(edits))}: (line|row) {number}: .+\n$")
 
     def test_changes_that_are_drawn(self):
-        """Over a trace whose columns stand in another order than the model has them, and with columns that it doesn't name."""
+        """Over a trace whose columns have another order than in the model, and with columns that it doesn't name."""
         model = self.file("m.txt", "model 1\nsource a\nsource b\nsplit k cut kind 1 from a b\nloss s 2 d from k\nserver z time from k.1 s.1\n")
         names, stand = ["kind", "d", "time"], [5, 2, 3]
         for seed in range(12):
             draw = random.Random(seed)
-            row = lambda: [draw.choice("ab"), *(draw.randrange(it) for it in (40, 9, 9)), draw.choice(["", "x y", '"p,\nq"']), draw.randrange(3)]
+            row = lambda: [draw.choice("ab"), *(draw.randrange(item) for item in (40, 9, 9)), draw.choice(["", "x y", '"p,\nq"']), draw.randrange(3)]
             rows = [row() for _ in range(draw.randrange(1, 30))]
-            trace = self.file("t.csv", "source,time,d,time,note,kind\n" + "".join(",".join(map(str, it)) + "\n" for it in rows))
-            lines, left = [], [list(map(str, it)) for it in rows]
+            trace = self.file("t.csv", "source,time,d,time,note,kind\n" + "".join(",".join(map(str, row)) + "\n" for row in rows))
+            lines, left = [], [list(map(str, row)) for row in rows]
             for _ in range(draw.randrange(9)):
                 values = list(map(str, row()))
-                at, mine = draw.choice([len(left), draw.randrange(len(left))]), [values[0], values[1], *(values[it] for it in stand)]
+                at, mine = draw.choice([len(left), draw.randrange(len(left))]), [values[0], values[1], *(values[item] for item in stand)]
                 lines.append(" ".join([f"set {at + 1}" if at < len(left) else "add", *mine]) + "\n")
                 left[at : at + 1] = [[*values[:4], left[at][4] if at < len(left) else "", values[5]]]
             edits = self.file("edits.txt", "".join(lines))
             self.assertEqual(self.same(model, trace, edits), self.without_again(mpsim.edit(model, trace, edits)), seed)
             made = edited(trace, edits, model)
-            self.assertEqual([made.trace.header.index(it, 2) for it in names], stand)
-            unquoted = [[it.replace('"', "") for it in row] for row in left]
+            self.assertEqual([made.trace.header.index(name, 2) for name in names], stand)
+            unquoted = [[item.replace('"', "") for item in row] for row in left]
             self.assertEqual((made.rows, Trace.read(self.folder / "o.csv").rows), (unquoted, unquoted))
 
     def test_by_names_that_are_drawn(self):
-        """Beside the same changes made by hand, with records that are taken out; where none is, mpedit agrees."""
+        """Compared with the same changes made by hand, with removed records; if none is removed, mpedit agrees."""
         model = self.file("m.txt", "model 1\nsource a\nsource b\nserver s d from a b\ndelay w e from s\n")
         for seed in range(12):
             draw = random.Random(seed)
             rows = [[draw.choice("ab"), draw.randrange(40), draw.randrange(9), draw.randrange(9)] for _ in range(draw.randrange(3, 20))]
-            trace = self.file("t.csv", "source,time,e,d\n" + "".join(",".join(map(str, it)) + "\n" for it in rows))
-            lines, hand = ["record,d,source,out,time\n"], [list(it) for it in rows]
+            trace = self.file("t.csv", "source,time,e,d\n" + "".join(",".join(map(str, row)) + "\n" for row in rows))
+            lines, hand = ["record,d,source,out,time\n"], [list(row) for row in rows]
             for _ in range(8):
                 first = draw.choice([it for it, row in enumerate(hand) if row])
                 last = first + 1
@@ -111,23 +111,23 @@ class Beside(InFolder):
                     last += 1
                 numbers = f"{first + 1}" if last == first + 1 else f"{first + 1}-{last}"
                 by, way = draw.randrange(5), draw.choice(["+", "*", "source", "out" if seed % 2 and sum(map(bool, hand)) > 3 + last - first else "+"])
-                for it in range(first, last):
-                    row = hand[it]
-                    hand[it] = None if way == "out" else [row[0] if way != "source" else "b", row[1] + 7 * (way == "+"), row[2], row[3]]
+                for number in range(first, last):
+                    row = hand[number]
+                    hand[number] = None if way == "out" else [row[0] if way != "source" else "b", row[1] + 7 * (way == "+"), row[2], row[3]]
                     if way in "+*":
-                        hand[it][3] = row[3] + by if way == "+" else (row[3] * (10 + by) + 5) // 10
+                        hand[number][3] = row[3] + by if way == "+" else (row[3] * (10 + by) + 5) // 10
                 lines.append({
                     "+": f"{numbers},+{by},,,+7\n", "*": f"{numbers},*1.{by},,,\n", "source": f"{numbers},,b,,\n", "out": f"{numbers},,,yes,\n"
                 }[way])
             changes = self.file("c.csv", "".join(lines))
-            kept = [it for it in hand if it]
+            kept = [item for item in hand if item]
             text = planner("edit", trace, changes)[1]
-            self.assertEqual(text.split("\n")[1:-1], [",".join(map(str, it)) for it in kept], lines)
+            self.assertEqual(text.split("\n")[1:-1], [",".join(map(str, item)) for item in kept], lines)
             if all(hand):
                 self.assertEqual(self.same(model, trace, changes), "".join(mpsim.run(model, trace.with_name("o.csv")).lines()))
 
     def test_the_same_twice(self):
-        """A row that names a record again, also one that was added, is one edit in the end."""
+        """A row that names a record again, even an added one, gives a single edit in the end."""
         trace = self.file("t.csv", "source,time,n,d\na,0,x,4\na,1,,1\n")
         model = self.file("m.txt", "model 1\nsource a\nserver s d from a\n")
         self.same(model, trace, self.file("c.csv", "record,source,time,n,d\n2,,+1,,\n+,a,3,q,5\n2,,,,*2\n3,,,,+1\n"))

@@ -1,5 +1,5 @@
-"""planner sweep by GNU parallel and by Slurm themselves, where they are there (test_shards.py has scripts in their place): what a shard that is
-killed leaves, and that the table is that of single runs in the end."""
+"""mpplan sweep with the real GNU parallel and Slurm, if installed (test_shards.py has scripts instead): what a killed shard leaves, and that the
+final table is that of single runs."""
 
 import os
 import shutil
@@ -13,16 +13,16 @@ from test_shards import InFolder
 
 from mpsim import programs
 
-SHORT = "planner: 1 of 4 shards aren't in the table: planner sweep --folder {} --resume runs them"
+SHORT = "mpplan: 1 of 4 shards are missing from the table: mpplan sweep --folder {} --resume runs them"
 
 
 def is_gnu_parallel():
-    """Whether the `parallel` of the path is that of GNU."""
+    """Returns whether `parallel` on the PATH is GNU parallel."""
     return bool(shutil.which("parallel")) and b"GNU parallel" in subprocess.run(["parallel", "--version"], stdout=subprocess.PIPE).stdout
 
 
 def has_slurm():
-    """Whether a Slurm answers that has a node to run on."""
+    """Returns whether Slurm responds and has a node to run on."""
     if not shutil.which("sbatch"):
         return False
     try:
@@ -34,17 +34,17 @@ def has_slurm():
 
 
 class Engine:
-    """The tests; `ways` are the words that name the engine."""
+    """The tests; `ways` are the options that name the engine."""
 
     def setUp(self):
         super().setUp()
-        for it in self.path.iterdir():
-            it.unlink()
+        for path in self.path.iterdir():
+            path.unlink()
         self.programs = self.folder / "programs"
         self.programs.mkdir()
 
     def test_a_shard_that_is_killed(self):
-        """With all that it started, and then its mpsweep alone."""
+        """With everything that it started, and then only its mpsweep."""
         words, want = self.variants()
         once = self.folder / "once"
         for way in self.ways:
@@ -54,13 +54,13 @@ class Engine:
                 status, out, lines = self.told(*words, "--folder", at, way, settings={"MPSIM_PROGRAMS": str(self.programs)})
                 self.assertEqual(status, 1, lines)
                 self.assertIn(SHORT.format(f"'{at}'"), lines)
-                self.assertEqual(sum("nothing is left: not begun, or killed" in it for it in lines), killed == "$PPID", lines)
-                shards = [it.name for it in (at / "0000").glob("*.txt")]
+                self.assertEqual(sum("it left nothing: not started, or killed" in line for line in lines), killed == "$PPID", lines)
+                shards = [path.name for path in (at / "0000").glob("*.txt")]
                 self.assertEqual(len(shards), 3)
                 table = set(want.splitlines())
                 self.assertTrue(table.issuperset(out.splitlines()))
                 self.assertEqual(self.told("--folder", at, "--resume", way)[:2], (11, want))
-                self.assertEqual([it for it in at.rglob("*") if it.suffix in (".part", ".failed")], [])
+                self.assertEqual([path for path in at.rglob("*") if path.suffix in (".part", ".failed")], [])
                 once.rmdir()
 
 
@@ -69,7 +69,7 @@ class Parallel(Engine, InFolder):
     ways = "--parallel=--jobs 2", "--parallel=--sshlogin :"
 
     def test_stopped(self):
-        """By Ctrl-C and by a signal: nothing of the shards that ran is left, and none runs on."""
+        """With Ctrl-C and a signal: nothing remains of the running shards, and none runs on."""
         words, want = self.variants(130)
         stand_in(self.programs, "mpsweep", f"echo scenario 1 status 0; sleep 1; echo >{self.folder}/runs; exec sleep 61.25")
         for number, status in (signal.SIGINT, 130), (signal.SIGTERM, 143):
@@ -83,9 +83,9 @@ class Parallel(Engine, InFolder):
                 process.send_signal(number)
                 _, line = process.communicate()
             self.assertEqual(process.returncode, status, line)
-            left = [it for it in os.listdir("/proc") if it.isdigit() and self.words_of(it) == b"sleep\x0061.25\x00"]
+            left = [item for item in os.listdir("/proc") if item.isdigit() and self.words_of(item) == b"sleep\x0061.25\x00"]
             self.assertEqual(left, [])
-            self.assertEqual([it.name for it in self.at.rglob("*") if it.is_file()], ["plan.json"])
+            self.assertEqual([path.name for path in self.at.rglob("*") if path.is_file()], ["plan.json"])
             (self.folder / "runs").unlink()
         self.assertEqual(self.told("--folder", self.at, "--resume", "--parallel")[:2], (11, want))
 

@@ -1,5 +1,5 @@
-"""The page as its script makes it: what is clicked, typed and chosen, and read there, are the figures of the report's text. It is looked at by a
-browser where Chromium, its driver and selenium are there, and by the stand-in that node runs (looking.py)."""
+"""The page as its script makes it: after clicks, keys and choices it shows the figures of the report's text. It is viewed in a browser if Chromium,
+its driver and selenium are installed, and in the stand-in run by node (looking.py)."""
 
 import http.server
 import random
@@ -19,7 +19,7 @@ CALLS = text_of(MODEL).replace("bound 1000\n", "")
 
 
 def day(seed=1, calls=700):
-    """A made day: rows of calls that come in a wave, times in seconds."""
+    """A made-up day: rows of calls that arrive in a wave, with times in seconds."""
     draw, rows = random.Random(seed), [("source", "time", "g", "kind", "e", "a", "b")]
     for time in sorted(int(draw.triangular(0, 50000, 20000)) for _ in range(calls)):
         demands = 1 + int(draw.expovariate(1 / 3)), int(draw.random() < 0.2), 30 + int(draw.expovariate(1 / 200))
@@ -32,13 +32,13 @@ def places(number):
 
 
 class Looking:
-    """What the tests stand on; `make` makes who looks."""
+    """The common tests; `make` makes the viewer."""
 
     @classmethod
     def setUpClass(cls):
         cls.report = mpsim.run(CALLS, day(), jobs=True)
         cls.text = "".join(cls.report.lines())
-        cls.several = [mpsim.run(places(it), day(), jobs=True) for it in (2, 3, 6)]
+        cls.several = [mpsim.run(places(item), day(), jobs=True) for item in (2, 3, 6)]
 
     def setUp(self):
         super().setUp()
@@ -52,11 +52,11 @@ class Looking:
         return [attributes.get(name) for _, attributes in self.looker.all(selector)]
 
     def nodes(self):
-        """The places of the boxes, by name."""
+        """Returns the places of the boxes, by name."""
         return {name: at for at, name in enumerate(self.attributes("g.node", "data-node"))}
 
     def shows(self, text, name):
-        """The cards have what a report's text has of a node."""
+        """The cards show what a report's text says about a node."""
         values = zip(map(number, self.attributes(".card", "data-v")), map(number, self.texts(".card b")))
         cards = dict(zip(self.attributes(".card", "data-figure"), values))
         self.assertEqual(cards, {word: (value, value) for word, value in figures_of(text)[name].items()}, name)
@@ -77,17 +77,17 @@ class Looked(Looking):
         self.assertEqual(self.texts("#pictures p"), ["This node has no waits of its own."])
         self.assertEqual(self.attributes("#pictures svg", "data-picture"), ["number"])
         self.looker.pick("#node", self.texts("#node option").index("menu"))
-        self.assertEqual(self.texts("#pictures p"), ["Nobody can wait at this node, or nobody came."])
+        self.assertEqual(self.texts("#pictures p"), ["No job can wait at this node, or none arrived."])
 
     def test_node_to_begin_with(self):
-        """That with the longest p90."""
+        """The one with the longest p90."""
         self.looker.show(page([self.report]))
-        longest = max(nodes_of(self.text), key=lambda it: int(it["p90"]))["name"]
+        longest = max(nodes_of(self.text), key=lambda item: int(item["p90"]))["name"]
         self.assertEqual(self.attributes("g.node.marked", "data-node"), [longest])
         self.shows(self.text, longest)
 
     def test_colours_as_one_chooses(self):
-        """The rules of the colours heed what the page says of itself."""
+        """The colour rules respect the page's own choice."""
         self.looker.show(page([self.report]))
         for at, theme in (1, "light"), (2, "dark"), (0, ""):
             self.looker.pick("#theme", at)
@@ -103,37 +103,37 @@ class Looked(Looking):
         while (text := self.texts("[data-told=time]")[0]) != before:
             before = text
             texts.append(text)
-            came += int(re.search(r": ([\d,]+) came", text)[1].replace(",", ""))
+            came += int(re.search(r": ([\d,]+) arrived", text)[1].replace(",", ""))
             lost += int((re.search(r"([\d,]+) lost", text) or [0, "0"])[1].replace(",", ""))
-            longest = max(longest, int((re.search(r"longest for ([\d,]+)", text) or [0, "0"])[1].replace(",", "")))
+            longest = max(longest, int((re.search(r"longest wait was ([\d,]+)", text) or [0, "0"])[1].replace(",", "")))
             self.looker.press("[data-picture=time]", "ArrowRight")
-        node = next(it for it in nodes_of(self.text) if it["name"] == "expert")
+        node = next(node for node in nodes_of(self.text) if node["name"] == "expert")
         self.assertEqual((came, lost, longest), (int(node["in"]), int(node["lost"]), int(node["max"])))
         self.looker.press("[data-picture=time]", "ArrowLeft")
         self.assertEqual(self.texts("[data-told=time]"), [texts[-2]])
         self.looker.press("[data-picture=waits]", "End")
-        self.assertEqual(self.texts("[data-told=waits]"), [f"100.0 % waited for {int(node['max']):,} or less"])
+        self.assertEqual(self.texts("[data-told=waits]"), [f"100.0 % waited {int(node['max']):,} or less"])
         self.looker.press("[data-picture=waits]", "Home")
         waits = waits_of(self.text, "expert")
-        share = 100 * sum(it <= min(waits) for it in waits) / len(waits)
-        self.assertEqual(self.texts("[data-told=waits]"), [f"{share:.1f} % waited for {min(waits):,} or less"])
+        share = 100 * sum(wait <= min(waits) for wait in waits) / len(waits)
+        self.assertEqual(self.texts("[data-told=waits]"), [f"{share:.1f} % waited {min(waits):,} or less"])
 
     def test_pieces_of_time(self):
-        """One by one, from the lines of the jobs."""
+        """Interval by interval, from the job lines."""
         self.looker.show(page([self.report]))
         self.looker.click("g.node", self.nodes()["expert"])
-        width = int(re.search(r"Pieces of ([\d,]+) ticks", self.texts("figcaption")[0])[1].replace(",", ""))
-        visits = [it.split() for it in self.text.splitlines() if it.startswith("job ") and it.split()[2] == "expert"]
+        width = int(re.search(r"Intervals of ([\d,]+) ticks", self.texts("figcaption")[0])[1].replace(",", ""))
+        visits = [line.split() for line in self.text.splitlines() if line.startswith("job ") and line.split()[2] == "expert"]
         span = int(re.search(r" span (\d+)", self.text)[1])
         self.looker.press("[data-picture=time]", "Home")
         for at in range(span // width + 1):
-            mine = [it for it in visits if at * width <= int(it[4]) < (at + 1) * width]
-            waits = sorted(int(it[6]) for it in mine if it[5] == "wait")
-            want = f"{at * width:,} to {(at + 1) * width:,}: {len(mine):,} came"
+            mine = [visit for visit in visits if at * width <= int(visit[4]) < (at + 1) * width]
+            waits = sorted(int(item[6]) for item in mine if item[5] == "wait")
+            want = f"{at * width:,} to {(at + 1) * width:,}: {len(mine):,} arrived"
             want += f", {len(mine) - len(waits):,} lost or held" if len(waits) < len(mine) else ""
             if waits:
                 half, most = waits[(len(waits) + 1) // 2 - 1], waits[(9 * len(waits) + 9) // 10 - 1]
-                want += f"; half waited for {half:,} or less, 9 of 10 for {most:,}, the longest for {waits[-1]:,}"
+                want += f"; half waited {half:,} or less, 9 of 10 {most:,} or less, the longest wait was {waits[-1]:,}"
             self.assertEqual(self.texts("[data-told=time]"), [want])
             self.looker.press("[data-picture=time]", "ArrowRight")
 
@@ -147,36 +147,36 @@ class Looked(Looking):
             for is_up in (True, False) if word == "node" else (False, True):
                 self.looker.click("#nodes thead button", at)
                 names = self.attributes("#nodes tbody tr", "data-node")
-                # What is missing comes last, and equals stay in the order in which they stood.
-                there = [it for it in before if values[it] is not None]
+                # Missing values come last, and equal ones keep their order.
+                there = [item for item in before if values[item] is not None]
                 want = sorted(there, key=values.get) if is_up else sorted(there, key=values.get, reverse=True)
-                self.assertEqual(names, want + [it for it in before if values[it] is None], (word, is_up))
+                self.assertEqual(names, want + [item for item in before if values[item] is None], (word, is_up))
                 sorts = self.attributes("#nodes thead th", "aria-sort")
-                self.assertEqual([it for it in enumerate(sorts) if it[1] != "none"], [(at, "ascending" if is_up else "descending")])
+                self.assertEqual([sort for sort in enumerate(sorts) if sort[1] != "none"], [(at, "ascending" if is_up else "descending")])
                 before = names
 
     def kinds(self):
-        return {it["name"]: it["kind"] for it in nodes_of(self.text)}
+        return {node["name"]: node["kind"] for node in nodes_of(self.text)}
 
     def test_share_within(self):
-        """Of all that came and of those that departed, where waits are kept exactly, and between two bounds elsewhere."""
+        """Of the arrivals and of the departures; exact where all waits are stored, and between two bounds otherwise."""
         self.looker.show(page([self.report]))
         for name in "desk", "expert":
             self.looker.click("g.node", self.nodes()[name])
-            waits, came = waits_of(self.text, name), int(next(it["in"] for it in nodes_of(self.text) if it["name"] == name))
+            waits, came = waits_of(self.text, name), int(next(node["in"] for node in nodes_of(self.text) if node["name"] == name))
             self.assertEqual(self.texts("#of-all") == self.texts("#of-departed"), len(waits) == came)
             for ticks in (0, 1, 20, 60, 123, 500, *sorted(waits)[:: len(waits) // 9], max(waits) - 1, max(waits), max(waits) + 1, 10**6):
                 self.looker.type("#ticks", str(ticks))
                 for selector, whole in ("#of-all", came), ("#of-departed", len(waits)):
-                    told = [float(it) for it in re.findall(r"([\d.]+) %", self.texts(selector)[0])]
-                    share = 100 * sum(it <= ticks for it in waits) / whole
+                    told = [float(found) for found in re.findall(r"([\d.]+) %", self.texts(selector)[0])]
+                    share = 100 * sum(wait <= ticks for wait in waits) / whole
                     self.assertTrue(told[0] - 0.051 <= share <= told[-1] + 0.051, (name, ticks, told, share))
                     self.assertLess(told[-1] - told[0], 1.1)
                     if ticks >= max(waits) or ticks < min(waits):
                         self.assertEqual(told, [round(share, 1)])
 
     def test_few_waits_are_exact(self):
-        report = mpsim.run("model 1\nsource s\nserver d =4 from s\n", [("s", it) for it in range(9)], jobs=True)
+        report = mpsim.run("model 1\nsource s\nserver d =4 from s\n", [("s", number) for number in range(9)], jobs=True)
         self.looker.show(page([report]))
         # The waits are 0, 3, 6 and so on to 24.
         for ticks, share in (2, "11.1 %"), (3, "22.2 %"), (5, "22.2 %"), (6, "33.3 %"), (23, "88.9 %"), (24, "100.0 %"):
@@ -186,17 +186,17 @@ class Looked(Looking):
     def test_runs_side_by_side(self):
         self.looker.show(page(self.several, ["2", "3", "6"]))
         self.looker.click("g.node", self.nodes()["expert"])
-        figures = [figures_of(str(it)) for it in self.several]
+        figures = [figures_of(str(item)) for item in self.several]
         words = self.texts("#figure option")
         self.assertEqual(words, list(self.texts("#nodes thead button")[2:]))
         for at, word in enumerate(words):
             self.looker.pick("#figure", at)
-            values = [it["expert"][word] for it in figures]
+            values = [figure["expert"][word] for figure in figures]
             dots = dict(zip(self.attributes("#curve circle", "data-label"), map(number, self.attributes("#curve circle", "data-v"))))
             self.assertEqual(dots, dict(zip("236", values)))
-            rows = [[number(it) for it in self.texts(f"#compared tr[data-run='{run}'] td")] for run in range(3)]
-            self.assertEqual([row[1:] for row in rows], [[it["expert"][one] for one in words] for it in figures])
-            self.assertEqual([row[0] for row in rows], [round(it - values[0], 4) for it in values])
+            rows = [[number(text) for text in self.texts(f"#compared tr[data-run='{run}'] td")] for run in range(3)]
+            self.assertEqual([row[1:] for row in rows], [[figure["expert"][one] for one in words] for figure in figures])
+            self.assertEqual([row[0] for row in rows], [round(value - values[0], 4) for value in values])
         for at, report in enumerate(self.several):
             self.looker.pick("#run", at)
             for node in "desk", "expert":
@@ -207,14 +207,14 @@ class Looked(Looking):
             self.assertEqual(row, figures[at]["desk"])
 
     def test_compared_rows_sort_by_their_labels(self):
-        """As numbers where all are, else as texts."""
+        """As numbers if all are, else as text."""
         for labels, want in (["10", "9", "100"], ["9", "10", "100"]), (["b 10", "a", "b 9"], ["a", "b 10", "b 9"]):
             self.looker.show(page(self.several, labels))
             self.looker.click("#compared thead button")
             self.assertEqual(self.texts("#compared tbody th"), want)
 
     def test_the_figures_of_another_run_are_not_sorted(self):
-        """The table says that it is sorted as long as it has the figures by which it was."""
+        """The table shows that it is sorted as long as it has the figures by which it was sorted."""
         self.looker.show(page(self.several))
         self.looker.click("#nodes thead button", 3)
         self.assertEqual(self.attributes("#nodes thead th", "aria-sort").count("none"), len(self.texts("#nodes thead th")) - 1)
@@ -224,7 +224,7 @@ class Looked(Looking):
         self.assertEqual(set(self.attributes("#nodes thead th", "aria-sort")), {"none"})
 
     def test_network_of_another_run(self):
-        """It is the one that stands in a page of that run alone; so is the line above."""
+        """It is the one on a page of that run alone; so is the line above."""
         calm = mpsim.run(places(6).replace("server greet g", "server greet =0"), day(2, 30), jobs=True)
         for one, other in (self.report, calm), (calm, self.report):
             self.looker.show(page([other, one], ["x", "y"]))
@@ -232,8 +232,8 @@ class Looked(Looking):
             found = self.looker.all("svg.network g, svg.network path, svg.network rect, svg.network text, svg.network title"), self.texts("#facts")
             self.looker.show(page([one]))
             chosen = self.attributes("g.node.marked", "data-node")
-            if chosen != [next(it[1]["data-node"] for it in found[0] if "marked" in it[1].get("class", ""))]:
-                self.looker.click("g.node", self.nodes()[next(it[1]["data-node"] for it in found[0] if "marked" in it[1].get("class", ""))])
+            if chosen != [next(item[1]["data-node"] for item in found[0] if "marked" in item[1].get("class", ""))]:
+                self.looker.click("g.node", self.nodes()[next(item[1]["data-node"] for item in found[0] if "marked" in item[1].get("class", ""))])
             want = self.looker.all("svg.network g, svg.network path, svg.network rect, svg.network text, svg.network title"), self.texts("#facts")
             self.assertEqual(found[1], want[1])
             for (text, attributes), (other_text, others) in zip(found[0], want[0]):
@@ -244,7 +244,7 @@ class Looked(Looking):
                 self.assertAlmostEqual(float(attributes.get("stroke-width", 0)), float(others.get("stroke-width", 0)), delta=0.11)
 
     def test_share_within_is_a_figure(self):
-        sweep = mpsim.sweep(day(), {it: places(it) for it in (1, 2, 4)}, jobs=True)
+        sweep = mpsim.sweep(day(), {item: places(item) for item in (1, 2, 4)}, jobs=True)
         self.looker.show(page(sweep.reports().values(), sweep, within=60))
         self.looker.click("g.node", self.nodes()["expert"])
         self.assertEqual(self.texts("#figure option")[0], "within 60")
@@ -257,30 +257,30 @@ class Looked(Looking):
         self.assertEqual(dots, want)
 
     def test_times_of_the_day(self):
-        """Ticks of half a second from 23:00 on, over midnight, as datetime has them."""
-        rows = [("s", it * 900) for it in range(40)]
+        """Ticks of half a second from 23:00, past midnight, as in datetime."""
+        rows = [("s", number * 900) for number in range(40)]
         report = mpsim.run("model 1\nsource s\nserver d =1000 from s\n", rows, jobs=True)
-        for start, first in (datetime(2026, 2, 28, 23, 0), "23:00 to 23:10: 2 came"), (None, "00:00 to 00:10: 2 came"):
+        for start, first in (datetime(2026, 2, 28, 23, 0), "23:00 to 23:10: 2 arrived"), (None, "00:00 to 00:10: 2 arrived"):
             self.looker.show(page([report], tick=0.5, start=start))
             self.looker.press("[data-picture=time]", "Home")
             told = self.texts("[data-told=time]")[0]
-            width = int(re.search(r"Pieces of ([\d,]+) ticks", self.texts("figcaption")[0])[1].replace(",", "")) // 2
-            came = sum(it * 450 < width for it in range(40))
+            width = int(re.search(r"Intervals of ([\d,]+) ticks", self.texts("figcaption")[0])[1].replace(",", "")) // 2
+            came = sum(number * 450 < width for number in range(40))
             begin = start or datetime(2000, 1, 1)
             end = datetime.fromtimestamp(begin.timestamp() + width)
-            self.assertTrue(told.startswith(f"{begin:%H:%M} to {end:%H:%M}: {came} came"), told)
-        long = mpsim.run("model 1\nsource s\nserver d =9 from s\n", [("s", it * 86400 * 7) for it in range(30)], jobs=True)
+            self.assertTrue(told.startswith(f"{begin:%H:%M} to {end:%H:%M}: {came} arrived"), told)
+        long = mpsim.run("model 1\nsource s\nserver d =9 from s\n", [("s", number * 86400 * 7) for number in range(30)], jobs=True)
         self.looker.show(page([long], tick=1, start=datetime(2026, 2, 27, 6, 30)))
         self.looker.press("[data-picture=time]", "End")
-        width = int(re.search(r"Pieces of ([\d,]+) ticks", self.texts("figcaption")[0])[1].replace(",", ""))
+        width = int(re.search(r"Intervals of ([\d,]+) ticks", self.texts("figcaption")[0])[1].replace(",", ""))
         last = datetime(2026, 2, 27, 6, 30).timestamp() + (29 * 86400 * 7 + 9) // width * width
         self.assertEqual(width % 86400, 0)
         told = self.texts("[data-told=time]")[0]
         self.assertTrue(told.startswith(f"{datetime.fromtimestamp(last):%Y-%m-%d %H:%M} to "), told)
-        self.assertTrue(any(re.fullmatch(r"2026-\d\d-\d\d", it) for it in self.texts(".axis text")))
+        self.assertTrue(any(re.fullmatch(r"2026-\d\d-\d\d", text) for text in self.texts(".axis text")))
 
-    def test_times_behind_all_dates(self):
-        """Dates with a time that are taken as ticks are days by their numbers."""
+    def test_times_after_all_dates(self):
+        """If dates with a time are read as ticks, days are numbered."""
         for time in 20260302080017, 86400 * 366 * 8000, 0:
             report = mpsim.run("model 1\nsource s\nserver d =9 from s\n", [("s", time), ("s", time + 86400 * 3)], jobs=True)
             self.looker.show(page([report], tick=1, start=datetime(2026, 3, 2)))
@@ -299,7 +299,7 @@ class Looked(Looking):
         self.looker.pick("#run", 1)
         self.assertIn(shown, self.texts("#nodes tr[data-node=n0] td"))
         self.looker.press("[data-picture=waits]", "End")
-        self.assertEqual(self.texts("[data-told=waits]"), [f"100.0 % waited for {max(report.visits['n0'].wait):,} or less"])
+        self.assertEqual(self.texts("[data-told=waits]"), [f"100.0 % waited {max(report.visits['n0'].wait):,} or less"])
 
     def test_report_without_jobs(self):
         self.looker.show(page([mpsim.run(CALLS, day())]))
@@ -307,7 +307,7 @@ class Looked(Looking):
         self.shows(self.text, self.attributes("g.node.marked", "data-node")[0])
 
     def test_a_run_without_the_node(self):
-        """Of another network: what it hasn't is left open."""
+        """From another network: what it doesn't have is left blank."""
         other = mpsim.run("model 1\nsource phone\nserver desk =4 from phone\n", [("phone", 0)], jobs=True)
         self.looker.show(page([self.report, other], ["a", "b"]))
         self.looker.pick("#run", 1)
@@ -329,11 +329,11 @@ class ByBrowser(Looked, Test):
         self.looker.show(page(self.several))
         driver = self.looker.driver
         self.assertEqual(driver.execute_script('return performance.getEntriesByType("resource").length'), 0)
-        self.assertEqual([it for it in driver.get_log("browser") if "favicon" not in it["message"]], [])
+        self.assertEqual([item for item in driver.get_log("browser") if "favicon" not in item["message"]], [])
 
     def test_nothing_is_cut_off(self):
-        """In a window of 1200 by 1000, with a further column, nothing is wider than its place."""
-        sweep = mpsim.sweep(day(), {it: places(it) for it in (1, 2, 4)}, jobs=True)
+        """In a window of 1200 by 1000, with another column, nothing is wider than its place."""
+        sweep = mpsim.sweep(day(), {item: places(item) for item in (1, 2, 4)}, jobs=True)
         for made in page([self.report]), page(sweep.reports().values(), sweep, within=600):
             self.looker.show(made)
             script = (
@@ -343,7 +343,7 @@ class ByBrowser(Looked, Test):
             self.assertEqual(self.looker.driver.execute_script(script), [])
 
     def test_its_policy_lets_it_ask_for_nothing(self):
-        """The same page from a server: its own server isn't asked either."""
+        """The same page from a server: not even its own server gets a request."""
         made = page([self.report])
 
         class Handler(http.server.BaseHTTPRequestHandler):

@@ -1,4 +1,4 @@
-"""Models that are built line by line, and what is read of a text."""
+"""Models built line by line, and what is read from a text."""
 
 import csv
 import unittest
@@ -8,7 +8,7 @@ from ground import EXAMPLES, Test, folders, text_of
 import mpsim
 from mpsim.model import columns
 
-# Each kind of node, as docs/MODEL.md has its line, and the call that writes it behind the source `x`, whose output reads `x` or `x.1`.
+# Each kind of node, with its line in docs/MODEL.md and the call that writes it after the source `x`; what follows reads `x` or `x.1`.
 KINDS = [
     ("server n talk from x x.1", lambda m, x: m.server("n", "talk", x, x[1])),
     ("delay n =60 from x", lambda m, x: m.delay("n", 60, x)),
@@ -39,7 +39,7 @@ class Models(Test):
         model.delay("later", 1, model.trunk("lines", 2, "hold", model.source("calls")))
         self.assertEqual(str(model), "model 2\nbound 0\nsource calls\ntrunk lines 2 hold from calls\ndelay later =1 from lines\n")
 
-    def test_splits_that_are_none(self):
+    def test_invalid_splits(self):
         model = mpsim.Model()
         for words in {}, {"turn": 2, "mod": (2, "a")}:
             with self.assertRaises(TypeError):
@@ -59,7 +59,7 @@ class Texts(Test):
             mpsim.variants("{a} {b}", a=[1])
 
     def test_columns(self):
-        """Of each example: rows in that order, without a header, give the same report; mpedit takes its values in that order too."""
+        """For each example: rows in that order, without a header, give the same report; mpedit takes its values in that order too."""
         for folder in folders():
             if not (folder / "report.txt").is_file() or folder.parent.name == "cases":
                 continue
@@ -67,7 +67,7 @@ class Texts(Test):
                 names = columns(text_of(folder, "model.txt"))
                 with open(folder / "trace.csv", newline="") as file:
                     header, *rows = filter(None, csv.reader(file))
-                where = [header.index(it, 2) for it in names]
+                where = [header.index(name, 2) for name in names]
                 rows = [(row[0], row[1], *(row[at] for at in where)) for row in rows]
                 self.assertEqual(str(mpsim.run(folder / "model.txt", rows)), text_of(folder, "report.txt"))
                 first = mpsim.Set(1, rows[0][0], rows[0][1], rows[0][2:])

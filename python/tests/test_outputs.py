@@ -1,4 +1,4 @@
-"""What a command of `planner` reads it doesn't write over, whatever the file is called: each option that names an output, beside each input."""
+"""A command of `mpplan` never overwrites its inputs, whatever the file is called: each option that names an output, with each input."""
 
 import os
 import unittest
@@ -18,7 +18,7 @@ INPUTS = {
     "export": "when,who,long\n8:00,door,5\n",
     "changes": "record,time\n1,+1\n",
 }
-# The words of a call, in which OUT is an output; and what each input is called.
+# The arguments of a call, in which OUT is an output, and what each input is called.
 CALLS = (
     ("prepare export --time when --demand long=talk --source who --model model --out OUT", {"export": "export", "model": "model"}),
     ("prepare export --time when --demand long=talk --source who --model model --left-out OUT", {"export": "export", "model": "model"}),
@@ -55,8 +55,8 @@ class Outputs(InFolder):
                     os.symlink(name, "soft")
                     os.link(name, "hard")
                     for path in name, f"./{name}", self.folder / name, "soft", "hard":
-                        asked = [path if it == "OUT" else it for it in words.split()]
-                        self.refuses(f"{path}: it is the {what}, and isn't written over", *asked)
+                        asked = [path if part == "OUT" else part for part in words.split()]
+                        self.refuses(f"{path}: this is the {what}, which is never overwritten", *asked)
                     os.unlink("soft")
                     os.unlink("hard")
         self.assertEqual({name: text_of(path) for name, path in self.inputs.items()}, self.texts)
@@ -73,16 +73,16 @@ class Outputs(InFolder):
                     os.symlink("new", "soft")
                 told = planner(*words.replace("OUT", first).split(), option, second)
                 self.assertEqual(told[0], 1)
-                self.assertRegex(told[2], r"^planner: (soft, new|new, (\./)?new|(\./)?new, new): one file can't be written for two things\n$")
+                self.assertRegex(told[2], r"^mpplan: (soft, new|new, (\./)?new|(\./)?new, new): two outputs can't go to one file\n$")
             os.unlink("soft")
         self.assertFalse(os.path.exists("new"))
 
     def test_a_name_that_is_empty(self):
         for words, _ in CALLS:
-            self.refuses("the name of a file to be written is empty", *("" if it == "OUT" else it for it in words.split()))
+            self.refuses("the name of an output file is empty", *("" if part == "OUT" else part for part in words.split()))
 
     def test_of_two_files_both_are_there_or_none(self):
-        """One of them is on a disk that is full; it holds for the other whether it comes first or last."""
+        """One of them is on a full disk; it doesn't matter which comes first."""
         for words, other in (
             ("prepare export --time when --demand long=talk --source who --model model --out", "--first-lines"),
             ("prepare export --time when --demand long=talk --source who --model model --out", "--out-model"),
@@ -92,21 +92,21 @@ class Outputs(InFolder):
         ):
             for first, second in ("new", "/dev/full"), ("/dev/full", "new"):
                 told = planner(*words.split(), first, other, second)
-                line = "planner: /dev/full: No space left on device"
+                line = "mpplan: /dev/full: No space left on device"
                 self.assertEqual((told[0], told[2].splitlines()[-1:]), (1, [line]), (words, first, other, second))
                 self.assertFalse(os.path.exists("new"))
 
-    def test_what_is_no_file_on_a_disk(self):
-        """A device may be read and written, and a name that isn't there yet is nobody's."""
+    def test_outputs_that_are_not_regular_files(self):
+        """A device may be read and written, and a new name isn't an input."""
         judge_outputs(["/dev/null", "new", None], {"model": ["/dev/null", None], "trace": ["new"]})
 
     def test_every_option_is_there(self):
-        """Each option of each command that takes a file, and doesn't read it."""
+        """Each option of each command that takes a file, unless it only reads it."""
         words = [it.split() for it, _ in CALLS]
-        tried = {(it[0], it[it.index("OUT") - 1]) for it in words}
+        tried = {(word[0], word[word.index("OUT") - 1]) for word in words}
         parsers = {name: command._parser(name)._subparsers._group_actions[0].choices[name] for name in COMMANDS}
-        files = {(name, *it.option_strings) for name, parser in parsers.items() for it in parser._actions if it.metavar == "FILE"}
-        self.assertEqual({it for it in files if it[-1] not in ("--model", "--trace", "--report")}, tried)
+        files = {(name, *action.option_strings) for name, parser in parsers.items() for action in parser._actions if action.metavar == "FILE"}
+        self.assertEqual({file for file in files if file[-1] not in ("--model", "--trace", "--report", "--roster")}, tried)
 
 
 if __name__ == "__main__":

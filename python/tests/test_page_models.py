@@ -1,4 +1,4 @@
-"""What the script of a page works on: the models of several reports, and the time of the day."""
+"""The data of a page's script: the models of several reports, and times of day."""
 
 import json
 import unittest
@@ -12,13 +12,13 @@ import mpsim
 
 
 def data_of(path):
-    """What the script of a page works on."""
-    return json.loads(text_in(next(it for it in elements(Tree(path.read_text()).root, "script") if it[1].get("id") == "data")))
+    """Returns the data of a page's script."""
+    return json.loads(text_in(next(element for element in elements(Tree(path.read_text()).root, "script") if element[1].get("id") == "data")))
 
 
 class Models(InFolder):
     def test_a_model_for_each_report(self):
-        """In the box of a node are the words of the model of that run. One model for reports of others is told by the number of servers."""
+        """The box of a node shows the text of that run's model. If one model is given for reports of others, the number of servers reveals it."""
         trace, paths = [("calls", at, 9) for at in range(4)], []
         for count in 2, 3:
             model, report = self.folder / f"m{count}.txt", self.folder / f"r{count}.txt"
@@ -27,16 +27,16 @@ class Models(InFolder):
             report.write_text("".join(mpsim.run(model, trace).lines()))
             paths += [(report, model)]
         out, (reports, models) = self.folder / "page.html", zip(*paths)
-        asked = lambda: [it["asked"]["ct"] for it in data_of(out)["runs"]]
+        asked = lambda: [item["asked"]["ct"] for item in data_of(out)["runs"]]
         self.assertEqual(planner("page", *reports, "--model", models[0], "--model", models[1], "--out", out), (0, "", ""))
         self.assertEqual(asked(), ["trunk 2 d", "trunk 3 d"])
-        line = "ct of r3 has another number of servers than the model says, whose words stand in its box; --model is given for each"
-        self.assertEqual(planner("page", *reports, "--model", models[0], "--out", out), (0, "", f"planner: warning: {line}\n"))
-        # Where a name in braces stands for the number nothing is told.
+        line = "ct of r3 doesn't have the number of servers of the model, and its box shows the text of the model; give --model once per report"
+        self.assertEqual(planner("page", *reports, "--model", models[0], "--out", out), (0, "", f"mpplan: warning: {line}\n"))
+        # If a name in braces stands for the number, nothing is reported.
         braces = self.file("braces.txt", models[0].read_text().replace("ct 2", "ct {agents}"))
         self.assertEqual(planner("page", *reports, "--model", braces, "--out", out), (0, "", ""))
-        line = "3 models for 2 reports: --model is given once, or once for each"
-        self.assertEqual(planner("page", *reports, *["--model", models[0]] * 3, "--out", out), (1, "", f"planner: {line}\n"))
+        line = "3 models for 2 reports: give --model once, or once per report"
+        self.assertEqual(planner("page", *reports, *["--model", models[0]] * 3, "--out", out), (1, "", f"mpplan: {line}\n"))
         self.assertEqual(planner("page", reports[0], "--model", models[0], "--out", models[0])[0], 1)
 
     def test_time_of_the_day(self):

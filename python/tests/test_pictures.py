@@ -1,4 +1,4 @@
-"""The picture of the number in a node over time, and a pool on a page, as the page's script makes them (test_looks.py has the others)."""
+"""The chart of the number in a node over time, and a pool on a page, as the page's script makes them (test_looks.py has the others)."""
 
 import re
 import unittest
@@ -16,15 +16,15 @@ from mpsim.planner.traces import Trace
 
 class Pictures(Looking):
     def test_number_over_time(self):
-        """Piece by piece, from the lines of the jobs, at a node that loses some, and at a delay."""
+        """Interval by interval, from the job lines, at a node that loses some, and at a delay."""
         self.looker.show(page([self.report]))
         span = int(re.search(r" span (\d+)", self.text)[1])
         for name in "expert", "wrap":
             self.looker.click("g.node", self.nodes()[name])
             captions = self.texts("figcaption")
-            width = int(re.search(r"piece of ([\d,]+) ticks", captions[1 if name == "expert" else 0])[1].replace(",", ""))
-            mine = [it for it in map(str.split, self.text.splitlines()) if it[0] == "job" and it[2] == name and it[5] == "wait"]
-            stays = [(int(it[4]), int(it[8])) for it in mine]
+            width = int(re.search(r"interval of ([\d,]+) ticks", captions[1 if name == "expert" else 0])[1].replace(",", ""))
+            mine = [line for line in map(str.split, self.text.splitlines()) if line[0] == "job" and line[2] == name and line[5] == "wait"]
+            stays = [(int(item[4]), int(item[8])) for item in mine]
             steps = {}
             for begin, end in stays:
                 steps[begin], steps[end] = steps.get(begin, 0) + 1, steps.get(end, 0) - 1
@@ -34,14 +34,14 @@ class Pictures(Looking):
                 there.append(number)
             self.looker.press("[data-picture=number]", "Home")
             pieces = [there[at : at + width] for at in range(0, span, width)]
-            # The lines: 198 high where most are there, and 12 from the top.
-            for kind, values in ("max", list(map(max, pieces))), ("p50", [sum(it) / len(it) for it in pieces]):
+            # The lines: 198 high at the maximum, and 12 from the top.
+            for kind, values in ("max", list(map(max, pieces))), ("p50", [sum(piece) / len(piece) for piece in pieces]):
                 path = self.attributes(f"[data-picture=number] path.{kind}", "d")[0]
-                drawn = [float(it) for it in re.findall(r"[ML][\d.]+ ([\d.]+)", path)]
+                drawn = [float(found) for found in re.findall(r"[ML][\d.]+ ([\d.]+)", path)]
                 self.assertEqual(len(drawn), len(pieces))
                 for y, value in zip(drawn, values):
                     self.assertAlmostEqual(y, 210 - 198 * value / max(map(max, pieces)), delta=0.11)
-            names = [it for it in self.texts("[data-picture=number] text.max") + self.texts("[data-picture=number] text.p50")]
+            names = [text for text in self.texts("[data-picture=number] text.max") + self.texts("[data-picture=number] text.p50")]
             self.assertEqual(names, ["max", "mean"])
             for at, mine in zip(range(0, span, width), pieces):
                 mean = f"{round(sum(mine) / len(mine), 3):.3f}".rstrip("0").rstrip(".")
@@ -50,25 +50,25 @@ class Pictures(Looking):
                 self.looker.press("[data-picture=number]", "ArrowRight")
 
     def test_a_pool(self):
-        """Its box, its cards and its pictures are of the waits in its queue; without the lines of jobs its box has the mean wait, in each run."""
+        """Its box, cards and charts show the waits in its queue; without job lines its box has the mean wait, in each run."""
         rows = [["calls", time, talk] for time, talk in (((at * 37) % 500, 3 + (at * at) % 17) for at in range(120))]
-        trace = Trace("t.csv", ["source", "time", "talk"], [list(map(str, it)) for it in rows])
+        trace = Trace("t.csv", ["source", "time", "talk"], [list(map(str, row)) for row in rows])
         model, trace = Queue("model 1\nsource calls\nserver desk talk from calls\n", trace, "desk").with_pool(3)
-        whole, short = (mpsim.run(model, trace.lines(), jobs=it) for it in (True, False))
-        lines = [it.split() for it in "".join(whole.lines()).splitlines() if it.split()[2:3] == ["desk_queue"] and it.startswith("job ")]
-        waits = sorted(int(it[8]) - int(it[4]) for it in lines)
+        whole, short = (mpsim.run(model, trace.lines(), jobs=item) for item in (True, False))
+        lines = [line.split() for line in "".join(whole.lines()).splitlines() if line.split()[2:3] == ["desk_queue"] and line.startswith("job ")]
+        waits = sorted(int(line[8]) - int(line[4]) for line in lines)
         # Of 120 the 60th, the 108th and the 119th.
         want = {"in": 120, "lost": 0, "mean wait": round(sum(waits) / 120, 3)}
-        want.update(zip(("p50", "p90", "p99", "max"), (waits[it] for it in (59, 107, 118, 119))))
+        want.update(zip(("p50", "p90", "p99", "max"), (waits[item] for item in (59, 107, 118, 119))))
         self.assertTrue(0 < waits[59] < waits[107] < waits[119])
         self.looker.show(page([whole, short], ["a", "b"]))
         self.looker.click("g.node", self.nodes()["desk"])
         cards = dict(zip(self.attributes(".card", "data-figure"), map(number, self.attributes(".card", "data-v"))))
         self.assertEqual({name: cards[name] for name in want}, want)
         self.looker.press("[data-picture=waits]", "End")
-        self.assertEqual(self.texts("[data-told=waits]"), [f"100.0 % waited for {waits[119]:,} or less"])
+        self.assertEqual(self.texts("[data-told=waits]"), [f"100.0 % waited {waits[119]:,} or less"])
         self.looker.type("#ticks", str(waits[59]))
-        self.assertEqual(self.texts("#of-all"), [f"{100 * sum(it <= waits[59] for it in waits) / 120:.1f} %"])
+        self.assertEqual(self.texts("#of-all"), [f"{100 * sum(wait <= waits[59] for wait in waits) / 120:.1f} %"])
         box = self.nodes()["desk"]
         for run, text in (1, f"mean wait {want['mean wait']:,}"), (0, f"p90 {waits[107]:,}"):
             self.looker.pick("#run", run)
@@ -80,7 +80,7 @@ class Pictures(Looking):
         self.assertEqual(self.attributes(".card[data-figure=in]", "data-v"), ["120"])
         # In one run it is a pool, in the other a trunk group that loses calls.
         loses = mpsim.run(model.replace("trunk desk 3", "trunk desk 2"), trace.lines(), jobs=True)
-        lost = next(it["lost"] for it in nodes_of(str(loses)) if it["name"] == "desk")
+        lost = next(node["lost"] for node in nodes_of(str(loses)) if node["name"] == "desk")
         self.looker.show(page([loses, whole], ["a", "b"]))
         for run, kind, text in (1, "pool", f"p90 {waits[107]:,}"), (0, "trunk", f"120 in, lost {lost}"):
             self.looker.pick("#run", run)

@@ -1,4 +1,4 @@
-"""The command `planner`: its words, how it ends, and what it leaves behind."""
+"""The command `mpplan`: its arguments, how it ends, and what it leaves behind."""
 
 import contextlib
 import csv
@@ -24,46 +24,47 @@ from mpsim.planner.progress import Progress
 from mpsim.planner.traces import Trace
 
 EXPORT = EXAMPLES / "export" / "calls.csv"
-ASKED = [EXPORT, "--date", "Datum", "--time", "Uhrzeit", "--source", "Warteschlange"]
-COMMAND = [sys.executable, "-B", ROOT / "tools" / "planner"]
+ASKED = [EXPORT, "--date", "Datum", "--time", "Uhrzeit", "--source", "Warteschlange", "--left-out-most", "40%"]
+COMMAND = [sys.executable, "-B", ROOT / "mpplan"]
 
 
 class Words(Test):
     def test_each_command_has_help_with_an_example(self):
-        modules = {it.stem for it in (SOURCES / "mpsim" / "planner").glob("*.py") if re.search(r"^def main\(asked\)", it.read_text(), re.M)}
+        modules = {path.stem for path in (SOURCES / "mpsim" / "planner").glob("*.py") if re.search(r"^def main\(args\)", path.read_text(), re.M)}
         self.assertEqual(modules, set(COMMANDS))
         for name, says in COMMANDS.items():
             status, out, err = planner(name, "--help")
             self.assertEqual((status, err), (0, ""))
-            self.assertIn(f"example: planner {name} ", out)
-            self.assertIn(says, " ".join(out.split()))
+            self.assertIn(f"example: mpplan {name} ", out)
+            self.assertIn(says[1:], " ".join(out.split()))
         status, out, _ = planner("--help")
-        self.assertEqual([it for it in COMMANDS if f"    {it} " in out], list(COMMANDS))
-        self.assertEqual(planner("--version"), (0, f"planner {mpsim.__version__}\n", ""))
+        self.assertEqual([command for command in COMMANDS if f"    {command} " in out], list(COMMANDS))
+        self.assertEqual(planner("--version"), (0, f"mpplan {mpsim.__version__}\n", ""))
 
-    def test_words_that_are_none(self):
+    def test_invalid_arguments(self):
         for words, line in (
-            ([], "the following arguments are required: COMMAND (planner --help tells more)"),
-            (["prepare"], "the following arguments are required: export, --time (planner prepare --help tells more)"),
-            (["prepare", "x", "--tim", "y"], "the following arguments are required: --time (planner prepare --help tells more)"),
-            (["prepare", "x", "--time", "y", "--skip", "z"], "argument --skip: invalid int value: 'z' (planner prepare --help tells more)"),
+            ([], "the following arguments are required: COMMAND (see mpplan --help)"),
+            (["prepare"], "the following arguments are required: export, --time (see mpplan prepare --help)"),
+            (["prepare", "x", "--tim", "y"], "the following arguments are required: --time (see mpplan prepare --help)"),
+            (["prepare", "x", "--time", "y", "--skip", "z"], "argument --skip: invalid int value: 'z' (see mpplan prepare --help)"),
         ):
-            self.assertEqual(planner(*words), (2, "", f"planner: {line}\n"))
+            self.assertEqual(planner(*words), (2, "", f"mpplan: {line}\n"))
         status, out, err = planner("prepares")
         self.assertEqual((status, out, err.count("\n")), (2, "", 1))
 
     def test_the_command_of_a_clone(self):
-        """Through a link, from any folder, and as a module."""
+        """Through a link, from any directory, and as a module."""
         with open(PYTHON / "pyproject.toml", encoding="utf-8") as file:
-            self.assertIn('planner = "mpsim.planner:main"\n', file.read())
+            self.assertIn('mpplan = "mpsim.planner:main"\n', file.read())
         for command, more in (COMMAND, {}), ([sys.executable, "-B", "-m", "mpsim.planner"], {"PYTHONPATH": str(SOURCES)}):
             ran = subprocess.run([*command, "--version"], cwd="/", env={**os.environ, **more}, capture_output=True, text=True)
-            self.assertEqual((ran.returncode, ran.stdout), (0, f"planner {mpsim.__version__}\n"))
+            self.assertEqual((ran.returncode, ran.stdout), (0, f"mpplan {mpsim.__version__}\n"))
 
 
 class LongFields(InFolder):
     def test_fields_as_long_as_a_trace_may_be(self):
-        """mpsim takes them, and so does each command that reads a trace. Python's own limit is as it was then, and `prepare` keeps to it."""
+        """mpsim takes them, and so does each command that reads a trace. Python's own limit is restored afterwards, and `prepare` keeps to its
+        own."""
         note, model = "x" * 200000, self.file("m.txt", DESK)
         trace = self.file("t.csv", f"source,time,d,note\ndoor,0,5,b\ndoor,3,5,{note}")
         changes, out, more = self.file("c.csv", "record,source,time,d,note\n1,,+1,,\n+,door,9,1,c\n"), self.folder / "o.csv", self.folder / "p.csv"
@@ -80,7 +81,7 @@ class LongFields(InFolder):
             self.assertEqual(csv.field_size_limit(), limit)
         self.assertEqual((text_of(out), text_of(more)), (text_of(trace) + "\n", text_of(trace).replace("door,0", "door,1") + "\ndoor,9,1,c\n"))
         self.assertEqual(Trace.read(trace).rows[1][3], note)
-        line = f"{trace}: behind row 1: field larger than field limit ({limit}): is a quote not closed?"
+        line = f"{trace}: row 3: field larger than field limit ({limit}): is a closing quote missing?"
         self.refuses(line, "prepare", trace, "--time", "time", "--format", "ticks")
         self.assertEqual(csv.field_size_limit(), limit)
 
@@ -92,76 +93,76 @@ class Ends(InFolder):
         return subprocess.run([*COMMAND, *map(str, words)], cwd=self.folder, env=os.environ, text=True, **{"stderr": subprocess.PIPE, **more})
 
     def left(self):
-        return sorted(it.name for it in self.folder.iterdir())
+        return sorted(path.name for path in self.folder.iterdir())
 
     def test_an_option_that_is_given_twice(self):
-        """Each that has one value, of each command: of two values the first would be lost."""
+        """Each that has one value, of each command: otherwise the first of two values would be lost."""
         for name in COMMANDS:
             parser = command._parser(name)._subparsers._group_actions[0].choices[name]
-            for it in parser._actions:
-                if isinstance(it, command._Once) and it.option_strings:
-                    values = [next(iter(it.choices), "1") if it.choices else "1"] * (it.nargs if isinstance(it.nargs, int) else 1)
-                    status, out, err = planner(name, *[it.option_strings[-1], *values] * 2)
-                    self.assertEqual((status, out, err.split(" (")[0]), (2, "", f"planner: {it.option_strings[-1]} is given twice"))
+            for action in parser._actions:
+                if isinstance(action, command._Once) and action.option_strings:
+                    values = [next(iter(action.choices), "1") if action.choices else "1"] * (action.nargs if isinstance(action.nargs, int) else 1)
+                    status, out, err = planner(name, *[action.option_strings[-1], *values] * 2)
+                    self.assertEqual((status, out, err.split(" (")[0]), (2, "", f"mpplan: {action.option_strings[-1]} is given twice"))
 
     def test_a_link(self):
-        (self.folder / "planner").symlink_to(ROOT / "tools" / "planner")
-        ran = subprocess.run([self.folder / "planner", "prepare", *ASKED], cwd="/", env=os.environ, text=True, capture_output=True)
+        (self.folder / "mpplan").symlink_to(ROOT / "mpplan")
+        ran = subprocess.run([self.folder / "mpplan", "prepare", *ASKED], cwd="/", env=os.environ, text=True, capture_output=True)
         self.assertEqual((ran.returncode, ran.stdout.split("\n")[0]), (0, "source,time"), ran.stderr)
 
     def test_an_output_that_is_full(self):
         for words, more, line in (
-            ([], {"stdout": open("/dev/full", "w")}, "planner: the output: No space left on device"),
-            (["--out", "/dev/full"], {}, "planner: /dev/full: No space left on device"),
+            ([], {"stdout": open("/dev/full", "w")}, "mpplan: standard output: No space left on device"),
+            (["--out", "/dev/full"], {}, "mpplan: /dev/full: No space left on device"),
         ):
             with more.get("stdout", contextlib.nullcontext()):
                 ran = self.run_with("prepare", *ASKED, *words, **more)
             self.assertEqual((ran.returncode, ran.stderr.splitlines()[-1]), (1, line))
 
     def test_a_disk_that_is_full(self):
-        """What was there stays, and nothing else is left."""
+        """Existing files stay, and nothing else is left."""
         self.file("trace.csv", "before\n")
 
         def small():
             resource.setrlimit(resource.RLIMIT_FSIZE, (100, 100))
 
         ran = self.run_with("prepare", *ASKED, "--out", "trace.csv", "--left-out", "left.csv", preexec_fn=small)
-        self.assertEqual((ran.returncode, ran.stderr.splitlines()[-1]), (1, "planner: left.csv: File too large"))
+        self.assertEqual((ran.returncode, ran.stderr.splitlines()[-1]), (1, "mpplan: left.csv: File too large"))
         self.assertEqual((self.left(), text_of(self.folder, "trace.csv")), (["trace.csv"], "before\n"))
 
     def test_outputs_that_are_closed(self):
         script = 'exec "$@" >&-'
         ran = subprocess.run(["sh", "-c", script, "sh", *COMMAND, "prepare", *ASKED], env=os.environ, text=True, capture_output=True)
-        self.assertEqual((ran.returncode, ran.stderr.splitlines()[-1]), (1, "planner: the output: Bad file descriptor"))
-        # What is told goes nowhere then, and not into the trace.
+        self.assertEqual((ran.returncode, ran.stderr.splitlines()[-1]), (1, "mpplan: standard output: Bad file descriptor"))
+        # Messages are dropped then, and don't go into the trace.
         ran = subprocess.run(["sh", "-c", 'exec "$@" 2>&-', "sh", *COMMAND, "prepare", *ASKED], env=os.environ, text=True, capture_output=True)
         self.assertEqual((ran.returncode, ran.stdout.splitlines()[:2]), (0, ["source,time", "verkauf_and_buro,5"]))
 
     def test_a_reader_that_has_enough(self):
         rows = "when\n" + "8:00\n" * 100000
         self.file("export.csv", rows)
-        command = " ".join(["python3 -B", str(ROOT / "tools" / "planner"), "prepare export.csv --time when 2>err; echo $? >status"])
+        command = " ".join(["python3 -B", str(ROOT / "mpplan"), "prepare export.csv --time when 2>err; echo $? >status"])
         ran = subprocess.run(["sh", "-c", f"({command}) | head -1"], cwd=self.folder, env=os.environ, text=True, capture_output=True)
         self.assertEqual((ran.stdout, ran.stderr, text_of(self.folder, "status")), ("source,time\n", "", "141\n"))
-        self.assertFalse([it for it in text_of(self.folder, "err").splitlines() if not it.startswith("planner: ")])
+        self.assertFalse([line for line in text_of(self.folder, "err").splitlines() if not line.startswith("mpplan: ")])
 
     def test_signals(self):
-        """Nothing is left, and one line at most is told, while the export comes by a pipe that stays open."""
-        for number, status, told in (signal.SIGINT, 130, "planner: stopped\n"), (signal.SIGTERM, 143, ""), (signal.SIGHUP, 129, ""):
+        """Nothing is left, and at most one line is printed, while the export comes through a pipe that stays open."""
+        for number, status, told in (signal.SIGINT, 130, "mpplan: stopped\n"), (signal.SIGTERM, 143, ""), (signal.SIGHUP, 129, ""):
             with self.waiting(signal.SIG_DFL) as process:
                 process.send_signal(number)
                 out, err = process.communicate(timeout=60)
             self.assertEqual((process.returncode, out, err, self.left()), (status, "", told, []))
 
     def test_a_signal_that_is_ignored(self):
-        """As nohup has it."""
+        """As under nohup."""
         with self.waiting(signal.SIG_IGN) as process:
             process.send_signal(signal.SIGHUP)
             out, _ = process.communicate(timeout=60)
         self.assertEqual((process.returncode, out, self.left()), (0, "", ["left.csv", "trace.csv"]))
 
     def waiting(self, how):
-        """A command that has begun a file, and waits for the rest of an export; signals are heeded, or ignored."""
+        """A command that has begun a file and waits for the rest of an export; signals are handled or ignored."""
 
         def prepared():
             for number in signal.SIGINT, signal.SIGTERM, signal.SIGHUP:
@@ -181,21 +182,21 @@ class Ends(InFolder):
     def test_a_fault_of_a_program(self):
         model, trace = self.file("model.txt", "model 1\nsource Door\n"), self.file("trace.csv", "source,time\n")
         ran = self.run_with("run", model, trace, stdout=subprocess.PIPE)
-        line = f"planner: {model}: model line 2: word 2 not allowed: source Door\n"
+        line = f"mpplan: {model}: model line 2: word 2 not allowed: source Door\n"
         self.assertEqual((ran.returncode, ran.stdout, ran.stderr), (3, "", line))
 
 
 class Lines(Test):
-    def test_lines_of_faults(self):
-        for fault, line in (
+    def test_lines_of_errors(self):
+        for error, line in (
             (ValueError("a\nb\x1b[1m\udcff"), "a\\nb\\x1b[1m\\udcff"),
             (ValueError(), "ValueError"),
             (FileNotFoundError(2, "No such file or directory", "x\n"), "x\\n: No such file or directory"),
-            (OSError(28, "No space left on device"), "the output: No space left on device"),
+            (OSError(28, "No space left on device"), "standard output: No space left on device"),
             (mpsim.ModelError("model line 2: word 2 not allowed", "", 3, "m", "source Döör"), "m: model line 2: word 2 not allowed: source Döör"),
-            (mpsim.ReportError(7, "x"), "report line 7: 'x' is no line of a report"),
+            (mpsim.ReportError(7, "x"), "report line 7: 'x' is not a line of a report"),
         ):
-            self.assertEqual(line_of(fault), line)
+            self.assertEqual(line_of(error), line)
 
 
 class Files(InFolder):
@@ -217,10 +218,10 @@ class Files(InFolder):
 
     def test_a_block_that_is_left(self):
         path = self.file("a", "before\n")
-        for fault in ValueError, KeyboardInterrupt, OSError:
-            with self.assertRaises(fault), written(path) as file:
+        for error in ValueError, KeyboardInterrupt, OSError:
+            with self.assertRaises(error), written(path) as file:
                 file.write("half")
-                raise fault
+                raise error
             self.assertEqual((text_of(path), os.listdir(self.folder)), ("before\n", ["a"]))
 
     def test_pipes_and_devices(self):
@@ -230,7 +231,7 @@ class Files(InFolder):
             with written(pipe) as file:
                 file.write("through\n")
             self.assertEqual(reader.stdout.read(), "through\n")
-        # What an output was sent to is added to.
+        # A redirected output is appended to.
         path = self.file("log", "before\n")
         script = "from mpsim.planner.files import written\nwith written('/dev/stdout') as file: file.write('after\\n')"
         with open(path, "a") as out:
@@ -263,7 +264,7 @@ class Terminal(io.StringIO):
 
 class Shown(Test):
     def test_progress(self):
-        out, line = Terminal(), "10 % of 1,000 rows, some 45 s to go"
+        out, line = Terminal(), "10 % of 1,000 rows, about 45 s left"
         with self.assertRaises(KeyboardInterrupt), Progress(1000, "rows", out) as tell:
             tell(1)
             self.assertEqual(out.getvalue(), "")

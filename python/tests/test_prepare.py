@@ -1,5 +1,6 @@
-"""Exports, and the traces that are made of them."""
+"""Exports, and the traces made from them."""
 
+import functools
 import io
 import random
 import time
@@ -11,15 +12,18 @@ from commands import InFolder, planner
 from ground import EXAMPLES, Test, text_of
 
 import mpsim
-from mpsim.planner.calendar import told_in
+from mpsim.planner.calendar import settings_in
 from mpsim.planner.exports import Export, found_delimiter, found_encoding
-from mpsim.planner.prepare import prepare
+from mpsim.planner.prepare import prepare as prepare_strictly
 from mpsim.planner.records import Records
 from mpsim.planner.times import Unread
 
+# Many tables below have rows that are left out.
+prepare = functools.partial(prepare_strictly, left_out_most="100%")
 EXPORT = EXAMPLES / "export"
 ASKED = ["--date", "Datum", "--time", "Uhrzeit", "--source", "Warteschlange"]
-ASKED += ["--demand", "Gesprächsdauer (min)=talk:min", "--demand", "Nachbearbeitung=wrap", "--code", "Anliegen=kind", "--zone", "Europe/Berlin"]
+ASKED += ["--demand", "Gesprächsdauer (min)=talk:min", "--demand", "Nachbearbeitung=wrap", "--code", "Anliegen=kind"]
+ASKED += ["--zone", "Europe/Berlin", "--left-out-most", "40%"]
 
 
 def table(*rows, header="when,who,long"):
@@ -27,47 +31,48 @@ def table(*rows, header="when,who,long"):
 
 
 def times(*texts, header="when", **options):
-    """The times of records that come at these texts, in the order in which the trace has them."""
-    return list(prepare(table(*(f'"{it}"' for it in texts), header=header), header, **{"begin": "first", **options}).times)
+    """Returns the times of records that arrive at these texts, in the order of the trace."""
+    return list(prepare(table(*(f'"{text}"' for text in texts), header=header), header, **{"begin": "first", **options}).times)
 
 
 class Example(InFolder):
     def test_its_files(self):
-        made = [self.folder / it for it in ("trace.csv", "left-out.csv", "lines.txt")]
+        made = [self.folder / item for item in ("trace.csv", "left-out.csv", "lines.txt")]
         words = *ASKED, "--out", made[0], "--left-out", made[1], "--first-lines", made[2]
         status, out, err = planner("prepare", EXPORT / "calls.csv", *words)
         self.assertEqual((status, out), (0, ""), err)
-        self.assertEqual([text_of(it) for it in made[:2]], [text_of(EXPORT, it) for it in ("trace.csv", "left-out.csv")])
+        self.assertEqual([text_of(item) for item in made[:2]], [text_of(EXPORT, item) for item in ("trace.csv", "left-out.csv")])
         self.assertTrue(text_of(EXPORT, "model.txt").startswith(text_of(made[2])))
         for line in "kind: 0 is 'Störung', 1 is 'Bestellung', 2 is 'Rechnung'", "4 rows are left out", "7 records, 3 sources":
-            self.assertIn(f"planner: {line}\n", err)
+            self.assertIn(f"mpplan: {line}\n", err)
         for line in "Datum is empty (row 7)", "Datum: not of the format %d.%m.%Y (row 9, '31.02.2026')":
-            self.assertIn(f"planner: 1 row: {line}\n", err)
+            self.assertIn(f"mpplan: 1 row: {line}\n", err)
 
     def test_its_run(self):
         report = mpsim.run(EXPORT / "model.txt", EXPORT / "trace.csv")
         # 75, 210, 30, 165, 720, 120 and 66 seconds, of calls at 5, 17, 17, 131, 220, 330 and 362.
         self.assertEqual((report["desk"].busy, report["desk"].wait), (1386, 0 + 63 + 273 + 189 + 265 + 875 + 963))
-        # 20, 90, 0, 45, 240, 30 and 15 seconds behind calls that end at 80, 290, 320, 485, 1205, 1325 and 1391.
+        # 20, 90, 0, 45, 240, 30 and 15 seconds after calls that end at 80, 290, 320, 485, 1205, 1325 and 1391.
         self.assertEqual((report["after"].busy, report.span, report.exits[0].sojourn), (440, 1205 + 240, 1386 + 2628 + 440))
 
     def test_one_of_each(self):
-        """One row, one record and one source are told as such."""
+        """One row, one record and one source are reported in the singular."""
         export = self.file("one.csv", "when,who,long\n8:00,a,1\n8:01,a,\n")
-        told = planner("prepare", export, "--time", "when", "--source", "who", "--demand", "long")[2].splitlines()
-        self.assertEqual([it for it in told if "row" in it], ["planner: 1 row is left out", "planner: 1 row: long is empty (row 3)"])
-        self.assertEqual(told[-1], "planner: 1 record, 1 source")
+        told = planner("prepare", export, "--time", "when", "--source", "who", "--demand", "long", "--left-out-most", "50%")[2].splitlines()
+        self.assertEqual([item for item in told if "row" in item], ["mpplan: 1 row is left out", "mpplan: 1 row: long is empty (row 3)"])
+        self.assertEqual(told[-1], "mpplan: 1 record, 1 source")
 
     def test_flights(self):
-        """As public data of flights have them; the option stands before the export as well."""
+        """As in public flight data; the option may also come before the export."""
         rows = "2015,6,30,2400,SEA,12", "2015,6,30,5,SEA,21", "2015,6,31,5,SEA,1"
         export = self.file("flights.csv", table(*rows, header="YEAR,MONTH,DAY_OF_MONTH,CRS_DEP_TIME,ORIGIN,TAXI_OUT").decode())
-        words = "--day", "YEAR", "MONTH", "DAY_OF_MONTH", export, "--time", "CRS_DEP_TIME", "--format", "hmm", "--demand", "TAXI_OUT=taxi:min"
+        words = ["--day", "YEAR", "MONTH", "DAY_OF_MONTH", export, "--time", "CRS_DEP_TIME", "--format", "hmm", "--demand", "TAXI_OUT=taxi:min"]
+        words += ["--left-out-most", "40%"]
         lines = self.folder / "lines.txt"
         status, out, err = planner("prepare", *words, "--source", "ORIGIN", "--zone", "America/Los_Angeles", "--first-lines", lines)
         self.assertEqual((status, out), (0, "source,time,taxi\nsea,300,1260\nsea,86400,720\n"), err)
-        self.assertIn("planner: 1 row: DAY_OF_MONTH: no day of its month (row 4, '31')\n", err)
-        self.assertEqual(told_in(text_of(lines)), (10**6, "2015-06-30T00:00:00-07:00", "America/Los_Angeles"))
+        self.assertIn("mpplan: 1 row: DAY_OF_MONTH: not a day of its month (row 4, '31')\n", err)
+        self.assertEqual(settings_in(text_of(lines)), (10**9, "2015-06-30T00:00:00-07:00", "America/Los_Angeles"))
 
     def test_the_output(self):
         status, out, err = planner("prepare", EXPORT / "calls.csv", *ASKED)
@@ -85,9 +90,9 @@ class Exports(Test):
             marked = ("\ufeff" + text).encode(code) if code != "cp437" else text.encode(code)
             self.assertEqual(prepare(marked, "when", source="who", encoding=code).sources, ["buro"])
         self.assertEqual(found_encoding(b"a\nb\nx\xfc")[1].split(",")[0], "line 3 has the byte fc")
-        # As those of DOS have it: two words that differ in such bytes would be one.
+        # As DOS encodes it: two words that differ in such bytes would become one.
         dos = "when,who\n8:00,Bär\n8:00,Büro\n"
-        with self.assertRaisesRegex(ValueError, r"line 3: the byte 81 is no UTF-8 and no Windows-1252 \(--encoding\)"):
+        with self.assertRaisesRegex(ValueError, r"line 3: the byte 81 isn't valid UTF-8 or Windows-1252 \(--encoding\)"):
             prepare(dos.encode("cp850"), "when", source="who")
         self.assertEqual(prepare(dos.encode("cp850"), "when", source="who", encoding="cp850").sources, ["bar", "buro"])
 
@@ -101,7 +106,7 @@ class Exports(Test):
             (["a|b\n", "1|2\n"], "|"),
         ):
             self.assertEqual(found_delimiter(lines), mark)
-        with self.assertRaisesRegex(ValueError, r"the delimiter may be '[;,]' or '[;,]' \(--delimiter\)"):
+        with self.assertRaisesRegex(ValueError, r"the delimiter could be '[;,]' or '[;,]' \(--delimiter\)"):
             found_delimiter(["a;b,c\n", "1;2,3\n"])
         # As a spreadsheet says it; and a tab as one can type it.
         self.assertEqual(prepare(b"sep=|\r\nwhen|d\r\n8:00|1\r\n", "when", demand=["d"]).values[0].tolist(), [1])
@@ -119,39 +124,39 @@ class Exports(Test):
         out = io.StringIO()
         made = prepare(rows, "clock", format="clock", date="day", source="who", demand=["talk"], left_out=out, **given)
         self.assertEqual(list(made.rows()), [("phone", 5, 95), ("web", 40, 120)])
-        self.assertEqual(out.getvalue(), "row,reason,day,clock,who,talk\n2,clock: no time of the day as h:mm or h:mm:ss,2026-03-02,08:00:x,web,1\n")
+        self.assertEqual(out.getvalue(), "row,reason,day,clock,who,talk\n2,clock: not h:mm or h:mm:ss,2026-03-02,08:00:x,web,1\n")
 
     def test_columns(self):
         export = Export(b"a,a=b,d:e,twice,twice,\n1,2,3,4,5,\n")
         for word, found in ("a=b", (1, None, None)), ("a=b=c:min", (1, "c", "min")), ("d:e:h", (2, None, "h")), ("a=x", (0, "x", None)):
-            self.assertEqual(export.asked(word, True), found)
-        for bad, says in ("twice", "two columns are called 'twice'"), ("x=y", "there is no column 'x'; it has 'a', 'a=b',"), ("", "no column ''"):
+            self.assertEqual(export.parse(word, True), found)
+        for bad, says in ("twice", "two columns are called 'twice'"), ("x=y", "no column 'x'; it has 'a', 'a=b',"), ("", "no column ''"):
             with self.assertRaisesRegex(ValueError, says):
-                export.asked(bad)
+                export.parse(bad)
 
-    def test_what_settles_a_format_may_come_late(self):
-        """More rows than are looked at from the front on are of days that might be months; those of the end aren't."""
+    def test_a_format_may_be_settled_late(self):
+        """The days of more rows than are examined at the beginning could be months; those at the end couldn't."""
         rows = [f"{day:02}/03/2026 8:00,a,{'1' * 20}" for day in range(1, 13) for _ in range(3000)]
         late = prepare(table(*rows, "13/03/2026 9:00,a,1"), "when", tick="1h")
         self.assertEqual((late.times[-1], sum(late.left.values())), (12 * 24 + 1, 0))
-        with self.assertRaisesRegex(ValueError, "may begin with the day or with the month"):
+        with self.assertRaisesRegex(ValueError, "could begin with the day or with the month"):
             prepare(table(*rows), "when")
 
     def test_fields_that_no_column_has(self):
         made = prepare(table("8:00,a,1,", "8:01,a,1,,", "8:02,a,1,x", "8:03,a"), "when")
-        self.assertEqual((len(made), made.left), (2, {"another number of fields than the header's 3": 2}))
+        self.assertEqual((len(made), made.left), (2, {"the number of fields isn't the header's 3": 2}))
 
     def test_rows_are_counted_as_a_spreadsheet_does(self):
         rows = ["8:00,a,1", "8:01,a,x", "", "8:02,b,1"] + ["8:03,b,1"] * 40000 + ['8:03,"b\nc",y', "8:07,c,z", "8:08"]
         out = io.StringIO()
         made = prepare(b"title\n" + table(*rows), "when", demand=["long=d"], code=["who=kind"], skip=1, left_out=out)
-        self.assertEqual([it.split(",")[0] for it in out.getvalue().split("\n")[1:-1]], ["4", "40007", 'c"', "40008", "40009"])
+        self.assertEqual([part.split(",")[0] for part in out.getvalue().split("\n")[1:-1]], ["4", "40007", 'c"', "40008", "40009"])
         self.assertEqual((len(made), set(made.values[1])), (40002, {0, 1}))
         # Words of rows that are left out have no number.
         self.assertIn("kind: 0 is 'a', 1 is 'b'", made.told)
-        reasons = {"long: no number with a decimal point": 3, "another number of fields than the header's 3": 1}
+        reasons = {"long: not a number with a decimal point": 3, "the number of fields isn't the header's 3": 1}
         self.assertEqual(made.left, reasons)
-        self.assertIn("3 rows: long: no number with a decimal point; the first is row 4, 'x'", made.told)
+        self.assertIn("3 rows: long: not a number with a decimal point; the first is row 4, 'x'", made.told)
 
 
 class Times(Test):
@@ -164,52 +169,52 @@ class Times(Test):
         self.assertEqual(list(prepare(excels, "clock", date="day", date_format="excel", format="excel", begin="day").times), [21600])
         numbers = table("2026-03-02,805", "2026-03-02,1430", header="day,clock")
         self.assertEqual(list(prepare(numbers, "clock", date="day", format="hmm").times), [300, 23400])
-        # A date may have a midnight with it.
+        # A date may include a midnight.
         self.assertEqual(list(prepare(table("2026-03-02 00:00:00,8:05", header="day,clock"), "clock", date="day").times), [300])
 
     def test_times_with_and_without_am_and_pm(self):
-        """Where some have it, one that has none may be of either half of the day, but for what no clock of twelve hours shows."""
+        """If some have it, one without it may be in either half of the day, unless no 12-hour clock shows it."""
         self.assertEqual(times("1:30 PM", "13:40", "0:10", "11:00 am", begin="day"), [600, 39600, 48600, 49200])
         self.assertEqual(times("1:30", "13:40", begin="day"), [5400, 49200])
         for one in "1:30", "12:05", "8:00:07":
-            with self.assertRaisesRegex(ValueError, "some times have AM or PM, and others .* none: --format '%I:%M %p' leaves these out"):
+            with self.assertRaisesRegex(ValueError, "some times have AM or PM, but others .* don't: --format '%I:%M %p' leaves those out"):
                 times("1:30 PM", "2:30 pm", one)
         self.assertEqual(times("1:30 PM", "1:45", "2:30 pm", format="%I:%M %p"), [0, 3600])
 
     def test_a_day_in_three_columns(self):
-        """By their names, in any order; 5 is five minutes past midnight, and 2400 the midnight behind the day."""
+        """By their names, in any order; 5 is five minutes past midnight, and 2400 the midnight at the end of the day."""
         head, given = "DAY_OF_MONTH,YEAR,DEP,MONTH", {"day": ["YEAR", "MONTH", "DAY_OF_MONTH"], "begin": "day"}
         rows = table("30,2015,5,06", "30,2015,2359,6", "30,2015,2400,6", "01,2015,0,7", " 1 ,2015, 1430 ,7", header=head)
         made = prepare(rows, "DEP", format="hmm", **given)
         self.assertEqual((list(made.times), made.left, made.zero), ([300, 86340, 86400, 86400, 138600], {}, "2015-06-30T00:00:00"))
-        # Times that tell their format; February of a leap year has 29 days.
+        # Times that show their format; February of a leap year has 29 days.
         for texts in ("0:05", "8:05", "24:00"), ("00:05:00", "08:05:00", "24:00:00"):
             rows = table(f"28,2016,{texts[0]},2", f"29,2016,{texts[1]},2", f"29,2016,{texts[2]},2", header=head)
             made = prepare(rows, "DEP", **given)
             self.assertEqual((list(made.times), made.left), ([300, 86400 + 29100, 2 * 86400], {}))
-        # Days of a spreadsheet: a quarter of one. A day on which clocks are set forward has 23 hours, and the hour that it skips isn't there.
+        # Days of a spreadsheet: a quarter of one. A day on which clocks are set forward has 23 hours, and the skipped hour doesn't occur.
         self.assertEqual(list(prepare(table("2,2026,0.25,3", header=head), "DEP", format="excel", **given).times), [21600])
         rows = table("29,2026,300,3", "29,2026,2400,3", "29,2026,230,3", header=head)
         made = prepare(rows, "DEP", format="hmm", zone="Europe/Berlin", **given)
-        self.assertEqual((list(made.times), made.left), ([7200, 82800], {"DEP: in the hour that 2026-03-29 skips in Europe/Berlin": 1}))
-        # What ends behind midnight.
+        self.assertEqual((list(made.times), made.left), ([7200, 82800], {"DEP: in the hour that is skipped on 2026-03-29 in Europe/Berlin": 1}))
+        # What ends after midnight.
         rows = table("31,2015,2350,12,110", header=f"{head},ARR")
         self.assertEqual(prepare(rows, "DEP", format="hmm", end=["ARR=fly"], tick="1min", **given).values[0].tolist(), [80])
 
     def test_days_and_times_that_there_are_not(self):
-        """Each is a row that is left out, counted by its reason, and told with its row, its column and its value."""
+        """Each is a row that is left out, counted by its reason, and reported with its row, its column and its value."""
         rows = ["2015,4,30,5", "2015,13,1,5", "2015,0,1,5", "2015,4,31,5", "2015,2,29,5", "2015,4,32,5", "2015,4,0,5", "15,4,1,5", "x,4,1,5"]
         rows += ["2015,,1,5", "2015,4,30.0,5", "2015,4,1,1260", "2015,4,1,2401", "2015,4,1,", "2015,4,1,-5", "2015,31,4,5"]
         out = io.StringIO()
         made = prepare(table(*rows, header="Y,M,D,DEP"), "DEP", day=["Y", "M", "D"], format="hmm", left_out=out)
         self.assertEqual((len(made), made.zero, list(made.times)), (1, "2015-04-30T00:00:00", [300]))
-        one = {"M is empty": "row 11", "DEP is empty": "row 15", "DEP: no number as hmm": "row 16, '-5'"}
+        one = {"M is empty": "row 11", "DEP is empty": "row 15", "DEP: not a number of the form hmm": "row 16, '-5'"}
         more = {
-            "M: no month from 1 to 12": (3, "row 3, '13'"),
-            "D: no day from 1 to 31": (3, "row 7, '32'"),
-            "D: no day of its month": (2, "row 5, '31'"),
-            "Y: no year of four digits": (2, "row 9, '15'"),
-            "DEP: no time of the day": (2, "row 13, '1260'"),
+            "M: not a month from 1 to 12": (3, "row 3, '13'"),
+            "D: not a day from 1 to 31": (3, "row 7, '32'"),
+            "D: not a day of its month": (2, "row 5, '31'"),
+            "Y: not a year of four digits": (2, "row 9, '15'"),
+            "DEP: not a time of day": (2, "row 13, '1260'"),
         }
         self.assertEqual(made.left, {**{why: count for why, (count, _) in more.items()}, **dict.fromkeys(one, 1)})
         for why, where in one.items():
@@ -218,8 +223,8 @@ class Times(Test):
             self.assertIn(f"{count} rows: {why}; the first is {where}", made.told)
         written = out.getvalue().splitlines()
         self.assertEqual(written[0], "row,reason,Y,M,D,DEP")
-        self.assertEqual((written[1], written[-1]), ("3,M: no month from 1 to 12,2015,13,1,5", "17,M: no month from 1 to 12,2015,31,4,5"))
-        with self.assertRaisesRegex(ValueError, "no row is left; 1 row: D: no year of four digits \\(row 2, '4'\\)"):
+        self.assertEqual((written[1], written[-1]), ("3,M: not a month from 1 to 12,2015,13,1,5", "17,M: not a month from 1 to 12,2015,31,4,5"))
+        with self.assertRaisesRegex(ValueError, "no rows are left; 1 row: D: not a year of four digits \\(row 2, '4'\\)"):
             prepare(table("4,5,2015,5", header="D,M,Y,DEP"), "DEP", day=["D", "M", "Y"], format="hmm")
 
     def test_a_date_with_a_time(self):
@@ -229,8 +234,8 @@ class Times(Test):
     def test_ticks(self):
         made = prepare(table("8:00:00.250,a,0.26", "8:00:01.999,a,1.04"), "when", tick="100ms", demand=["long=d"])
         self.assertEqual((list(made.times), made.values[0].tolist()), ([2, 19], [3, 10]))
-        self.assertIn("2 times between two ticks, taken back to the earlier one", made.told)
-        self.assertIn("d: 2 different values between two ticks, taken to the nearer one", made.told)
+        self.assertIn("2 times between two ticks, rounded down", made.told)
+        self.assertIn("d: 2 different values between two ticks, rounded to the nearest", made.told)
         self.assertIn("# a tick is 100ms\n", made.first_lines())
         plain = prepare(table("5,a,7", "3,a,1"), "when", format="ticks", tick="1min", demand=["long=d:ticks"])
         self.assertEqual((list(plain.rows()), plain.zero), ([("jobs", 3, 1), ("jobs", 5, 7)], None))
@@ -242,15 +247,15 @@ class Times(Test):
             zone = "Europe/Berlin" if "+" in begin else None
             self.assertEqual(times("2026-03-02 08:30", begin=begin, zone=zone), [ticks], begin)
         self.assertEqual(times("2026-03-02 08:30+01:00", begin="2026-03-02T08:00+01:00"), [1800])
-        with self.assertRaisesRegex(ValueError, "it has an offset from UTC, and the times have none: --zone says what those are"):
+        with self.assertRaisesRegex(ValueError, "it has an offset from UTC, but the times have none: give --zone for those"):
             times("2026-03-02 08:30", begin="2026-03-02T08:00+01:00")
-        # Hours are those of the clock on the wall.
+        # Hours are those of the wall clock.
         self.assertEqual(times("2026-03-02T08:20+05:45", begin="hour", zone="Asia/Kathmandu"), [1200])
         self.assertEqual(times("2026-10-25 12:00", begin="day", zone="Europe/Berlin"), [13 * 3600])
         self.assertEqual(times("2026-03-02 00:30", begin="day", zone="Europe/Berlin"), [1800])
         self.assertEqual(times("2026-03-02 00:30", begin="0:15", zone="Europe/Berlin"), [900])
         made = prepare(table("2026-03-02 08:30,a,1"), "when", zone="Europe/Berlin")
-        self.assertEqual(told_in(made.first_lines()), (10**6, "2026-03-02T08:00:00+01:00", "Europe/Berlin"))
+        self.assertEqual(settings_in(made.first_lines()), (10**9, "2026-03-02T08:00:00+01:00", "Europe/Berlin"))
         self.assertEqual(prepare(table("2026-03-02 08:30,a,1"), "when").zero, "2026-03-02T08:00:00")
         self.assertEqual(prepare(table("2026-03-02T08:30+01:00,a,1"), "when").zero, "2026-03-02T07:00:00+00:00")
         self.assertEqual(prepare(table("1772436600,a,1"), "when", format="unix").zero, "2026-03-02T07:00:00+00:00")
@@ -262,76 +267,76 @@ class Times(Test):
         autumn = "2026-10-25 02:59:59", "2026-10-25 02:00:00", "2026-10-25 03:00:00"
         for twice, ticks in ("order", [0, 1, 3601]), ("first", [0, 3599, 7200 + 3599 - 3599]), ("second", [0, 3599, 3600]):
             self.assertEqual(times(*autumn, zone="Europe/Berlin", twice=twice), ticks)
-        # Each column by itself, and an end behind its beginning.
+        # Each column separately, and an end after its beginning.
         rows = table("2026-10-25 02:50,2026-10-25 02:10", "2026-10-25 02:52,2026-10-25 02:58", "2026-10-25 02:01,2026-10-25 02:03", header="come,end")
         made = prepare(rows, "come", end=["end"], zone="Europe/Berlin", twice="order", tick="1min")
         self.assertEqual((list(made.times), made.values[0].tolist()), ([50, 52, 61], [20, 6, 2]))
-        # A file that has the newest first goes back at each row, so that nobody knows which hour is meant.
-        with self.assertRaisesRegex(ValueError, "row 4, .*'2026-10-25 02:05:00'.*goes back more than once there: --twice order wants rows in"):
+        # A file with the newest first goes back at each row, so it is unknown which hour is meant.
+        with self.assertRaisesRegex(ValueError, "row 4, .*'2026-10-25 02:05:00'.*goes back more than once there: --twice order needs rows in"):
             times("2026-10-25 02:50:00", "2026-10-25 02:20:00", "2026-10-25 02:05:00", zone="Europe/Berlin", twice="order")
         gone = prepare(table("2026-03-29 02:30,a,1", "2026-03-29 03:30,a,1"), "when", zone="Europe/Berlin")
-        self.assertEqual(gone.left, {"when: in the hour that 2026-03-29 skips in Europe/Berlin": 1})
+        self.assertEqual(gone.left, {"when: in the hour that is skipped on 2026-03-29 in Europe/Berlin": 1})
 
     def test_offsets_go_before_the_zone(self):
         self.assertEqual(times("2026-10-25T02:59:59+02:00", "2026-10-25T02:00:00+01:00", zone="Europe/Berlin"), [0, 1])
         mixed = table("2026-03-02T08:00:00,a,1", "2026-03-02T08:00:00Z,a,1")
-        with self.assertRaisesRegex(ValueError, "some times have an offset from UTC, and others none: --zone says what those are"):
+        with self.assertRaisesRegex(ValueError, "some times have an offset from UTC and others have none: give --zone for those"):
             prepare(mixed, "when")
         self.assertEqual(list(prepare(mixed, "when", zone="Europe/Berlin").times), [0, 3600])
 
     def test_ways_to_write_the_same(self):
-        """A year at random, in four ways: the ticks are those that datetime says."""
+        """A random year, in four ways: the ticks are those of datetime."""
         draw = random.Random(3)
         moments = sorted({datetime(2026, 1, 1) + timedelta(seconds=draw.randrange(31 * 10**6)) for _ in range(2000)})
         for form in "%Y-%m-%dT%H:%M:%SZ", "%a, %d %b %Y %H:%M:%S +0000", "%Y-%m-%d %H:%M:%S", "%d.%m.%Y %H:%M:%S":
-            texts = [it.strftime(form) for it in moments]
-            self.assertEqual(times(*texts), [int((it - moments[0]).total_seconds()) for it in moments], form)
+            texts = [moment.strftime(form) for moment in moments]
+            self.assertEqual(times(*texts), [int((moment - moments[0]).total_seconds()) for moment in moments], form)
 
 
 class Values(Test):
     def test_ends(self):
         rows = table("8:00:00,8:00:30,8:02:00,a b", "23:59:00,23:59:30,0:01:00,c", "8:00:00,,8:01:00,c", header="come,answer,end,kind")
         made = prepare(rows, "come", answered="answer", end=["end=talk"], constant=["wrap=90s"], code=["kind"], begin="day")
-        self.assertEqual((made.header[2:], [it.tolist() for it in made.values]), (["talk", "wrap", "kind"], [[90, 90], [90, 90], [0, 1]]))
+        self.assertEqual((made.header[2:], [value.tolist() for value in made.values]), (["talk", "wrap", "kind"], [[90, 90], [90, 90], [0, 1]]))
         self.assertEqual(made.left, {"answer is empty": 1})
         self.assertEqual(prepare(rows, "come", answered="answer", end=["end"], empty="5s", begin="day").left, {"answer is empty": 1})
-        # Who gave up is told so in each format, apart from what can't be read.
+        # Jobs that gave up are reported as such in each format, separately from what can't be read.
         for form in "%Y-%m-%d %H:%M:%S", "%a, %d %b %Y %H:%M:%S", "%Y%m%d%H%M%S", "%d.%m.%Y %H:%M":
-            begin, end = (datetime(2026, 3, 2, 8, it).strftime(form) for it in (0, 2))
-            rows = [f'"{begin}","{it}","{end}"' for it in ("", "  ", "x", *[begin] * 12)]
+            begin, end = (datetime(2026, 3, 2, 8, item).strftime(form) for item in (0, 2))
+            rows = [f'"{begin}","{item}","{end}"' for item in ("", "  ", "x", *[begin] * 12)]
             left = prepare(table(*rows, header="come,answer,end"), "come", answered="answer", end=["end"]).left
             self.assertEqual((left.pop("answer is empty"), list(left.values())), (2, [1]), form)
         rows = table("2026-03-02 08:00,1", ",1", "2026-03-02 08:01,1", header="come,d")
         self.assertEqual(prepare(rows, "come").left, {"come is empty": 1})
         full = table("2026-03-02 08:00,2026-03-02 07:59", *["2026-03-02 08:00,2026-03-02 08:07"] * 9, "2026-03-02 08:00,0:05", header="come,end")
         made = prepare(full, "come", end=["end"])
-        self.assertEqual((made.values[0].tolist(), made.left), ([420] * 9, {"end: before it begins": 1, "end: no ISO 8601 time": 1}))
-        # A time of the day alone is the next one from the beginning on, in the days of the zone.
+        self.assertEqual((made.values[0].tolist(), made.left), ([420] * 9, {"end: before the service begins": 1, "end: not an ISO 8601 time": 1}))
+        # A time of day is the next one after the beginning, in the days of the zone.
         night = table("2026-10-24 23:50,0:05", "2026-10-25 01:50,4:00", header="come,end")
         self.assertEqual(prepare(night, "come", end=["end"], zone="Europe/Berlin", tick="1min").values[0].tolist(), [15, 130 + 60])
-        # Of the hour that was skipped in the morning it is one of the next day; behind the beginning it is none.
+        # A time in the hour that was skipped in the morning is on the next day; after the beginning it doesn't occur.
         night = table("2026-03-29 23:50,2:10", "2026-03-29 01:50,2:15", header="come,end")
         made = prepare(night, "come", end=["end"], zone="Europe/Berlin", tick="1min")
-        self.assertEqual((made.values[0].tolist(), made.left), ([140], {"end: in the hour that 2026-03-29 skips in Europe/Berlin": 1}))
-        # A format that was given is that of other times as well.
+        self.assertEqual((made.values[0].tolist(), made.left), ([140], {"end: in the hour that is skipped on 2026-03-29 in Europe/Berlin": 1}))
+        # A given format also applies to other times.
         given = table("03/02/2026 8:00,03/02/2026 8:01", header="come,end")
         self.assertEqual(prepare(given, "come", format="%d/%m/%Y %H:%M", end=["end"]).values[0].tolist(), [60])
         self.assertEqual(prepare(table("800,830", header="come,end"), "come", format="hmm", end=["end"], tick="1min").values[0].tolist(), [30])
 
-        # Who hangs up at once doesn't stay for a day; services are taken to the nearest tick.
+        # A job that ends at once doesn't stay for a day; service times are rounded to the nearest tick.
         rows = table("8:00:00,8:00:00", "8:00:00,8:00:29", "8:00:00,8:00:30", header="come,end")
         self.assertEqual(prepare(rows, "come", end=["end"], tick="1min").values[0].tolist(), [0, 0, 1])
 
     def test_ends_with_beginnings_of_their_own(self):
-        """A scan and its report: each has when it begins. A row in which the later beginning is empty, or is before the job comes, is left out."""
+        """A scan and its report: each has its beginning. A row whose later beginning is empty, or before the job arrives, is left out."""
         header = "come,scan,scanned,read,done"
         rows = table("8:00,8:05,8:15,9:00,9:05", "8:10,8:20,8:21,,", "8:20,8:30,8:31,8:10,8:12", header=header)
         made = prepare(rows, "come", end=["scanned=scan", "done=report"], answered=["scan", "read"], begin="day", date=None)
-        self.assertEqual([list(it) for it in made.rows()], [["jobs", 8 * 3600, 600, 300], ["jobs", 8 * 3600 + 1200, 60, 120]])
+        self.assertEqual([list(row) for row in made.rows()], [["jobs", 8 * 3600, 600, 300], ["jobs", 8 * 3600 + 1200, 60, 120]])
         self.assertEqual(made.left, {"read is empty": 1})
         one = prepare(rows, "come", end=["scanned=scan"], answered="scan", begin="day")
         self.assertEqual(one.values[0].tolist(), [600, 60, 60])
-        with self.assertRaisesRegex(ValueError, "--answered is given 2 times for 3 of --end: it is given once, or once for each"):
+        with self.assertRaisesRegex(ValueError, "--answered is given 2 times for 3 of --end: give it once, or once per --end"):
             prepare(rows, "come", end=["scanned=a", "done=b", "read=c"], answered=["scan", "read"])
 
     def test_rows_that_are_left_out_have_no_code(self):
@@ -340,7 +345,7 @@ class Values(Test):
         self.assertEqual((made.values[0].tolist(), sum(made.left.values())), ([0, 1], 1))
 
     def test_rows_by_columns_and_one_by_one(self):
-        """Both ways to read rows give the same, also of days on which clocks change and where a row can't be read."""
+        """Both ways to read rows give the same, even on days on which clocks change and if a row can't be read."""
         draw, forms = random.Random(3), ["%Y-%m-%dT%H:%M:%S", "%d.%m.%Y %H:%M:%S", "%a, %d %b %Y %H:%M:%S +0100"]
         for form in forms:
             rows = []
@@ -363,18 +368,18 @@ class Values(Test):
         self.assertEqual(prepare(rows, "when", demand=["long"], empty="2s").values[0].tolist(), [2, 3])
 
     def test_demands_of_one_name(self):
-        """They are added up, each in its own unit and to the nearest tick; a row without one of them is left out."""
+        """They are added up, each in its own unit and rounded to ticks; a row that lacks one of them is left out."""
         rows = table("8:00,1,5,30", "8:01,0,5,0", "8:02,,9,9", "8:03,2,x,9", "8:04,68719476735,1,0", header="when,talk,wrap,note")
         asks = ["talk=aht:ticks", "note=note", "wrap=aht"]
         made = prepare(rows, "when", demand=asks, tick="2s")
-        # Five seconds are two ticks and a half.
+        # Five seconds are two and a half ticks.
         self.assertEqual((made.header, [it.tolist() for it in made.values]), (["source", "time", "aht", "note"], [[1 + 3, 0 + 3, 2**36], [15, 0, 0]]))
-        self.assertEqual(made.left, {"talk is empty": 1, "wrap: no number with a decimal point": 1})
+        self.assertEqual(made.left, {"talk is empty": 1, "wrap: not a number with a decimal point": 1})
         self.assertIn("aht is the sum of 'talk' and 'wrap'", made.told)
-        self.assertIn("aht: 2 different values between two ticks, taken to the nearer one", made.told)
+        self.assertIn("aht: 2 different values between two ticks, rounded to the nearest", made.told)
         more = prepare(rows.replace(b"68719476735", b"68719476736"), "when", demand=["talk=aht:ticks", "wrap=aht"], empty="4s")
         self.assertEqual(more.values[0].tolist(), [1 + 5, 0 + 5, 4 + 9])
-        self.assertEqual(more.left, {"talk: above 2^36 ticks": 1, "wrap: no number with a decimal point": 1})
+        self.assertEqual(more.left, {"talk: above 2^36 ticks": 1, "wrap: not a number with a decimal point": 1})
         with unittest.mock.patch.object(Records, "many", side_effect=Unread("one by one")):
             self.assertEqual(list(prepare(rows, "when", demand=asks, tick="2s").rows()), list(made.rows()))
         # Times in ISO 8601 are read by columns.
@@ -383,7 +388,7 @@ class Values(Test):
         self.assertEqual((many.values[0].tolist(), many.left), ([2**36], {"a: above 2^36 ticks": 1}))
         three = prepare(table(f"{day},1,20,300", header="when,a,b,c"), "when", demand=["a=d", "b=d", "c=d"])
         self.assertEqual((list(three.rows()), "d is the sum of 'a' and 'b' and 'c'" in three.told), ([("jobs", 0, 321)], True))
-        with self.assertRaisesRegex(ValueError, "--demand a=d:min: the column 'a' is in d already"):
+        with self.assertRaisesRegex(ValueError, "--demand a=d:min: the column 'a' is already part of d"):
             prepare(table("8:00,1", header="when,a"), "when", demand=["a=d", "a=d:min"])
 
     def test_limits(self):

@@ -1,4 +1,4 @@
-"""Reports: each figure is what stands in the text, which is read here word by word; what is cut or altered is refused."""
+"""Reports: each figure is what the text says, which is parsed here word by word; cut or altered reports are rejected."""
 
 import io
 import re
@@ -14,9 +14,9 @@ PERCENTS = [0, 1, 10, 33, 50, 66.7, 90, 99, 99.9, 100]
 
 
 def least_wait(waits, percent):
-    """The least of the waits that so many of 100 don't exceed, by looking for it. Percents here have one digit behind the point."""
+    """Finds the lowest wait that at least this many percent don't exceed, by searching. Percents here have one decimal."""
     tenths = round(percent * 10)
-    return next((it for it in sorted(waits) if 1000 * sum(other <= it for other in waits) >= tenths * len(waits)), 0)
+    return next((wait for wait in sorted(waits) if 1000 * sum(other <= wait for other in waits) >= tenths * len(waits)), 0)
 
 
 class Figures(Test):
@@ -26,13 +26,13 @@ class Figures(Test):
                 text = text_of(path)
                 report = mpsim.Report.read(path)
                 self.assertEqual("".join(report.lines()), text)
-                self.assertEqual(str(report), "".join(it for it in text.splitlines(True) if not it.startswith("job ")))
+                self.assertEqual(str(report), "".join(line for line in text.splitlines(True) if not line.startswith("job ")))
 
     def test_words_of_nodes(self):
         for path in reports():
             text = text_of(path)
             report = mpsim.Report.read(path)
-            self.assertEqual([it.name for it in report.nodes], [it["name"] for it in nodes_of(text)])
+            self.assertEqual([node.name for node in report.nodes], [node["name"] for node in nodes_of(text)])
             for words in nodes_of(text):
                 with self.subTest(path, node=words["name"]):
                     node = report[words["name"]]
@@ -71,7 +71,7 @@ class Figures(Test):
                 if not lines:
                     self.assertIsNone(report.visits)
                     continue
-                self.assertEqual(list(report.visits), [it["name"] for it in nodes_of(text)])
+                self.assertEqual(list(report.visits), [node["name"] for node in nodes_of(text)])
                 self.assertEqual(report.visits.count(), len(lines))
                 for words, visit in zip(lines, report.visits.each()):
                     self.assertEqual([str(visit.job), visit.node, str(visit.arrive)], [words[1], words[2], words[4]])
@@ -89,17 +89,17 @@ class Figures(Test):
                     self.assertEqual(list(visits.waits()), sorted(waits))
                     for percent in PERCENTS:
                         self.assertEqual(visits.percentile(percent), least_wait(waits, percent), percent)
-                    for ticks in {0, *waits, *(it - 1 for it in waits), *(it + 1 for it in waits)}:
-                        within = sum(it <= ticks for it in waits)
+                    for ticks in {0, *waits, *(wait - 1 for wait in waits), *(wait + 1 for wait in waits)}:
+                        within = sum(wait <= ticks for wait in waits)
                         self.assertEqual(visits.share_within(ticks), within / count if count else None)
                         self.assertEqual(visits.share_within(ticks, departed=True), within / len(waits) if waits else None)
 
     def test_percentiles_of_a_thousand(self):
-        """Waits of 0, 1, and so on up to 999: 99.9 of 100 don't exceed 998, though the float 99.9 is a little more than that."""
-        report = mpsim.run(DESK, [("door", it, 2) for it in range(1000)], jobs=True)
+        """Waits of 0, 1, and so on up to 999: 99.9 percent don't exceed 998, although the float 99.9 is slightly more than that."""
+        report = mpsim.run(DESK, [("door", number, 2) for number in range(1000)], jobs=True)
         waits = waits_of("".join(report.lines()), "desk")
-        told = [report.visits["desk"].percentile(it) for it in PERCENTS]
-        self.assertEqual(told, [least_wait(waits, it) for it in PERCENTS])
+        told = [report.visits["desk"].percentile(percent) for percent in PERCENTS]
+        self.assertEqual(told, [least_wait(waits, percent) for percent in PERCENTS])
         self.assertEqual(told, [0, 9, 99, 329, 499, 666, 899, 989, 998, 999])
         for percent in -1, 100.1:
             with self.assertRaises(ValueError):
@@ -114,13 +114,13 @@ class Figures(Test):
             iter(report)
 
     def test_figures_by_their_names(self):
-        """Each word of a line, and the means."""
+        """Each field of a line, and the means."""
         report = mpsim.Report.parse(CALLS)
-        for it in nodes_of(CALLS):
-            figures = {name: value for name, value in it.items() if name not in ("name", "kind")}
-            told = {name: report[it["name"]].figure(name) for name in figures}
+        for node in nodes_of(CALLS):
+            figures = {name: value for name, value in node.items() if name not in ("name", "kind")}
+            told = {name: report[node["name"]].figure(name) for name in figures}
             self.assertEqual({name: "-" if it is None else f"{it:.4f}" if name == "util" else str(it) for name, it in told.items()}, figures)
-        self.assertEqual([report["expert"].figure(it) for it in ("mean_wait", "mean_time", "share_lost")], [9 / 3, 22 / 3, 0.5])
+        self.assertEqual([report["expert"].figure(item) for item in ("mean_wait", "mean_time", "share_lost")], [9 / 3, 22 / 3, 0.5])
         for name in "name", "kind", "in_", "count", "line", "p95":
             self.assertRaises(AttributeError, report["expert"].figure, name)
 
@@ -137,7 +137,7 @@ class Refusals(Test):
             mpsim.Report.parse(text)
         return caught.exception
 
-    def test_a_line_that_is_altered_is_told_by_its_number(self):
+    def test_an_altered_line_is_reported_by_its_number(self):
         lines = CALLS.splitlines(keepends=True)
         for at, line in enumerate(lines):
             first, rest = line.split(" ", 1)
@@ -162,11 +162,11 @@ class Refusals(Test):
             }
             for other in others - {line}:
                 with self.subTest(line=other):
-                    fault = self.refused("".join([*lines[:at], other, *lines[at + 1 :]]))
-                    self.assertEqual(fault.line, at + 1)
-                    self.assertIn(fault.found, other)
+                    error = self.refused("".join([*lines[:at], other, *lines[at + 1 :]]))
+                    self.assertEqual(error.line, at + 1)
+                    self.assertIn(error.found, other)
 
-    def test_each_byte_that_is_no_digit(self):
+    def test_each_byte_that_is_not_a_digit(self):
         for at, it in enumerate(CALLS):
             if not it.isdigit():
                 for other in {"", "x", it + it, chr(ord(it) ^ 1)} - {it}:
@@ -174,7 +174,7 @@ class Refusals(Test):
                         self.refused(CALLS[:at] + other + CALLS[at + 1 :])
 
     def test_each_number_that_others_tell_too(self):
-        """Each number of a node of which the lines of the jobs tell, made one more; and each time of such a line, but when a lost job came."""
+        """Each number of a node that the job lines imply, increased by one; and each time in such a line, except the arrival of a lost job."""
         lines = CALLS.splitlines(keepends=True)
         for at, line in enumerate(lines):
             words = line.split(" ")
@@ -192,7 +192,7 @@ class Refusals(Test):
                         self.refused("".join([*lines[:at], other, *lines[at + 1 :]]))
 
     def test_numbers_that_lines_share(self):
-        """Without the lines of jobs: how many jobs there are, which the sources and, where nothing is forked, the exits tell too."""
+        """Without job lines: the number of jobs, which the sources and, without forks, the exits imply too."""
         for name in "desk", "assembly":
             text = text_of(EXAMPLES, name, "report.txt")
             lines = text.splitlines(keepends=True)
@@ -204,7 +204,7 @@ class Refusals(Test):
         self.assertEqual(self.refused(text.replace("exit desk.0 3", "exit desk.0 4")).line, 6)
 
     def test_a_report_that_is_cut(self):
-        """At each byte, but where all lines of jobs lack and no other: that is a report too, and the caller knows whether they were asked for."""
+        """At each byte, unless exactly all job lines are missing: that is a report too, and the caller knows whether they were requested."""
         for path in "callcentre/jobs.txt", "callcentre/report.txt", "clinic/report.txt", "overflow/report.txt", "made-7.txt":
             text = text_of(EXAMPLES, path)
             without_jobs = text.find("job ") if "job " in text else len(text)
@@ -212,7 +212,7 @@ class Refusals(Test):
                 with self.subTest(path, end=end):
                     self.refused(text[:end])
         with self.assertRaises(mpsim.ReportError):
-            Reading(text_of(EXAMPLES, "callcentre", "report.txt")).report(asked=True)
+            Reading(text_of(EXAMPLES, "callcentre", "report.txt")).report(wanted=True)
 
     def test_lines_in_another_order(self):
         lines = CALLS.splitlines(keepends=True)
@@ -220,17 +220,17 @@ class Refusals(Test):
         for at in jobs[1:]:
             if lines[at].split()[2] != lines[at - 1].split()[2]:
                 with self.subTest(at=at):
-                    fault = self.refused("".join([*lines[: at - 1], lines[at], lines[at - 1], *lines[at + 1 :]]))
-                    self.assertEqual(fault.line, at + 1)
-        fault = self.refused("".join([*lines, lines[jobs[0]]]))
-        self.assertEqual(fault.line, len(lines) + 1)
+                    error = self.refused("".join([*lines[: at - 1], lines[at], lines[at - 1], *lines[at + 1 :]]))
+                    self.assertEqual(error.line, at + 1)
+        error = self.refused("".join([*lines, lines[jobs[0]]]))
+        self.assertEqual(error.line, len(lines) + 1)
         by_node = {}
         for at in jobs:
             by_node.setdefault(lines[at].split()[2], []).append(lines[at])
         first, second, *others = by_node
         turned = [line for name in (second, first, *others) for line in by_node[name]]
-        fault = self.refused("".join([*lines[: jobs[0]], *turned]))
-        self.assertEqual(fault.line, jobs[0] + len(by_node[second]) + 1)
+        error = self.refused("".join([*lines[: jobs[0]], *turned]))
+        self.assertEqual(error.line, jobs[0] + len(by_node[second]) + 1)
 
     def test_lines_that_lack_or_stand_twice(self):
         lines = CALLS.splitlines(keepends=True)
@@ -243,7 +243,7 @@ class Refusals(Test):
         for text in "", "\n", "mpsim report 2", "mpsim report 3\n", "scenario 1 status 0\n", CALLS + "\n", CALLS + CALLS, "\ufeff" + CALLS:
             with self.subTest(text[:30]):
                 self.refused(text)
-        self.assertEqual(str(self.refused("jobs 3\n")), "report line 1: 'jobs 3' is no line of a report")
+        self.assertEqual(str(self.refused("jobs 3\n")), "report line 1: 'jobs 3' is not a line of a report")
 
 
 class Pieces(Test):
@@ -254,19 +254,19 @@ class Pieces(Test):
             def read(self, count=-1):
                 return super().read(self.size if count > 0 else count)
 
-        wanted = [str(it) for it in mpsim.Report.parse(CALLS).visits.each()]
+        wanted = [str(item) for item in mpsim.Report.parse(CALLS).visits.each()]
         for size in 1, 7, 30, 100, 1000:
             small = Small(CALLS.encode())
             small.size = size
             with self.subTest(size):
-                self.assertEqual([str(it) for piece in Reading(small).pieces() for it in piece], wanted)
+                self.assertEqual([str(item) for piece in Reading(small).pieces() for item in piece], wanted)
 
     def test_names_that_are_words_of_a_line(self):
-        """Nodes whose names are the words of a line of a job."""
+        """Nodes whose names are the words of a job line."""
         names = "job", "arrive", "wait", "depart", "lost", "held", "node"
-        model = "model 1\n" + "".join(f"source {it}\n" for it in names)
+        model = "model 1\n" + "".join(f"source {name}\n" for name in names)
         report = mpsim.run(model, [(name, at) for at, name in enumerate(names * 3)], jobs=True)
-        self.assertEqual([list(report.visits[it].arrive) for it in names], [[at, at + 7, at + 14] for at in range(7)])
+        self.assertEqual([list(report.visits[name].arrive) for name in names], [[at, at + 7, at + 14] for at in range(7)])
 
 
 def frames():
@@ -284,7 +284,7 @@ class Frames(Test):
         frame = mpsim.Report.parse(CALLS).visits.to_pandas()
         lines = words_of(CALLS, "job")
         self.assertEqual(list(frame.columns), ["job", "node", "arrive", "wait", "depart", "end"])
-        self.assertEqual([str(it) for it in frame.job], [words[1] for words in lines])
+        self.assertEqual([str(item) for item in frame.job], [words[1] for words in lines])
         self.assertEqual(list(frame.node), [words[2] for words in lines])
         self.assertEqual(list(frame.end), ["left" if words[5] == "wait" else words[5] for words in lines])
         self.assertEqual(list(frame.wait.isna()), [words[5] != "wait" for words in lines])

@@ -1,4 +1,4 @@
-"""Runs of the programs: what is handed to them, what comes back, how they end, and that nothing is left behind."""
+"""Runs of the programs: what is passed to them, what comes back, how they end, and that nothing is left behind."""
 
 import collections
 import os
@@ -18,12 +18,12 @@ from mpsim import programs
 
 STORED = EXAMPLES / "callcentre" / "report.txt"
 REPORT = text_of(STORED)
-MANY = [("door", it, 1) for it in range(100000)]
+MANY = [("door", number, 1) for number in range(100000)]
 
 
 class Examples(Test):
     def test_each_example_and_case(self):
-        """The report, byte for byte, or the line and the status."""
+        """The report, byte for byte, or the error line and the status."""
         for folder in folders():
             with self.subTest(folder):
                 model, trace = folder / "model.txt", folder / "trace.csv"
@@ -57,22 +57,22 @@ class Examples(Test):
         for edits in [mpsim.Set(10.0, "web", 20.0, (1.0, 1, 4, 1, 2))], ["set 10 web 20 1 1 4 1 2"]:
             self.assertEqual("".join(mpsim.edit(MODEL, TRACE, edits).lines()), wanted)
 
-    def test_what_is_no_edit(self):
+    def test_invalid_edits(self):
         for edits, word in [
-            (change := mpsim.Set(10, "web", 20, (1, 1, 4, 1, 2)), "a list of Set and Add, and no Set"),
-            ([change._replace(values="11412")], "and no str: Set("),
-            ([mpsim.Add("web", 20, {"g": 1})], "and no dict: Add("),
-            ([mpsim.Add("web", 20, 1)], "and no int: Add("),
-            ([("web", 20)], "an edit is a Set, an Add or a line, and no tuple"),
-            (3, "and no int"),
+            (change := mpsim.Set(10, "web", 20, (1, 1, 4, 1, 2)), "a list of Set and Add, not Set"),
+            ([change._replace(values="11412")], "not str: Set("),
+            ([mpsim.Add("web", 20, {"g": 1})], "not dict: Add("),
+            ([mpsim.Add("web", 20, 1)], "not int: Add("),
+            ([("web", 20)], "an edit is a Set, an Add or a line, not tuple"),
+            (3, "not int"),
         ]:
             with self.subTest(word), self.assertRaisesRegex(TypeError, word.replace("(", r"\(")):
                 mpsim.edit(MODEL, TRACE, edits)
 
     def test_visits_as_they_come(self):
         with mpsim.visits(MODEL, TRACE, workers=1, block=2) as reading:
-            self.assertEqual([it.line() for it in reading.nodes], [it for it in REPORT.splitlines() if it.startswith("node ")])
-            told = [it for piece in reading.pieces() for it in piece]
+            self.assertEqual([node.line() for node in reading.nodes], [line for line in REPORT.splitlines() if line.startswith("node ")])
+            told = [item for piece in reading.pieces() for item in piece]
         self.assertEqual(told, list(mpsim.run(MODEL, TRACE, jobs=True).visits.each()))
 
 
@@ -94,9 +94,9 @@ class Inputs(Test):
             "text": "source,time,d\ndoor,0,4\ndoor,1,1\n",
             "bytes": b"source,time,d\ndoor,0,4\ndoor,1,1\n",
             "rows": rows,
-            "lists": [list(it) for it in rows],
+            "lists": [list(row) for row in rows],
             "header": [("source", "time", "d"), *rows],
-            "named": [row(*it) for it in rows],
+            "named": [row(*item) for item in rows],
             "dicts": [{"d": d, "source": source, "time": at} for source, at, d in rows],
             "iterator": iter(rows),
             "floats": [("door", 0.0, 4.0), ("door", 1.0, 1.0)],
@@ -106,7 +106,7 @@ class Inputs(Test):
                 self.assertEqual(mpsim.run(DESK, trace)["desk"].wait, 3)
 
     def test_order_of_the_columns(self):
-        """Rows without a header have the columns in the order in which the model names them first."""
+        """Rows without a header have the columns in the order in which the model first names them."""
         for kind in "tandem n {} / 1 {}", "forkjoin n {} | {}":
             lines = kind.format("b", "a"), "from s\nsplit t 2 mod c from n\nsplit u cut d 5 from t\nloss v 1 b from u\n"
             model = "model 1\n# loss x 1 c\nsource s\n" + " ".join(lines)
@@ -120,7 +120,7 @@ class Inputs(Test):
         self.assertEqual((report["desk"].mean_wait, report.mean_sojourn, report.visits["desk"].share_within(0)), (None, None, None))
         self.assertIsNone(mpsim.run(DESK, []).visits)
 
-    def test_rows_that_are_none(self):
+    def test_invalid_rows(self):
         dicts = [{"source": "door", "time": 0, "d": 1}, {"source": "door", "time": 0}]
         for trace in ["door,0,4", "door,1,1"], 7, None, [("door", 0, 4), "door"], dicts:
             with self.subTest(trace), self.assertRaises((TypeError, ValueError)) as caught:
@@ -129,7 +129,7 @@ class Inputs(Test):
 
     def test_rows_that_fail(self):
         with self.assertRaises(ZeroDivisionError):
-            mpsim.run(DESK, (("door", 1 // it, 1) for it in (1, 0)))
+            mpsim.run(DESK, (("door", 1 // item, 1) for item in (1, 0)))
 
     def test_a_trace_for_which_there_is_no_room(self):
         limits = resource.getrlimit(resource.RLIMIT_FSIZE)
@@ -153,7 +153,7 @@ class Inputs(Test):
                 os.chdir(before)
 
     def test_files_that_are_read_once(self):
-        """A named pipe, and the name that a shell makes of <(command)."""
+        """A named pipe, and the name that a shell makes for <(command)."""
         with tempfile.TemporaryDirectory() as folder:
             pipe = os.path.join(folder, "pipe")
             os.mkfifo(pipe)
@@ -163,7 +163,7 @@ class Inputs(Test):
             self.assertEqual(str(mpsim.run(MODEL, f"/dev/fd/{command.stdout.fileno()}")), REPORT)
 
     def test_a_frame(self):
-        """A frame is what has columns, whose values are lists; a missing value makes floats of whole numbers."""
+        """A frame is anything with columns whose values are lists; a missing value turns whole numbers into floats."""
 
         class Frame(dict):
             columns = property(list)
@@ -177,9 +177,9 @@ class Inputs(Test):
             frame["d"][1] = value
             with self.subTest(value), self.assertRaises(mpsim.TraceError) as caught:
                 mpsim.run(DESK, frame)
-            fault = caught.exception
-            self.assertEqual((fault.record, fault.field, fault.column), (2, 3, "d"))
-            self.assertEqual(fault.source, f"door,1,{'' if value is None else value}")
+            error = caught.exception
+            self.assertEqual((error.record, error.field, error.column), (2, 3, "d"))
+            self.assertEqual(error.source, f"door,1,{'' if value is None else value}")
         with self.assertRaises(ValueError):
             mpsim.run(DESK, Frame(d=Values([1])))
 
@@ -198,7 +198,7 @@ class Inputs(Test):
 
 
 class Ends(Test):
-    """How a run ends that isn't finished. That nothing is left is looked at behind each test."""
+    """How an unfinished run ends. Each test checks that nothing is left."""
 
     def setUp(self):
         folder = tempfile.TemporaryDirectory()
@@ -242,20 +242,20 @@ class Ends(Test):
                 self.assertIsInstance(caught.exception, TimeoutError)
         self.assertEqual(str(mpsim.run(MODEL, TRACE, timeout=60)), REPORT)
         for script in "head -c 300 {}; exec sleep 60", "cat {}; exec sleep 60", "cat {}; exec sleep 60 >&-":
-            fault = self.ends(mpsim.TimedOut, script.format(STORED), lambda: mpsim.run(MODEL, TRACE, timeout=0.2))
-            self.assertEqual(str(fault), "mpsim was ended, since its time was out")
+            error = self.ends(mpsim.TimedOut, script.format(STORED), lambda: mpsim.run(MODEL, TRACE, timeout=0.2))
+            self.assertEqual(str(error), "mpsim was ended: its timeout has passed")
 
     def test_a_time_that_is_that_of_all_runs(self):
         script = f'sleep 0.2; exec {programs.find("mpsim")} "$@"'
         self.ends(mpsim.TimedOut, script, lambda: mpsim.sweep(TRACE, [MODEL] * 30, jobs=True, timeout=1))
 
     def test_a_program_that_is_killed(self):
-        """Also where a part of the report stands there: what is told is how the program ended, and not where the report is cut."""
+        """Even if part of the report has been written: the error says how the program ended, not where the report is cut."""
         for begin in "", f"head -c 300 {STORED}; ", f"cat {STORED}; ":
-            fault = self.ends(mpsim.ProgramError, begin + "kill -KILL $$")
-            self.assertEqual((fault.status, "SIGKILL" in str(fault)), (-9, True))
+            error = self.ends(mpsim.ProgramError, begin + "kill -KILL $$")
+            self.assertEqual((error.status, "SIGKILL" in str(error)), (-9, True))
         self.assertIn("x86-64-v2", str(self.ends(mpsim.ProgramError, "kill -ILL $$")))
-        # A shell that a shell started behind its back ignores this signal: it is another's.
+        # A program that a shell started in the background ignores this signal: it is meant for another.
         self.ends(KeyboardInterrupt, f"head -c 300 {STORED}; exec env --default-signal=INT sh -c 'kill -INT $$'")
 
     def test_a_program_that_writes_no_report(self):
@@ -266,9 +266,9 @@ class Ends(Test):
         self.ends(mpsim.ReportError, "echo hello; exec yes")
 
     def test_a_program_that_tells_much(self):
-        """More than a pipe holds, on the error output, and bytes that aren't UTF-8."""
-        fault = self.ends(mpsim.ProgramError, "yes | head -c 300000 >&2; printf 'mpsim: \\377\\n' >&2; exit 77")
-        self.assertEqual((fault.status, len(fault.told.encode(errors="surrogateescape")), fault.told[-1:]), (77, 300008, "\udcff"))
+        """More than a pipe holds, on stderr, and bytes that aren't UTF-8."""
+        error = self.ends(mpsim.ProgramError, "yes | head -c 300000 >&2; printf 'mpsim: \\377\\n' >&2; exit 77")
+        self.assertEqual((error.status, len(error.told.encode(errors="surrogateescape")), error.told[-1:]), (77, 300008, "\udcff"))
 
     def test_a_program_that_is_not_there(self):
         with programs_in(self.folder), self.assertRaises(mpsim.ProgramError) as caught:
@@ -282,12 +282,12 @@ class Ends(Test):
 
     def test_no_memory(self):
         script = f'ulimit -v 8000; unset GLIBC_TUNABLES; exec {programs.find("mpsim")} "$@"'
-        fault = self.ends(mpsim.OutOfMemory, script, lambda: mpsim.run(DESK, MANY))
-        self.assertEqual((fault.told, fault.status), ("mpsim: out of memory", 8))
-        self.assertIsInstance(fault, MemoryError)
+        error = self.ends(mpsim.OutOfMemory, script, lambda: mpsim.run(DESK, MANY))
+        self.assertEqual((error.told, error.status), ("mpsim: out of memory", 8))
+        self.assertIsInstance(error, MemoryError)
 
     def test_ctrl_c(self):
-        """In a notebook the interpreter alone gets the signal, at a terminal the program too."""
+        """In a notebook only the interpreter gets the signal, at a terminal the program too."""
         pipe = os.path.join(self.folder, "pipe")
         os.mkfifo(pipe)
         for whole_group in False, True:
@@ -306,7 +306,7 @@ class Ends(Test):
                 self.assertFalse(pathlib.Path(f"/proc/{children[0]}").exists())
 
     def test_the_commands(self):
-        """They become the program: its output, its status and its words."""
+        """They become the program: its output, its status and its arguments."""
         calls = {"mpsim": [[MODEL, TRACE], ["--jobs"]], "mpsweep": [[TRACE, MODEL]], "mpedit": [[MODEL, TRACE, os.devnull], []]}
         for name, words in ((name, words) for name, some in calls.items() for words in some):
             script = f"import sys; sys.path.insert(0, {str(SOURCES)!r}); from mpsim.programs import {name}; {name}()"

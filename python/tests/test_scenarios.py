@@ -1,4 +1,4 @@
-"""What a sweep runs: how scenarios and shards are counted, and which words say what they are."""
+"""The scenarios of a sweep: how scenarios and shards are counted, and the arguments that define them."""
 
 import unittest
 
@@ -11,16 +11,16 @@ from mpsim.planner.sweep import ranges
 
 class Plans(Test):
     def test_a_plan_counts(self):
-        plan = Plan([["x", "model 1\n{a}{b}"], ["y", "{b}\n"]], {"a": [1, 2, 3], "b": ["p", "q"]}, [{"label": it} for it in "stu"])
-        self.assertEqual([plan.model(it)[0] for it in range(12)], ["x"] * 6 + ["y"] * 6)
+        plan = Plan([["x", "model 1\n{a}{b}"], ["y", "{b}\n"]], {"a": [1, 2, 3], "b": ["p", "q"]}, [{"label": item} for item in "stu"])
+        self.assertEqual([plan.model(number)[0] for number in range(12)], ["x"] * 6 + ["y"] * 6)
         self.assertEqual([plan.model(it)[2] for it in (0, 1, 2, 5, 6, 7)], ["model 1\n1p", "model 1\n1q", "model 1\n2p", "model 1\n3q", "p\n", "q\n"])
-        self.assertEqual([list(plan.model(it)[1].items()) for it in (1, 4)], [[("a", 1), ("b", "q")], [("a", 3), ("b", "p")]])
+        self.assertEqual([list(plan.model(item)[1].items()) for item in (1, 4)], [[("a", 1), ("b", "q")], [("a", 3), ("b", "p")]])
         self.assertEqual((plan.scenarios, plan.shards), (36, 3))
-        self.assertEqual([plan.shard(it) for it in (1, 2, 3)], [({"label": it}, range(12)) for it in "stu"])
+        self.assertEqual([plan.shard(item) for item in (1, 2, 3)], [({"label": item}, range(12)) for item in "stu"])
         self.assertEqual(Plan.parse(plan.text()).text(), plan.text())
 
     def test_shards_of_a_trace(self):
-        plan = Plan([["x", "{a}\n"]], {"a": list(range(130))}, [{"label": it} for it in "st"])
+        plan = Plan([["x", "{a}\n"]], {"a": list(range(130))}, [{"label": item} for item in "st"])
         want = [("s", 0, 64), ("s", 64, 128), ("s", 128, 130), ("t", 0, 64), ("t", 64, 128), ("t", 128, 130)]
         self.assertEqual([(trace["label"], it.start, it.stop) for trace, it in map(plan.shard, range(1, plan.shards + 1))], want)
         self.assertEqual(Plan([["x", "{a}\n"]], {"a": list(range(128))}, [{"label": "s"}]).shards, 2)
@@ -31,7 +31,7 @@ class Plans(Test):
         self.assertLess(len(plan.text()), 20000)
 
     def test_nodes_that_a_model_has(self):
-        """A pool is there by the kinds of its nodes; of a text that isn't begun as a model its run tells."""
+        """A pool is recognised by the kinds of its nodes; a text that doesn't begin like a model is left to its run."""
         front, servers = "model 1\nsource s\n", "server desk_1 a from desk_queue\nserver desk_2 a from desk_queue.1\n"
         judged = lambda text: Plan([["x", text]], {}, [{"label": "t"}]).judge_nodes(["s", "desk"])
         for text in (
@@ -47,10 +47,10 @@ class Plans(Test):
             ("# a model\n\n" + front + "split desk_queue 2 turn from s\ndelay desk_1 a from desk_queue\n", "s, desk_queue, desk_1"),
             (front + "nonsense\n", "s"),
         ):
-            self.assertRaisesRegex(ValueError, f"^model x: there is no node 'desk'; it has {names}$", judged, text)
+            self.assertRaisesRegex(ValueError, f"^model x: no node 'desk'; it has {names}$", judged, text)
 
     def test_values(self):
-        found = [values_of(it) for it in ("a=1..3", "a=1..9..4", "b=2,x", "c==5,=7", "d=0..0", "e=0..10..5")]
+        found = [values_of(item) for item in ("a=1..3", "a=1..9..4", "b=2,x", "c==5,=7", "d=0..0", "e=0..10..5")]
         self.assertEqual(found, [("a", [1, 2, 3]), ("a", [1, 5, 9]), ("b", ["2", "x"]), ("c", ["=5", "=7"]), ("d", [0]), ("e", [0, 5, 10])])
         for bad in "a", "a=", "a=1..", "=3", "a=1..x", "a=1,,2", "a=1..9..0", "a=3..1", "1a=2", "a b=1", "status=1", "in=1":
             with self.subTest(bad), self.assertRaises(ValueError):
@@ -62,16 +62,16 @@ class Plans(Test):
         self.assertEqual(labels_of(["x/a.txt", "y/a.txt"]), ["x/a.txt", "y/a.txt"])
 
     def test_ranges(self):
-        self.assertEqual([ranges(it) for it in ([1], [1, 2, 3, 7], range(5), [])], ["1", "1-3, 7", "0-4", ""])
+        self.assertEqual([ranges(item) for item in ([1], [1, 2, 3, 7], range(5), [])], ["1", "1-3, 7", "0-4", ""])
         self.assertEqual(ranges(range(0, 50, 2), 3), "0, 2, 4 and 22 more")
 
 
 class Kept(InFolder):
     def test_nodes_that_a_folder_keeps(self):
-        """The table of one node is that again where the sweep goes on, unless another is asked for."""
+        """The table keeps its nodes when the sweep is continued, unless others are requested."""
         model = self.file("m.txt", "model 2\nsource calls\ntrunk lines {lines} a from calls\n")
         trace, at = self.file("t.csv", "source,time,a\ncalls,0,5\ncalls,1,5\n"), self.folder / "kept"
-        count = "planner: 2 scenarios in 1 shards, {} to run\n"
+        count = "mpplan: 2 scenarios in 1 shards, {} to run\n"
         want = self.tells("sweep", model, trace, "--set", "lines=1,2", "--folder", at, "--node", "lines", error=count.format(1))
         nodes = lambda text: [row.split(",")[5] for row in text.splitlines()]
         self.assertEqual(nodes(want), ["node", "lines", "lines"])

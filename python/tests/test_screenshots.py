@@ -1,4 +1,4 @@
-"""tools/screenshots: which pages it shows to chromium. A script plays chromium: it keeps the page that it is shown under the name of the picture."""
+"""tools/screenshots: which pages it shows to chromium. A script replaces chromium: it keeps the page under the name of the picture."""
 
 import os
 import pathlib
@@ -24,16 +24,16 @@ class Screenshots(Test):
             settings = {**os.environ, "PATH": f"{folder}:{os.environ['PATH']}"}
             subprocess.run([sys.executable, "-B", ROOT / "tools" / "screenshots", folder], check=True, env=settings)
             self.assertEqual(sorted(os.listdir(folder)), ["callcentre.png", "chromium", "sweep.png"])
-            call, sweep = (Tree(pathlib.Path(folder, f"{it}.png").read_text()).root for it in ("callcentre", "sweep"))
-        found = {it[1]["data-node"]: text_in(it) for it in elements(call, "tr") if "data-node" in it[1]}
-        for it in nodes_of(text_of(EXAMPLES, "callcentre", "report.txt")):
-            self.assertTrue(found[it["name"]].startswith(f"{it['name']}{it['kind']}{it['in']}{it['out']}{it['lost']}"), found)
-        run = next(it for it in elements(sweep, "select") if it[1]["id"] == "run")
-        self.assertEqual([text_in(it) for it in elements(run, "option")], [str(it) for it in range(8, 16)])
+            call, sweep = (Tree(pathlib.Path(folder, f"{item}.png").read_text()).root for item in ("callcentre", "sweep"))
+        found = {element[1]["data-node"]: text_in(element) for element in elements(call, "tr") if "data-node" in element[1]}
+        for node in nodes_of(text_of(EXAMPLES, "callcentre", "report.txt")):
+            self.assertTrue(found[node["name"]].startswith(f"{node['name']}{node['kind']}{node['in']}{node['out']}{node['lost']}"), found)
+        run = next(element for element in elements(sweep, "select") if element[1]["id"] == "run")
+        self.assertEqual([text_in(element) for element in elements(run, "option")], [str(number) for number in range(8, 16)])
 
     @unittest.skipUnless(shutil.which("chromium"), "Chromium isn't there")
     def test_pictures(self):
-        """Those of docs are as wide and as high as the ones that Chromium makes, and none is large."""
+        """Those in docs have the size of the ones that Chromium makes, and none is large."""
         with tempfile.TemporaryDirectory() as folder:
             ran = subprocess.run([sys.executable, "-B", ROOT / "tools" / "screenshots", folder], stderr=subprocess.PIPE)
             self.assertEqual((ran.returncode, ran.stderr), (0, b""))
@@ -46,7 +46,7 @@ class Screenshots(Test):
     def test_without_chromium(self):
         words = [sys.executable, "-B", ROOT / "tools" / "screenshots", "/nowhere"]
         ran = subprocess.run(words, env={**os.environ, "PATH": "/nowhere"}, stderr=subprocess.PIPE)
-        self.assertEqual((ran.returncode, ran.stderr), (1, b"screenshots: there is no chromium\n"))
+        self.assertEqual((ran.returncode, ran.stderr), (1, b"screenshots: chromium is missing\n"))
 
 
 if __name__ == "__main__":

@@ -1,4 +1,4 @@
-"""The scripts of examples/python write what stands beside them; and the figures that docs/PLANNER.md gives for what comes near a pool."""
+"""The scripts of examples/python write what is stored beside them; and the figures that docs/PLANNER.md gives for approximations of a pool."""
 
 import os
 import re
@@ -29,8 +29,8 @@ class Scripts(Test):
 
 class Near(Test):
     def test_figures_of_the_page(self):
-        """One fast server by the formula of M/M/1; a server for each of C, with calls by turns, by that of a queue to which each C-th of calls at
-        random comes; each beside Erlang's."""
+        """One fast server by the formula of M/M/1; a server for each of C, with calls in turn, by that of a queue that gets every C-th of random
+        calls; each compared with Erlang's."""
         rows = re.findall(r"^\| (\d+), (0\.\d+) \| ([\d.]+) \| ([\d.]+) \|$", text_of(ROOT, "docs", "PLANNER.md"), flags=re.MULTILINE)
         self.assertEqual(len(rows), 3)
         for agents, each, *told in rows:
@@ -41,7 +41,7 @@ class Near(Test):
             for _ in range(10000):
                 root = (load / (load + 1 - root)) ** agents
             near = each / (agents - load) / pool, root / (1 - root) / pool
-            self.assertEqual(told, [f"{it:.1f}" for it in near])
+            self.assertEqual(told, [f"{item:.1f}" for item in near])
 
 
 if __name__ == "__main__":

@@ -1,7 +1,7 @@
-"""planner sweep: one table, equal to single runs, however it is run; and what is left where a part of it fails.
+"""mpplan sweep: one table, equal to single runs, however it is run; and what remains if a part of it fails.
 
-GNU parallel and Slurm are played by scripts on the path that run what they are given: `parallel` each line that it reads, from the last to the first,
-and `sbatch` the script for each task of its array. What the real ones do with a machine that vanishes isn't seen here.
+GNU parallel and Slurm are replaced by scripts on the PATH that run what they are given: `parallel` each line that it reads, from the last to the
+first, and `sbatch` the script for each task of its array. How the real ones handle a machine that disappears isn't tested here.
 """
 
 import csv
@@ -38,7 +38,7 @@ while [ "$task" -ge 1 ]; do SLURM_ARRAY_TASK_ID=$task sh "$script"; task=$((task
 
 @functools.lru_cache(maxsize=None)
 def mpsim_told(model, trace):
-    """The status, the text and the line of a single run of two texts, by the program itself. Many tests ask for the same."""
+    """Returns the status, the text and the error line of a single run of two texts, by the program itself. Many tests share the results."""
     with tempfile.TemporaryDirectory() as folder:
         files = [pathlib.Path(folder, name) for name in ("model.txt", "trace.csv")]
         for file, text in zip(files, (model, trace)):
@@ -48,7 +48,7 @@ def mpsim_told(model, trace):
 
 
 def single_runs(models, trace, name="trace"):
-    """The rows of a table, of single runs: `models` are pairs of the first columns and a text."""
+    """Returns the rows of a table, from single runs: `models` are pairs of the first columns and a text."""
     rows = []
     for head, model in models:
         status, text, line = mpsim_told(model, text_of(trace))
@@ -56,21 +56,21 @@ def single_runs(models, trace, name="trace"):
             rows.append([name, *head, str(status), "", "", "", *[""] * len(NUMBERS), line])
             continue
         span = re.search(r" span (\d+)", text)[1]
-        for it in nodes_of(text):
-            numbers = [it[word] for word in NUMBERS[:-1]] + ["" if it["util"] == "-" else it["util"]]
-            rows.append([name, *head, "0", span, it["name"], it["kind"], *numbers, ""])
+        for node in nodes_of(text):
+            numbers = [node[word] for word in NUMBERS[:-1]] + ["" if node["util"] == "-" else node["util"]]
+            rows.append([name, *head, "0", span, node["name"], node["kind"], *numbers, ""])
     return rows
 
 
 def table_of(rows, names):
-    """The text of a table."""
+    """Returns the text of a table."""
     out = io.StringIO()
     csv.writer(out, lineterminator="\n").writerows([["trace", "model", *names, "status", "span", "node", "kind", *NUMBERS, "refusal"], *rows])
     return out.getvalue()
 
 
 class InFolder(Test):
-    """A folder with a model, a trace, and stand-ins."""
+    """A directory with a model, a trace, and stand-ins."""
 
     def setUp(self):
         super().setUp()
@@ -79,7 +79,7 @@ class InFolder(Test):
         self.folder = pathlib.Path(held.name)
         self.model, self.trace, self.at = self.folder / "m.txt", self.folder / "trace.csv", self.folder / "a sweep"
         self.model.write_text(TEXT)
-        self.trace.write_text("source,time,a,b\n" + "".join(f"calls,{it},30,{7 + it % 5}\n" for it in range(300)))
+        self.trace.write_text("source,time,a,b\n" + "".join(f"calls,{number},30,{7 + number % 5}\n" for number in range(300)))
         self.path = self.folder / "path"
         self.path.mkdir()
         self.log = self.folder / "log"
@@ -93,14 +93,14 @@ class InFolder(Test):
         return subprocess.Popen(words, stdout=subprocess.PIPE, stderr=subprocess.PIPE, text=True, env=settings, cwd=self.folder, **more)
 
     def told(self, *words, **more):
-        """The status, the output and the lines of the error output of a call."""
+        """Returns the status, the output and the lines on stderr of a call."""
         with self.begun(*words, **more) as process:
             out, line = process.communicate()
         return process.returncode, out, line.splitlines()
 
     def variants(self, count=200, column="a"):
-        """Words for so many variants, and the table that single runs of them make."""
-        models = [(["m", str(it)], TEXT.format(lines=it, column=column)) for it in range(count)]
+        """Returns arguments for this many variants, and the table that single runs of them give."""
+        models = [(["m", str(number)], TEXT.format(lines=number, column=column)) for number in range(count)]
         text = self.folder / "m.txt"
         text.write_text(TEXT.replace("{column}", column))
         return [self.model, self.trace, "--set", f"lines=0..{count - 1}"], table_of(single_runs(models, self.trace), ["lines"])
@@ -111,10 +111,10 @@ class InMemory(InFolder):
         words, want = self.variants(70)
         self.assertEqual(self.told(*words), (11, want, []))
         self.assertEqual(self.told(*words, "--node", "lines")[1].count(",calls,"), 0)
-        self.assertEqual(sorted(it.name for it in self.folder.iterdir()), ["m.txt", "path", "trace.csv"])
+        self.assertEqual(sorted(path.name for path in self.folder.iterdir()), ["m.txt", "path", "trace.csv"])
 
     def test_each_model_trace_and_value(self):
-        """Trace by trace, model by model, value by value, the last name first; files by a pattern."""
+        """Trace by trace, model by model, value by value, the last name varying fastest; files by a pattern."""
         other, tuesday = self.folder / "other.txt", self.folder / "tuesday.csv"
         other.write_text(TEXT.replace("30", "3").replace("calls\n", "calls\r\n", 1))
         tuesday.write_text(text_of(self.trace).replace(",30,", ",11,"))
@@ -134,57 +134,57 @@ class InMemory(InFolder):
         status, out, _ = self.told(*words, "--page", page)
         self.assertEqual(status, 11)
         tree = Tree(page.read_text()).root
-        run = next(it for it in elements(tree, "select") if it[1]["id"] == "run")
+        run = next(element for element in elements(tree, "select") if element[1]["id"] == "run")
         # The model without lines is refused.
-        self.assertEqual([text_in(it) for it in elements(run, "option")], [str(it) for it in range(1, 9)])
+        self.assertEqual([text_in(element) for element in elements(run, "option")], [str(number) for number in range(1, 9)])
         rows = list(csv.DictReader(io.StringIO(out)))
-        data = json.loads(text_in(next(it for it in elements(tree, "script") if it[1].get("id") == "data")))
-        lost = [it["nodes"]["lines"][data["columns"].index("lost")] for it in data["runs"]]
-        self.assertEqual(lost, [int(it["lost"]) for it in rows if it["node"] == "lines"])
+        data = json.loads(text_in(next(element for element in elements(tree, "script") if element[1].get("id") == "data")))
+        lost = [item["nodes"]["lines"][data["columns"].index("lost")] for item in data["runs"]]
+        self.assertEqual(lost, [int(row["lost"]) for row in rows if row["node"] == "lines"])
 
     def test_share_within(self):
         model = "model 1\nsource calls\nloss desk {places} b from calls\n"
         self.model.write_text(model)
         status, out, _ = self.told(self.model, self.trace, "--set", "places=0..5", "--within", "20")
         self.assertEqual(status, 11)
-        rows = [it for it in csv.DictReader(io.StringIO(out)) if it["node"] in ("", "desk")]
+        rows = [item for item in csv.DictReader(io.StringIO(out)) if item["node"] in ("", "desk")]
         self.assertEqual((rows[0]["within_20_of_all"], rows[0]["refusal"]), ("", "mpsim: model line 3: word 3 not allowed"))
         for places, row in enumerate(rows[1:], 1):
             text = mpsim_told(model.format(places=places), text_of(self.trace))[1]
             waits = waits_of(text, "desk")
-            served = sum(it <= 20 for it in waits)
+            served = sum(wait <= 20 for wait in waits)
             shares = float(row["within_20_of_all"]), float(row["within_20_of_departed"])
             self.assertEqual(shares, (round(served / 300, 6), round(served / len(waits), 6)))
 
-    def test_words_that_are_refused(self):
+    def test_arguments_that_are_rejected(self):
         self.told(self.model, self.trace, "--set", "lines=1", "--set", "column=a", "--folder", self.at)
         for words, line in (
-            ([self.model], "a sweep wants a model and a trace"),
-            ([self.model, self.trace, "--set", "lines=1..3"], "model m: a name in braces has no --set (KeyError: 'column')"),
-            ([self.model, self.trace], "model m: {lines} has no --set: --set lines=FROM..TO, or --set lines=VALUE,VALUE"),
-            ([self.model, self.trace, "--folder", "x"], "model m: {lines} has no --set"),
-            ([self.model, self.trace, "--set", "agents=1..3"], "--set agents: no model has {agents}"),
-            ([self.model, self.trace, "--set", "lines=3..1"], "--set lines=3..1: from 3 to 1 there is no number"),
-            ([self.model, self.trace, "--set", "lines=1", "--set", "lines=2"], "--set lines: it is given twice"),
-            ([self.model, self.trace, "--set", "util=1"], "--set util=1: util is a column of the table already"),
-            ([self.model, "absent*.csv", "--set", "lines=1"], "absent*.csv: there is no such file"),
-            ([self.model, self.trace, "--set", "lines=1", "--resume"], "--parallel, --slurm, --resume, --table and --shard want a --folder"),
-            ([self.model, self.trace, "--set", "lines=1", "--folder", "x", "--within", "3"], "--page and --within go without --folder: they are"),
+            ([self.model], "a sweep needs a model and a trace"),
+            ([self.model, self.trace, "--set", "lines=1..3"], "model m: a name in braces has no value from --set (KeyError: 'column')"),
+            ([self.model, self.trace], "model m: {lines} has no value: give --set lines=FROM..TO or --set lines=VALUE,VALUE"),
+            ([self.model, self.trace, "--folder", "x"], "model m: {lines} has no value: give --set"),
+            ([self.model, self.trace, "--set", "agents=1..3"], "--set agents: no model contains {agents}"),
+            ([self.model, self.trace, "--set", "lines=3..1"], "--set lines=3..1: the range 3..1 is empty"),
+            ([self.model, self.trace, "--set", "lines=1", "--set", "lines=2"], "--set lines is given twice"),
+            ([self.model, self.trace, "--set", "util=1"], "--set util=1: util is already a column of the table"),
+            ([self.model, "absent*.csv", "--set", "lines=1"], "absent*.csv: no such file"),
+            ([self.model, self.trace, "--set", "lines=1", "--resume"], "--parallel, --slurm, --resume, --table and --shard require --folder"),
+            ([self.model, self.trace, "--set", "lines=1", "--folder", "x", "--within", "3"], "--page and --within can't be used"),
             ([self.model, "/dev/null", "--set", "lines=1", "--set", "column=a", "--folder", "x"], "/dev/null: each shard reads the trace, so"),
-            ([self.model, "--folder", self.at, "--resume"], f"{self.at} knows its models, values and traces: none is given with"),
-            (["--folder", self.at, "--resume", "--parallel", "--slurm"], "--parallel and --slurm are two ways: one of them is given"),
+            ([self.model, "--folder", self.at, "--resume"], f"{self.at} already has its models, values and traces: give none with"),
+            (["--folder", self.at, "--resume", "--parallel", "--slurm"], "--parallel and --slurm exclude each other: give one of them"),
             (["--folder", self.at, "--shard", "2"], f"--shard 2: {self.at} has shards 1 to 1"),
             (["--folder", "nowhere", "--table"], "nowhere/plan.json: No such file or directory"),
-            ([self.model, self.trace, "--set", "lines=1", "--set", "column=a", "--folder", self.at], f"{self.at} has a sweep already: --resume"),
+            ([self.model, self.trace, "--set", "lines=1", "--set", "column=a", "--folder", self.at], f"{self.at} already has a sweep: give --resume"),
         ):
             with self.subTest(line):
                 status, out, lines = self.told(*words)
                 self.assertEqual((status, out, len(lines)), (1, "", 1), lines)
-                self.assertTrue(lines[0].startswith(f"planner: {line}"), lines)
+                self.assertTrue(lines[0].startswith(f"mpplan: {line}"), lines)
         self.assertFalse((self.folder / "x").exists())
 
     def test_nodes_that_are_not_there(self):
-        """Nothing is run, and nothing is written: each model is asked, also where a node's name has a value in it."""
+        """Nothing is run, and nothing is written: each model is checked, even if a node's name contains a value."""
         other, ran, stand_ins = self.folder / "other.txt", self.folder / "ran", self.folder / "programs"
         front = "model 1\nsource calls\nsplit desk_queue 2 turn from calls\n"
         other.write_text("\ufeff # source zz\r\n" + front.replace("\n", "\r\n") + " server s{lines} {column} from desk_queue")
@@ -192,17 +192,17 @@ class InMemory(InFolder):
         stand_in(stand_ins, "mpsweep", f"touch {ran}")
         values = "--set", "column=a", "--set", "lines=1..3"
         for node, models, line in (
-            ("zz", [self.model], "model m: there is no node 'zz'; it has calls, lines"),
-            ("lines", [self.model, self.trace, "--model", other], "model other: there is no node 'lines'; it has calls, desk_queue, s1"),
-            ("zz", [other], "model other: there is no node 'zz'; it has calls, desk_queue, s1"),
-            ("s1", [other], "model other: there is no node 's1'; it has calls, desk_queue, s2"),
+            ("zz", [self.model], "model m: no node 'zz'; it has calls, lines"),
+            ("lines", [self.model, self.trace, "--model", other], "model other: no node 'lines'; it has calls, desk_queue, s1"),
+            ("zz", [other], "model other: no node 'zz'; it has calls, desk_queue, s1"),
+            ("s1", [other], "model other: no node 's1'; it has calls, desk_queue, s2"),
         ):
             words = [*models, *[self.trace] * (len(models) == 1), *values, "--node", "calls", "--node", node]
             for more in [], ["--folder", self.at]:
                 told = self.told(*words, *more, settings={"MPSIM_PROGRAMS": str(stand_ins)})
-                self.assertEqual(told, (1, "", [f"planner: {line}"]))
+                self.assertEqual(told, (1, "", [f"mpplan: {line}"]))
         self.assertFalse(ran.exists() or self.at.exists())
-        # A pool has a name where no node may have it.
+        # A pool has a name that no node may have.
         other.write_text(front + "server desk_1 a from desk_queue\nserver desk_2 a from desk_queue.1\n")
         told = self.told(other, self.trace, "--node", "desk")
         self.assertEqual((told[0], told[1].splitlines()[1].split(",")[4:6]), (0, ["desk", "pool"]), told)
@@ -214,7 +214,7 @@ class InMemory(InFolder):
 class Shards(InFolder):
     def test_one_table_however_it_is_run(self):
         words, want = self.variants()
-        count = [f"planner: 200 scenarios in 4 shards, {it} to run" for it in range(5)]
+        count = [f"mpplan: 200 scenarios in 4 shards, {number} to run" for number in range(5)]
         self.assertEqual(self.told(*words, "--folder", self.at), (11, want, [count[4]]))
         for folder, more, log in (
             ("p", ["--parallel=--jobs 2"], "--no-notice --halt never --jobs 2\n"),
@@ -229,40 +229,40 @@ class Shards(InFolder):
         self.assertEqual([path for path in self.folder.rglob("*") if path.suffix in (".part", ".failed")], [])
 
     def test_a_shard_that_is_killed(self):
-        """With all that it started, by each of the ways: the table lacks it and says so; resumed, it is that of 200 single runs."""
+        """With everything that it started, in each way: the table lacks it and says so; resumed, it is that of 200 single runs."""
         words, want = self.variants()
         killed, folder = self.folder / "killed", self.folder / "programs"
         folder.mkdir()
-        # The first call of mpsweep kills who called it: that of shard 4, and of shard 3, which is the first of its task.
+        # The first call of mpsweep kills its caller: that of shard 4, and of shard 3, which is the first of its task.
         stand_in(folder, "mpsweep", f'[ -e {killed} ] || {{ touch {killed}; kill -9 $PPID; }}\nexec {programs.find("mpsweep")} "$@"')
         for way, shard in (["--parallel"], 4), (["--slurm"], 3):
             at = self.folder / way[0]
             status, out, lines = self.told(*words, "--folder", at, *way, settings={"MPSIM_PROGRAMS": str(folder)})
-            lines = [it for it in lines if it.startswith("planner: ")]
+            lines = [line for line in lines if line.startswith("mpplan: ")]
             self.assertTrue(killed.exists())
             self.assertEqual(status, 1)
             self.assertEqual(lines[1:3], [
-                f"planner: shard {shard}: nothing is left: not begun, or killed, or its disk was full, or its machine vanished",
-                f"planner: 1 of 4 shards aren't in the table: planner sweep --folder {at} --resume runs them",
+                f"mpplan: shard {shard}: it left nothing: not started, or killed, or its disk was full, or its machine disappeared",
+                f"mpplan: 1 of 4 shards are missing from the table: mpplan sweep --folder {at} --resume runs them",
             ])
-            of_shard = {str(it) for it in range(64 * shard - 64, 64 * shard)}
+            of_shard = {str(number) for number in range(64 * shard - 64, 64 * shard)}
             rest = [line for line in want.splitlines(keepends=True) if line.split(",")[2] not in of_shard]
             self.assertEqual(out, "".join(rest))
-            self.assertEqual(self.told("--folder", at, "--resume", *way), (11, want, ["planner: 200 scenarios in 4 shards, 1 to run"]))
-            self.assertEqual([it for it in at.rglob("*") if it.suffix in (".part", ".failed")], [])
+            self.assertEqual(self.told("--folder", at, "--resume", *way), (11, want, ["mpplan: 200 scenarios in 4 shards, 1 to run"]))
+            self.assertEqual([path for path in at.rglob("*") if path.suffix in (".part", ".failed")], [])
             killed.unlink()
 
     def test_stopped(self):
-        """By Ctrl-C, and as a Slurm stops a task: one line, and nothing is left of the shard that ran."""
+        """With Ctrl-C, and as Slurm stops a task: one line, and nothing is left of the running shard."""
         words, want = self.variants(70)
         folder = self.folder / "programs"
         folder.mkdir()
-        # Who called it has to be behind its start before it is stopped.
+        # Its caller must have started before it is stopped.
         stand_in(folder, "mpsweep", f"echo scenario 1 status 0; sleep 1; echo >{self.folder}/runs; exec sleep 60")
         settings = {"MPSIM_PROGRAMS": str(folder)}
-        for number, status, last in (signal.SIGINT, 130, ["planner: stopped"]), (signal.SIGTERM, 143, []):
+        for number, status, last in (signal.SIGINT, 130, ["mpplan: stopped"]), (signal.SIGTERM, 143, []):
             for way in ["--folder", self.at], ["--folder", self.at, "--shard", "1"]:
-                first = [] if "--shard" in way else ["planner: 70 scenarios in 2 shards, 2 to run"]
+                first = [] if "--shard" in way else ["mpplan: 70 scenarios in 2 shards, 2 to run"]
                 begin = [] if "--shard" in way else words if not self.at.exists() else ["--resume"]
                 with self.begun(*begin, *way, settings=settings, preexec_fn=heeds_signals) as process:
                     self.wait_for(self.folder / "runs")
@@ -271,8 +271,8 @@ class Shards(InFolder):
                     out, line = process.communicate()
                 self.assertEqual((process.returncode, out, line.splitlines()), (status, "", first + last))
                 self.assertTrue(inner)
-                self.assertEqual([it for it in inner if os.path.exists(f"/proc/{it}")], [])
-                self.assertEqual([it.name for it in self.at.rglob("*") if it.is_file()], ["plan.json"])
+                self.assertEqual([item for item in inner if os.path.exists(f"/proc/{item}")], [])
+                self.assertEqual([path.name for path in self.at.rglob("*") if path.is_file()], ["plan.json"])
                 (self.folder / "runs").unlink()
         self.assertEqual(self.told("--folder", self.at, "--resume")[:2], (11, want))
 
@@ -284,7 +284,7 @@ class Shards(InFolder):
         self.fail(f"{path} isn't there")
 
     def test_a_shard_that_fails(self):
-        """Its trace is another one by then, or there is no program: that is told, and the others are run."""
+        """Its trace has changed, or the program is missing: that is reported, and the others are run."""
         words, want = self.variants(130)
         self.assertEqual(self.told(*words, "--folder", self.at)[:2], (11, want))
         folder = Folder.read(str(self.at))
@@ -295,31 +295,31 @@ class Shards(InFolder):
         for way in [], ["--parallel"]:
             status, out, lines = self.told("--folder", self.at, "--resume", *way)
             self.assertEqual(status, 1)
-            self.assertIn(f"planner: shards 1, 3: {socket.gethostname()}: {self.trace}: it isn't what it was when the sweep was begun", "; ".join(
-                [re.sub("shard 1: ", "shards 1, 3: ", it) for it in lines if "shard 3:" not in it]))
+            self.assertIn(f"mpplan: shards 1, 3: {socket.gethostname()}: {self.trace}: the file has changed since the sweep began", "; ".join(
+                [re.sub("shard 1: ", "shards 1, 3: ", line) for line in lines if "shard 3:" not in line]))
         self.trace.write_text(text_of(self.trace).replace("calls,999,1,1\n", ""))
         for settings, why in (
-            ({"MPSIM_PROGRAMS": "/nowhere"}, "there is no program mpsweep in /nowhere; MPSIM_PROGRAMS names a folder that has it"),
+            ({"MPSIM_PROGRAMS": "/nowhere"}, "no program mpsweep in /nowhere; set MPSIM_PROGRAMS to a directory that has it"),
         ):
             status, _, lines = self.told("--folder", self.at, "--resume", settings=settings)
-            self.assertEqual((status, lines[1:3]), (1, [f"planner: shard {it}: {why}" for it in (1, 3)]))
-            self.assertIn(f"planner: shards 1, 3: {socket.gethostname()}: {why}", lines)
+            self.assertEqual((status, lines[1:3]), (1, [f"mpplan: shard {item}: {why}" for item in (1, 3)]))
+            self.assertIn(f"mpplan: shards 1, 3: {socket.gethostname()}: {why}", lines)
         self.assertEqual(self.told("--folder", self.at, "--resume")[:2], (11, want))
-        self.assertEqual([it for it in self.at.rglob("*.failed")], [])
+        self.assertEqual([path for path in self.at.rglob("*.failed")], [])
 
     def test_no_engine(self):
         words, _ = self.variants(3)
         for way, name in ("--parallel", "parallel"), ("--slurm", "sbatch"):
             status, _, lines = self.told(*words, "--folder", self.folder / name, way, settings={"PATH": "/nowhere"})
             self.assertEqual((status, len(lines)), (1, 2))
-            self.assertTrue(lines[1].startswith(f"planner: there is no command {name} on the path: {way} wants "), lines)
+            self.assertTrue(lines[1].startswith(f"mpplan: the command {name} isn't on the PATH: {way} requires "), lines)
 
     def test_damaged_files(self):
-        """Emptied, filled with zeros, cut, one digit changed, a scenario taken out, another shard's: each is told, left out, and run again."""
+        """Emptied, filled with zeros, cut, one digit changed, a scenario removed, another shard's: each is reported, left out, and run again."""
         words, want = self.variants(390)
         self.assertEqual(self.told(*words, "--folder", self.at)[:2], (11, want))
         folder = Folder.read(str(self.at))
-        texts = {it: pathlib.Path(folder.file(it)).read_bytes() for it in range(1, 8)}
+        texts = {number: pathlib.Path(folder.file(number)).read_bytes() for number in range(1, 8)}
         damaged = {
             1: b"",
             2: bytes(len(texts[2])),
@@ -332,13 +332,13 @@ class Shards(InFolder):
             self.assertNotEqual(text, texts[shard])
             pathlib.Path(folder.file(shard)).write_bytes(text)
         status, out, lines = self.told("--folder", self.at, "--table")
-        self.assertEqual((status, lines[0]), (1, "planner: shards 1-6: damaged"))
-        self.assertEqual(out, "".join(it for it in want.splitlines(keepends=True) if it.split(",")[2] not in {str(it) for it in range(384)}))
+        self.assertEqual((status, lines[0]), (1, "mpplan: shards 1-6: damaged"))
+        self.assertEqual(out, "".join(line for line in want.splitlines(keepends=True) if line.split(",")[2] not in {str(it) for it in range(384)}))
         status, out, lines = self.told("--folder", self.at, "--resume")
-        self.assertEqual((status, out, sum(it.endswith("it is run again") for it in lines)), (11, want, 6))
+        self.assertEqual((status, out, sum(line.endswith("it is run again") for line in lines)), (11, want, 6))
 
     def test_a_damaged_plan(self):
-        """It is refused, and so are shards that another plan made."""
+        """It is rejected, and so are shards made with another plan."""
         words, want = self.variants(70)
         self.told(*words, "--folder", self.at)
         plan = self.at / "plan.json"
@@ -348,14 +348,14 @@ class Shards(InFolder):
                 self.assertNotEqual(other, text)
                 plan.write_text(other)
                 told = self.told("--folder", self.at, "--resume")
-                self.assertEqual(told, (1, "", [f"planner: {self.at}/plan.json: it is no plan of a sweep, or damaged"]))
+                self.assertEqual(told, (1, "", [f"mpplan: {self.at}/plan.json: not the plan of a sweep, or damaged"]))
         plan.write_text(text)
         self.told(self.model, self.trace, "--set", "lines=1..70", "--folder", "other")
         plan.write_text((self.folder / "other" / "plan.json").read_text())
-        self.assertEqual(self.told("--folder", self.at, "--table")[2][0], "planner: shards 1-2: damaged")
+        self.assertEqual(self.told("--folder", self.at, "--table")[2][0], "mpplan: shards 1-2: damaged")
 
     def test_no_room(self):
-        """A disk that takes no more than 8 kB of a file: what has its name is whole, and nothing else is left."""
+        """A disk that takes no more than 8 kB of a file: named files are complete, and nothing else is left."""
         words, want = self.variants(130)
 
         def narrow():
@@ -366,19 +366,19 @@ class Shards(InFolder):
             lines = process.communicate()[1].splitlines()
         self.assertEqual(process.returncode, 1)
         self.assertIn("File too large", lines[1])
-        self.assertEqual([it for it in self.at.rglob("*.part")], [])
+        self.assertEqual([path for path in self.at.rglob("*.part")], [])
         self.assertEqual(self.told("--folder", self.at, "--resume")[:2], (11, want))
 
     def test_files_that_killed_runs_left(self):
-        """Those of this machine go when the sweep goes on; of another machine nobody knows."""
+        """Those of this machine are removed when the sweep continues; those of another machine may still be in use."""
         words, want = self.variants(3)
         self.told(*words, "--folder", self.at)
-        here, there = (self.at / "0000" / f"0000001.txt.{it}.part" for it in (f"{socket.gethostname()}.4194999", "elsewhere.4194999"))
+        here, there = (self.at / "0000" / f"0000001.txt.{item}.part" for item in (f"{socket.gethostname()}.4194999", "elsewhere.4194999"))
         alive = self.at / "0000" / f"0000001.txt.{socket.gethostname()}.{os.getpid()}.part"
-        for it in here, there, alive:
-            it.write_text("scenario")
+        for each in here, there, alive:
+            each.write_text("scenario")
         self.assertEqual(self.told("--folder", self.at, "--resume")[:2], (11, want))
-        self.assertEqual([it.exists() for it in (here, there, alive)], [False, True, True])
+        self.assertEqual([item.exists() for item in (here, there, alive)], [False, True, True])
 
     def test_tasks_of_an_array(self):
         """Of five shards in two tasks each is run once; one that is done isn't run again."""

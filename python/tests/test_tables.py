@@ -1,4 +1,5 @@
-"""The tables of reports: service, sojourns, table and compare, and run; with figures from the lines of the reports, read apart from the package."""
+"""The tables of reports: service, sojourns, table and compare, and run; with figures from the lines of the reports, parsed independently of the
+package."""
 
 import csv
 import io
@@ -21,8 +22,8 @@ from mpsim.planner.sojourns import table as sojourn_table
 
 CALLS = EXAMPLES / "callcentre"
 JOBS, REPORT, SWEEP = CALLS / "jobs.txt", CALLS / "report.txt", EXAMPLES / "sweep" / "report.txt"
-NO_TICK = "how long is a tick? --tick and --start say it, or the first lines of {}, as planner prepare writes them"
-NO_JOBS = f"{REPORT}: it has no lines of jobs: mpsim writes them with --jobs"
+NO_TICK = "the length of a tick is unknown: give --tick and --start, or {} whose first lines mpplan prepare wrote"
+NO_JOBS = f"{REPORT}: the report has no job lines: run mpsim with --jobs"
 
 
 def rows_of(text):
@@ -35,7 +36,7 @@ def records_of(text):
 
 class Service(InFolder):
     def test_by_hand(self):
-        """At the desk the waits are 0, 0, 3, 5, 7, 7 and 8; of six at the expert three are lost, and wait 0, 4 and 5 the others."""
+        """At the desk the waits are 0, 0, 3, 5, 7, 7 and 8; of six at the expert three are lost, and the others wait 0, 4 and 5."""
         self.assertEqual(sorted(waits_of(text_of(JOBS), "desk")), [0, 0, 3, 5, 7, 7, 8])
         want = "node,came,departed,lost,held,mean_wait,p95,max,within_5_of_all,within_5_of_departed\n"
         want += "desk,7,7,0,0,4.286,8,8,0.571429,0.571429\nexpert,6,3,3,0,3.0,5,5,0.5,1.0\n"
@@ -43,26 +44,26 @@ class Service(InFolder):
         self.assertEqual(self.tells("service", JOBS, *words), want)
         self.assertEqual(self.tells("service", MODEL, TRACE, *words), want)
         told = rows_of(self.tells("service", JOBS))
-        self.assertEqual([it[0] for it in told[1:]], ["greet", "expert", "desk", "wrap"])
+        self.assertEqual([item[0] for item in told[1:]], ["greet", "expert", "desk", "wrap"])
         self.assertEqual(told[0][-2:], ["within_20_of_all", "within_20_of_departed"])
         told = rows_of(self.tells("service", JOBS, "--node", "desk", "--within", 4, "--within", 3, "--percentile", 99.9))
         self.assertEqual((told[0][6], told[1][6:]), ("p99.9", ["8", "8"] + 4 * ["0.428571"]))
 
     def test_a_figure_that_is_asked_twice(self):
-        """It is told once, where it was asked first."""
+        """It is reported once, at its first place."""
         twice = "--within", 5, "--percentile", 90, "--within", 0, "--within", "05", "--percentile", 50, "--percentile", "90.0"
         told = rows_of(self.tells("service", JOBS, "--node", "desk", *twice))[0]
-        shares = [f"within_{it}_of_{whom}" for it in (5, 0) for whom in ("all", "departed")]
+        shares = [f"within_{item}_of_{whom}" for item in (5, 0) for whom in ("all", "departed")]
         self.assertEqual(told[6:], ["p90", "p50", "max", *shares])
         told = rows_of(self.tells("sojourns", JOBS, "--by", "all", *twice))[0]
         self.assertEqual(told, ["jobs", "mean_sojourn", "p90", "p50", "max", "within_5", "within_0"])
-        # All digits are in the name.
+        # The name has all digits.
         for words, at in (("service", JOBS, "--node", "desk"), 6), (("sojourns", JOBS, "--by", "all"), 2):
             told = rows_of(self.tells(*words, "--percentile", "99.99995", "--percentile", "100.0"))[0]
             self.assertEqual(told[at : at + 2], ["p99.99995", "p100"])
 
     def test_beside_each_stored_report(self):
-        """Counts and percentiles as the lines of the nodes have them, shares as the library."""
+        """Counts and percentiles as in the lines of the nodes, shares as in the library."""
         count = 0
         for path in reports():
             report, text = mpsim.Report.read(path), text_of(path)
@@ -71,13 +72,13 @@ class Service(InFolder):
             _, *told = service(report.visits.values(), [0, 7], [50, 90, 99])
             for row, node in zip(told, nodes_of(text)):
                 waits = waits_of(text, node["name"])
-                self.assertEqual([str(it) for it in row[:5]], [node[it] if it in node else "0" for it in ("name", "in", "out", "lost", "held")])
+                self.assertEqual([str(item) for item in row[:5]], [node[it] if it in node else "0" for it in ("name", "in", "out", "lost", "held")])
                 if waits:
                     self.assertEqual((row[5], row[9]), (round(int(node["wait"]) / len(waits), 3), int(node["max"])))
                 if waits and "p50" in node:
-                    self.assertEqual([str(it) for it in row[6:9]], [node[it] for it in ("p50", "p90", "p99")])
+                    self.assertEqual([str(item) for item in row[6:9]], [node[item] for item in ("p50", "p90", "p99")])
                 for at, within in (10, 0), (12, 7):
-                    served = sum(it <= within for it in waits)
+                    served = sum(wait <= within for wait in waits)
                     self.assertEqual(row[at], round(served / row[1], 6) if row[1] else None)
                     self.assertEqual(row[at + 1], round(served / len(waits), 6) if waits else None)
                     share = report.visits[node["name"]].share_within(within)
@@ -95,59 +96,59 @@ class Service(InFolder):
 
     def test_refusals(self):
         self.refuses(NO_JOBS, "service", REPORT)
-        self.refuses(f"{JOBS}: there is no node 'deck'; it has phone, web, greet, menu, expert, desk, wrap", "service", JOBS, "--node", "deck")
-        self.refuses("a percentile is from 0 to 100, and not 101.0", "service", JOBS, "--percentile", 101)
+        self.refuses(f"{JOBS}: no node 'deck'; it has phone, web, greet, menu, expert, desk, wrap", "service", JOBS, "--node", "deck")
+        self.refuses("a percentile is from 0 to 100, not 101.0", "service", JOBS, "--percentile", 101)
         pool, sweep, page = ("--node", "desk", "--agents", 2), (MODEL, TRACE), (JOBS, "--out", self.folder / "page.html")
         for words in ("service", JOBS), ("hours", JOBS), ("pool", MODEL, TRACE, *pool), ("sojourns", JOBS), ("sweep", *sweep), ("page", *page):
-            for text, why in ("-1", "-1: expected a number of ticks, from 0 on"), ("1.5", "1.5: expected a number of ticks, from 0 on"):
-                self.refuses(f"argument --within: {why} (planner {words[0]} --help tells more)", *words, f"--within={text}", status=2)
+            for text, why in ("-1", "-1: expected a number of ticks, 0 or more"), ("1.5", "1.5: expected a number of ticks, 0 or more"):
+                self.refuses(f"argument --within: {why} (see mpplan {words[0]} --help)", *words, f"--within={text}", status=2)
         self.refuses("/absent: cannot read the model", "service", "/absent", "/absent", status=6)
-        self.assertEqual(planner("service", "/absent"), (1, "", "planner: /absent: No such file or directory\n"))
+        self.assertEqual(planner("service", "/absent"), (1, "", "mpplan: /absent: No such file or directory\n"))
 
 
 class Sojourns(InFolder):
     def test_they_sum_up_to_the_lines_exit(self):
-        """Of each stored report without forks, by node, those lost at it apart."""
+        """For each stored report without forks, by node, with lost jobs separate."""
         count = 0
         for path in reports():
             report, text = mpsim.Report.read(path), text_of(path)
-            kinds = {it["name"]: it["kind"] for it in nodes_of(text)}
+            kinds = {node["name"]: node["kind"] for node in nodes_of(text)}
             if report.visits is None or {"fork", "join"} & set(kinds.values()):
                 continue
             got, want = defaultdict(Counter), defaultdict(Counter)
-            for it in sojourns(report):
-                got[it.left_at, it.lost].update(jobs=1, time=it.sojourn)
+            for sojourn in sojourns(report):
+                got[sojourn.left_at, sojourn.lost].update(jobs=1, time=sojourn.sojourn)
             for _, name, jobs, _, time in words_of(text, "exit"):
                 node, output = name.split(".")
                 want[node, kinds[node] in ("loss", "trunk") and output == "1"].update(jobs=int(jobs), time=int(time))
             self.assertEqual({key: it for key, it in got.items() if it["jobs"]}, {key: it for key, it in want.items() if it["jobs"]}, path)
-            for it in sojourns(report):
-                first = next(words for words in words_of(text, "job") if words[1] == str(it.job))
-                self.assertEqual((first[2], int(first[4])), (it.source, it.came))
+            for item in sojourns(report):
+                first = next(words for words in words_of(text, "job") if words[1] == str(item.job))
+                self.assertEqual((first[2], int(first[4])), (item.source, item.came))
             count += 1
         self.assertGreater(count, 15)
 
     def test_by_hand(self):
-        """Ten calls, of 8, 9, 10, 10, 11, 12, 12, 13, 14 and 14 ticks, as the last lines of each job in jobs.txt have them."""
-        came = {it[1]: int(it[4]) for it in words_of(text_of(JOBS), "job") if it[2] in ("phone", "web")}
-        times = sorted(int(it[8]) - came[it[1]] for it in words_of(text_of(JOBS), "job") if it[2] == "wrap")
+        """Ten calls, of 8, 9, 10, 10, 11, 12, 12, 13, 14 and 14 ticks, as in the last lines of each job in jobs.txt."""
+        came = {word[1]: int(word[4]) for word in words_of(text_of(JOBS), "job") if word[2] in ("phone", "web")}
+        times = sorted(int(word[8]) - came[word[1]] for word in words_of(text_of(JOBS), "job") if word[2] == "wrap")
         self.assertEqual(times, [8, 9, 10, 10, 11, 12, 12, 13, 14, 14])
         told = self.tells("sojourns", JOBS, "--by", "all", "--within", 10, "--within", 9)
         self.assertEqual(told, "jobs,mean_sojourn,p50,p90,p95,p99,max,within_10,within_9\n10,11.3,11,14,14,14,14,0.4,0.2\n")
         told = rows_of(self.tells("sojourns", MODEL, TRACE, "--by", "source", "--percentile", 60))
-        self.assertEqual([it[:3] for it in told], [["source", "jobs", "mean_sojourn"], ["phone", "5", "11.2"], ["web", "5", "11.4"]])
+        self.assertEqual([item[:3] for item in told], [["source", "jobs", "mean_sojourn"], ["phone", "5", "11.2"], ["web", "5", "11.4"]])
         each = records_of(self.tells("sojourns", JOBS, "--each"))
-        self.assertEqual(([it["job"] for it in each], sum(int(it["sojourn"]) for it in each)), ([str(it) for it in range(1, 11)], 113))
-        self.assertEqual([list(it.values()) for it in each[:1]], [["1", "phone", "0", "wrap", "left", str(8)]])
+        self.assertEqual(([item["job"] for item in each], sum(int(item["sojourn"]) for item in each)), ([str(item) for item in range(1, 11)], 113))
+        self.assertEqual([list(item.values()) for item in each[:1]], [["1", "phone", "0", "wrap", "left", str(8)]])
 
     def test_parts_lost_and_held_ones(self):
-        """Of two jobs one part of the second is lost, and so its other part is held: it has no sojourn. The first leaves at 3, by the join."""
+        """Of two jobs one part of the second is lost, so its other part is held: it has no sojourn. The first leaves at 3, through the join."""
         text = "model 2\nsource src\nfork f 2 from src\nloss a 1 =3 from f\nserver b =1 from f.1\njoin j from a b\n"
         report = mpsim.run(text, [("src", 0), ("src", 1)], jobs=True)
-        self.assertEqual([tuple(it) for it in sojourns(report)], [(1, "src", 0, "j", False, 3)])
-        # Without the join the last part counts: of the second job that of b, which leaves at 2, a tick behind the one that is lost.
+        self.assertEqual([tuple(sojourn) for sojourn in sojourns(report)], [(1, "src", 0, "j", False, 3)])
+        # Without the join the last part counts: for the second job that of b, which leaves at 2, a tick after the lost one.
         report = mpsim.run(text.replace("join j from a b\n", ""), [("src", 0), ("src", 1)], jobs=True)
-        self.assertEqual([tuple(it) for it in sojourns(report)], [(1, "src", 0, "a", False, 3), (2, "src", 1, "b", False, 1)])
+        self.assertEqual([tuple(sojourn) for sojourn in sojourns(report)], [(1, "src", 0, "a", False, 3), (2, "src", 1, "b", False, 1)])
         model = "model 1\nsource web\nsource phone\nloss desk 1 =4 from phone web\ndelay out =1 from desk\n"
         report = mpsim.run(model, [("phone", 0), ("web", 1), ("phone", 2), ("phone", 9)], jobs=True)
         rows = list(sojourn_table(report, percents=[50]))
@@ -166,17 +167,17 @@ class Table(InFolder):
     def test_nodes_and_exits_of_each_stored_report(self):
         for path in reports():
             text, told = text_of(path), records_of(self.tells("table", path))
-            wanted = [{name: "" if value == "-" else value for name, value in it.items()} for it in nodes_of(text)]
-            self.assertEqual([it["node"] for it in told], [it["name"] for it in wanted])
+            wanted = [{name: "" if value == "-" else value for name, value in node.items()} for node in nodes_of(text)]
+            self.assertEqual([item["node"] for item in told], [item["name"] for item in wanted])
             for got, want in zip(told, wanted):
                 self.assertEqual({name: got[name] for name in want if name != "name"}, {name: it for name, it in want.items() if name != "name"})
             exits = rows_of(self.tells("table", path, "--of", "exits"))
-            self.assertEqual(exits[1:], [[*it[1].split("."), it[2], it[4]] for it in words_of(text, "exit")])
+            self.assertEqual(exits[1:], [[*word[1].split("."), word[2], word[4]] for word in words_of(text, "exit")])
         self.assertEqual(self.tells("table", SWEEP, "--of", "exits", "--node", "callback").count(",agents,"), 0)
         self.assertEqual(self.tells("table", CALLS / "report.txt", "--of", "exits", "--node", "desk"), "node,output,jobs,sojourn\n")
 
     def test_visits(self):
-        """The rows that docs/REPORT.md has shown for `expert`."""
+        """The rows that docs/REPORT.md shows for `expert`."""
         want = "job,node,arrive,wait,depart,end\n2,expert,2,0,8,left\n3,expert,3,5,13,left\n"
         want += "5,expert,6,,,lost\n6,expert,7,,,lost\n8,expert,9,4,15,left\n10,expert,10,,,lost\n"
         self.assertEqual(self.tells("table", JOBS, "--of", "visits", "--node", "expert"), want)
@@ -185,31 +186,31 @@ class Table(InFolder):
         self.assertIn("\n2,j,2,,,held\n", self.tells("table", EXAMPLES / "cases" / "part-held" / "jobs.txt", "--of", "visits"))
 
     def test_a_sweep(self):
-        """Each row has the words of its line, and the label of its scenario; a scenario that is refused has one."""
+        """Each row has the fields of its line, and the label of its scenario; a refused scenario has one row."""
         head, *rows = rows_of(self.tells("table", SWEEP, "--node", "callback", "--labels", *range(8, 16)))
         self.assertEqual(head[:8], ["scenario", "status", "span", "node", "kind", "in", "out", "lost"])
-        spans = [it[3] for it in words_of(text_of(SWEEP), "jobs")]
-        wanted = [it for it in nodes_of(text_of(SWEEP)) if it["name"] == "callback"]
+        spans = [word[3] for word in words_of(text_of(SWEEP), "jobs")]
+        wanted = [node for node in nodes_of(text_of(SWEEP)) if node["name"] == "callback"]
         firsts = [[str(at), "0", span, "callback", "server", it["in"]] for at, span, it in zip(range(8, 16), spans, wanted)]
-        self.assertEqual([it[:6] for it in rows], firsts)
-        self.assertEqual([dict(zip(head, it))["p90"] for it in rows], [it["p90"] for it in wanted])
+        self.assertEqual([row[:6] for row in rows], firsts)
+        self.assertEqual([dict(zip(head, row))["p90"] for row in rows], [item["p90"] for item in wanted])
         refused = self.file("s.txt", text_of(SWEEP) + 'scenario 9 status 3\nmpsim: model line 3: word 1 not allowed\n')
         rows = rows_of(self.tells("table", refused))
         self.assertEqual((len(rows), rows[-1]), (26, ["9", "3", *[""] * 16, "mpsim: model line 3: word 1 not allowed"]))
-        self.assertEqual({len(it) for it in rows}, {19})
+        self.assertEqual({len(row) for row in rows}, {19})
         rows = rows_of(self.tells("table", refused, "--of", "exits"))
-        self.assertEqual([it[3:6] for it in rows[1:3]], [["agents", "0", "885"], ["callback", "0", "253"]])
+        self.assertEqual([row[3:6] for row in rows[1:3]], [["agents", "0", "885"], ["callback", "0", "253"]])
         self.refuses("2 labels for 8 scenarios", "table", SWEEP, "--labels", "a", "b")
-        self.refuses("there is no node 'desk'; the report has calls, agents, callback", "table", SWEEP, "--node", "desk")
+        self.refuses("no node 'desk'; the report has calls, agents, callback", "table", SWEEP, "--node", "desk")
 
-    def test_what_is_no_report(self):
+    def test_texts_that_are_not_reports(self):
         text = text_of(JOBS)
         for name, altered, told in (
             ("cut", text[:-20], r"report line \d+: .* is cut"),
             ("altered", text.replace("wait 5", "wait 6", 1), r"report line \d+: .* contradicts the report"),
-            ("version", text.replace("report 2", "report 3", 1), r"report line 1: 'mpsim report 3' begins a report of a form that isn't known here"),
-            ("empty", "", r"report line 1: '' is no line of a report"),
-            ("trace", text_of(TRACE), r"report line 1: 'source,time,.*' is no line of a report"),
+            ("version", text.replace("report 2", "report 3", 1), r"report line 1: 'mpsim report 3' begins a report of an unknown form"),
+            ("empty", "", r"report line 1: '' is not a line of a report"),
+            ("trace", text_of(TRACE), r"report line 1: 'source,time,.*' is not a line of a report"),
             ("sweep", text_of(SWEEP)[:-100], r"report line \d+: "),
             ("bytes", "\udcff\n", r"report line 1: "),
         ):
@@ -217,17 +218,17 @@ class Table(InFolder):
                 path = self.file(f"{name}.txt", altered)
                 status, out, line = planner("table", path)
                 self.assertEqual((status, out, line.count("\n")), (1, "", 1))
-                self.assertRegex(line, f"^planner: {path}: {told}")
-        self.refuses(NO_JOBS.replace(f"{REPORT}: it", "the report"), "table", REPORT, "--of", "visits")
-        self.refuses("--labels are those of a sweep, and this is one report", "table", REPORT, "--labels", "a")
+                self.assertRegex(line, f"^mpplan: {path}: {told}")
+        self.refuses(NO_JOBS.replace(f"{REPORT}: ", ""), "table", REPORT, "--of", "visits")
+        self.refuses("--labels needs a sweep, but this is a single report", "table", REPORT, "--labels", "a")
         self.refuses(f"{self.folder}/absent: No such file or directory", "table", self.folder / "absent")
 
     def test_outputs_that_fail(self):
-        """A full disk is one line; who reads no more wants no line."""
-        words = ["sh", "-c", '"$@"', "sh", sys.executable, "-B", ROOT / "tools" / "planner", "table", MODEL, TRACE, "--of", "visits"]
+        """A full disk gives one line; a reader that has gone gives none."""
+        words = ["sh", "-c", '"$@"', "sh", sys.executable, "-B", ROOT / "mpplan", "table", MODEL, TRACE, "--of", "visits"]
         words[2] = '"$@" >/dev/full'
         ran = subprocess.run(words, stdout=subprocess.PIPE, stderr=subprocess.PIPE, text=True)
-        self.assertEqual((ran.returncode, ran.stdout, ran.stderr), (1, "", "planner: the output: No space left on device\n"))
+        self.assertEqual((ran.returncode, ran.stdout, ran.stderr), (1, "", "mpplan: standard output: No space left on device\n"))
         words[2] = '{ "$@"; echo $? >&2; } | head -1'
         words[8:10] = [self.file("m.txt", DESK), self.file("t.csv", "source,time,d\n" + 20000 * "door,0,0\n")]
         ran = subprocess.run(words, stdout=subprocess.PIPE, stderr=subprocess.PIPE, text=True)
@@ -238,18 +239,18 @@ class Compare(InFolder):
     def test_reports(self):
         other = self.file("other.txt", text_of(REPORT).replace("max 8 p50 5 p90 8", "max 8 p50 5 p90 7"))
         told = self.tells("compare", REPORT, other, "--node", "desk").splitlines()
-        self.assertEqual([it.split() for it in told], [[str(REPORT), str(other)], ["desk", "8", "7", "(-1)"]])
+        self.assertEqual([item.split() for item in told], [[str(REPORT), str(other)], ["desk", "8", "7", "(-1)"]])
         told = self.tells("compare", REPORT, other).splitlines()
-        self.assertEqual([it.split()[0] for it in told[1:]], [it["name"] for it in nodes_of(text_of(REPORT))])
+        self.assertEqual([item.split()[0] for item in told[1:]], [node["name"] for node in nodes_of(text_of(REPORT))])
         self.assertEqual(told[3].split(), ["greet", "1", "1", "(+0)"])
-        self.assertEqual({len(it) for it in told}, {len(told[0])})
+        self.assertEqual({len(item) for item in told}, {len(told[0])})
 
     def test_a_sweep(self):
-        """The first scenario is what the others are compared with."""
-        wanted = [int(it["lost"]) for it in nodes_of(text_of(SWEEP)) if it["name"] == "agents"]
+        """The others are compared with the first scenario."""
+        wanted = [int(node["lost"]) for node in nodes_of(text_of(SWEEP)) if node["name"] == "agents"]
         rows = rows_of(self.tells("compare", SWEEP, "--figure", "lost", "--node", "agents", "--csv"))
-        self.assertEqual(rows[0], ["node", *map(str, range(1, 9)), *(f"{it} less 1" for it in range(2, 9))])
-        self.assertEqual(rows[1], ["agents", *map(str, wanted), *(str(it - wanted[0]) for it in wanted[1:])])
+        self.assertEqual(rows[0], ["node", *map(str, range(1, 9)), *(f"{number} less 1" for number in range(2, 9))])
+        self.assertEqual(rows[1], ["agents", *map(str, wanted), *(str(item - wanted[0]) for item in wanted[1:])])
         shown = self.tells("compare", SWEEP, "--figure", "lost", "--node", "agents").splitlines()[1]
         self.assertEqual(shown.split()[:4], ["agents", "253", "181", "(-72)"])
         text = self.tells("compare", SWEEP, REPORT, "--figure", "mean_wait", "--node", "desk").splitlines()
@@ -257,16 +258,16 @@ class Compare(InFolder):
         self.assertEqual(text[1].split(), ["desk", *["-"] * 8, "4.28571"])
 
     def test_large_means(self):
-        """They have all digits before the point, so that two that differ aren't shown alike."""
-        runs = [mpsim.run(DESK, f"source,time,d\ndoor,0,{it}\ndoor,1,5\ndoor,2,6\n") for it in (2469134, 2469140, 246913)]
+        """They have all digits before the point, so that two that differ don't look the same."""
+        runs = [mpsim.run(DESK, f"source,time,d\ndoor,0,{item}\ndoor,1,5\ndoor,2,6\n") for item in (2469134, 2469140, 246913)]
         paths = [self.file(f"{at}.txt", str(it)) for at, it in enumerate(runs)]
         shown = self.tells("compare", *paths, "--figure", "mean_wait", "--node", "desk").splitlines()[1]
         self.assertEqual(shown.split()[1:], ["1646090", "1646094", "(+4)", "164609", "(-1481481)"])
 
     def test_nodes_and_figures(self):
-        """A node that one of them alone has, a figure that there isn't."""
+        """A node that only one of them has, and a missing figure."""
         texts = [f"model 1\nsource door\nserver {name} ={demand} from door\n" for name, demand in (("a", 4), ("b", 3), ("a", 1))]
-        runs = [mpsim.run(it, [("door", 0), ("door", 1)]) for it in texts]
+        runs = [mpsim.run(text, [("door", 0), ("door", 1)]) for text in texts]
         self.assertEqual(compare(runs, "wait"), [("door", [0, 0, 0]), ("a", [3, None, 0]), ("b", [None, 2, None])])
         self.assertEqual(compare(runs, "share_lost", ["a"]), [("a", [0.0, None, 0.0])])
         self.assertEqual(dict(compare(runs, "util"))["door"], [None, None, None])
@@ -275,13 +276,13 @@ class Compare(InFolder):
         self.assertEqual(planner("compare", REPORT, "--figure", "p95")[0], 2)
         self.refuses("no report has a node 'x'; they have phone, web, greet, menu, expert, desk, wrap", "compare", REPORT, "--node", "x")
         refused = self.file("s.txt", "scenario 1 status 3\nmpsim: model line 1: expected model 1 or model 2\n")
-        self.refuses(f"{refused}: each scenario is refused", "compare", refused)
-        # One that is refused isn't there, and a line says so: differences are those to the first that is.
+        self.refuses(f"{refused}: every scenario was refused", "compare", refused)
+        # A refused one is left out, and a line says so: differences are from the first of the others.
         others = re.sub(r"^scenario (\d+)", lambda found: f"scenario {int(found[1]) + 1}", text_of(SWEEP), flags=re.M)
         some = self.file("some.txt", text_of(refused) + others)
         status, out, err = planner("compare", some, "--csv")
         self.assertEqual((status, out.split("\n")[0].split(",")[:2]), (0, ["node", "2"]))
-        self.assertEqual(err, "planner: 1 isn't there, since it is refused: mpsim: model line 1: expected model 1 or model 2\n")
+        self.assertEqual(err, "mpplan: 1 is left out, because it was refused: mpsim: model line 1: expected model 1 or model 2\n")
 
 
 class Run(InFolder):
@@ -295,18 +296,18 @@ class Run(InFolder):
     def test_times_that_look_like_clocks(self):
         model = self.file("m.txt", "model 1\nsource a\n")
         for name, times, looks in (
-            ("dates", [20260302080017, 20260302080102], "dates with a time, as 20260302080017"),
-            ("clocks", [90000 + 100 * it + it for it in range(60)], "times of the day with seconds, as 95959"),
+            ("dates", [20260302080017, 20260302080102], "dates with a time, such as 20260302080017"),
+            ("clocks", [90000 + 100 * number + number for number in range(60)], "times of day with seconds, such as 95959"),
             ("ticks", range(0, 90000, 1000), None),
             ("one", [20260399], None),
         ):
-            trace = self.file(f"{name}.csv", "source,time\n" + "".join(f"a,{it}\n" for it in times))
-            said = f"its times look like {looks}, and are taken as ticks: planner prepare makes ticks of them"
-            told = self.tells("run", model, trace, error=f"planner: warning: {trace}: {said}\n" if looks else "")
+            trace = self.file(f"{name}.csv", "source,time\n" + "".join(f"a,{time}\n" for time in times))
+            said = f"its times look like {looks}, but are read as ticks: mpplan prepare converts them"
+            told = self.tells("run", model, trace, error=f"mpplan: warning: {trace}: {said}\n" if looks else "")
             self.assertIn(f"span {max(times)}\n", told)
 
     def test_refusals(self):
-        """A fault of the program has its status, and is one line with the file, the record and its column."""
+        """An error of a program keeps its status, and is one line with the file, the record and its column."""
         trace = self.file("t.csv", "source,time,d\ndoor,0,1\ndoor,1,210.0\n")
         why = f"{trace}: trace record 2: field 3 is not a number in range (column d): door,1,210.0"
         self.refuses(why, "run", self.file("m.txt", DESK), trace, status=4)
@@ -318,19 +319,19 @@ class Run(InFolder):
         self.refuses("node desk position 1 passes the bound at time 5", "run", late, trace, status=5)
 
     def test_words_of_a_page(self):
-        """They are judged before anything is written, of a picture of the network too; without a page those of `run` say nothing."""
+        """They are checked before anything is written, for a picture of the network too; without a page those of `run` have no use."""
         page, picture, day = self.folder / "page.html", self.folder / "network.svg", ("--start", "2026-03-02T08:00")
         for words in ("--tick", "1s"), day, ("--zone", "Europe/Berlin"):
-            self.refuses(f"{words[0]} says nothing without --page", "run", MODEL, TRACE, *words)
-        calls = [(("run", MODEL, TRACE, "--page", page), NO_TICK.format("the model"))]
-        calls += [(("page", JOBS, "--model", MODEL, "--out", it), NO_TICK.format("a --model")) for it in (page, picture)]
+            self.refuses(f"{words[0]} requires --page", "run", MODEL, TRACE, *words)
+        calls = [(("run", MODEL, TRACE, "--page", page), NO_TICK.format("a model"))]
+        calls += [(("page", JOBS, "--model", MODEL, "--out", item), NO_TICK.format("a --model")) for item in (page, picture)]
         for call, no_tick in calls:
             for words, line in (
                 (day, no_tick),
                 (("--start", "banana"), no_tick),
                 (("--zone", "Europe/Berlin"), no_tick),
-                (("--tick", "1s", "--start", "08:00"), "--start 08:00: no ISO 8601 time"),
-                (("--tick", "1s", "--zone", "X/Y"), "this machine has no time zone 'X/Y': they are called as Europe/Berlin"),
+                (("--tick", "1s", "--start", "08:00"), "--start 08:00: not an ISO 8601 time"),
+                (("--tick", "1s", "--zone", "X/Y"), "this machine has no time zone 'X/Y'; their names look like Europe/Berlin"),
             ):
                 self.refuses(line, *call, *words)
         self.assertEqual(list(self.folder.iterdir()), [])

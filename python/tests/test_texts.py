@@ -1,4 +1,4 @@
-"""What the package says of itself: the examples of each call, of docs/PYTHON.md and of docs/PLANNER.md are run; and what is asked of its files."""
+"""The package's own documentation: the examples of each call, of docs/PYTHON.md and of docs/PLANNER.md are run; and requirements on its files."""
 
 import ast
 import doctest
@@ -12,23 +12,24 @@ from ground import PYTHON, ROOT, SOURCES, Test
 
 import mpsim
 
-MODULES = sorted(".".join(it.relative_to(SOURCES / "mpsim").with_suffix("").parts) for it in (SOURCES / "mpsim").rglob("*.py"))
+MODULES = sorted(".".join(path.relative_to(SOURCES / "mpsim").with_suffix("").parts) for path in (SOURCES / "mpsim").rglob("*.py"))
 PAGE = ROOT / "docs" / "PYTHON.md"
 STANDARD = {"array", "bisect", "collections", "contextlib", "csv", "fractions", "importlib", "io", "itertools", "os", "re", "shutil", "signal"}
 STANDARD |= {"resource"}
 STANDARD |= {"subprocess", "sys", "threading", "time", "typing"}
-# What the planner's commands and the pages take besides.
+# Further modules used by the planner's commands and the pages.
 STANDARD |= {"argparse", "base64", "codecs", "datetime", "difflib", "errno", "functools", "gc", "glob", "hashlib", "heapq", "html", "json", "locale"}
-STANDARD |= {"math", "operator", "secrets", "shlex", "socket", "stat", "string", "unicodedata", "zoneinfo"}
+STANDARD |= {"bz2", "gzip", "lzma", "tempfile", "zipfile", "zlib"}
+STANDARD |= {"math", "operator", "random", "secrets", "shlex", "socket", "stat", "string", "unicodedata", "zoneinfo"}
 
 
 def module_of(name):
-    """The module of a name; the files `__main__` are no modules to be read."""
+    """Returns the module of a name; the files `__main__` aren't importable modules."""
     return importlib.import_module(f"mpsim.{name}".replace(".__init__", ""))
 
 
 def blocks_of(page):
-    """The blocks of code of a page, as lists of lines."""
+    """Returns the code blocks of a page, as lists of lines."""
     lines = page.read_text().splitlines()
     marks = [at for at, it in enumerate(lines) if it.startswith("```")]
     return [lines[begin + 1 : end] for begin, end in zip(marks[::2], marks[1::2])]
@@ -42,7 +43,7 @@ class Examples(Test):
         return result.attempted
 
     def test_each_call_has_an_example(self):
-        """Each call and each type, but for exceptions, which have one at their head."""
+        """Each function and each type, except exceptions, whose example is in their base class."""
         finder = doctest.DocTestFinder(exclude_empty=True)
         for name in mpsim.__all__[1:]:
             it = getattr(mpsim, name)
@@ -64,15 +65,15 @@ class Examples(Test):
         self.assertGreater(count, 50)
 
     def test_page(self):
-        """All blocks of docs/PYTHON.md, one behind the other, in a folder with the examples."""
+        """All blocks of docs/PYTHON.md, one after another, in a directory with the examples."""
         blocks = blocks_of(PAGE)
-        self.assertTrue(len(blocks) > 8 and all(it[0].startswith(">>> ") for it in blocks), blocks)
+        self.assertTrue(len(blocks) > 8 and all(block[0].startswith(">>> ") for block in blocks), blocks)
         self.assertGreater(self.runs_blocks(PAGE, blocks), 20)
 
     def test_planner_page(self):
         """The sessions of docs/PLANNER.md; its other blocks are commands, which `check/run documents` runs."""
         page = ROOT / "docs" / "PLANNER.md"
-        blocks = [it for it in blocks_of(page) if it[0].startswith(">>> ")]
+        blocks = [block for block in blocks_of(page) if block[0].startswith(">>> ")]
         self.assertGreater(self.runs_blocks(page, blocks), 5)
 
     def runs_blocks(self, page, blocks):
@@ -88,7 +89,7 @@ class Examples(Test):
 
     def test_readme(self):
         """The example of the wheel's page."""
-        lines = [it[4:] for it in (PYTHON / "README.md").read_text().splitlines() if it.startswith("    ")]
+        lines = [line[4:] for line in (PYTHON / "README.md").read_text().splitlines() if line.startswith("    ")]
         *most, last = lines
         names = {}
         exec("\n".join(most), names)
@@ -100,31 +101,36 @@ class Examples(Test):
             self.assertIn(name, text)
 
 
+FRAMES, BOOKS = {"pandas", "numpy"}, {"openpyxl"}
+# What modules use if it is there.
+OPTIONAL = {"report": FRAMES, "node_visits": FRAMES, "sweeps": FRAMES, "planner.sheets": BOOKS, "planner.workbooks": BOOKS}
+
+
 def modules_of(tree):
-    """The modules that a source reads, but for the package's own."""
-    for it in ast.walk(tree):
-        if isinstance(it, ast.Import):
-            yield from (name.name.split(".")[0] for name in it.names)
-        elif isinstance(it, ast.ImportFrom) and not it.level:
-            yield it.module.split(".")[0]
+    """Yields the modules that a source imports, except the package's own."""
+    for item in ast.walk(tree):
+        if isinstance(item, ast.Import):
+            yield from (name.name.split(".")[0] for name in item.names)
+        elif isinstance(item, ast.ImportFrom) and not item.level:
+            yield item.module.split(".")[0]
 
 
 class Sources(Test):
     def test_files(self):
-        """Short enough to be read, and for Python 3.9."""
+        """Short enough to be read, and valid in Python 3.9."""
         for path in sorted(PYTHON.rglob("*.py")):
             with self.subTest(path.name):
                 lines = path.read_text().splitlines()
                 self.assertLess(len(lines), 400)
-                self.assertEqual([it for it in lines if len(it) > 150], [])
+                self.assertEqual([line for line in lines if len(line) > 150], [])
                 ast.parse(path.read_text(), feature_version=(3, 9))
 
     def test_modules(self):
-        """The package stands on Python's own library; what makes a frame is looked for in few files."""
+        """The package uses only Python's standard library; few files look for what makes a data frame or reads a spreadsheet."""
         for name in MODULES:
             found = set(modules_of(ast.parse((SOURCES / "mpsim" / f"{name.replace('.', '/')}.py").read_text())))
             with self.subTest(name):
-                self.assertEqual(found - STANDARD - ({"pandas", "numpy"} if name in ("report", "node_visits", "sweeps") else set()), set())
+                self.assertEqual(found - STANDARD - OPTIONAL.get(name, set()), set())
 
     def test_names(self):
         self.assertEqual(set(mpsim.__all__) - set(dir(mpsim)), set())

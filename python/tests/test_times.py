@@ -1,4 +1,4 @@
-"""Texts of times, lengths and numbers, each by itself: against `datetime` and `email.utils`, and against figures worked out by hand."""
+"""Texts of times, lengths and numbers, each separately: against `datetime` and `email.utils`, and against figures worked out by hand."""
 
 import random
 import unittest
@@ -14,18 +14,18 @@ from mpsim.planner.names import is_name, name_for
 from mpsim.planner.times import Asks, Unread, clock, excel, hmm, hmmss, iso, length
 from mpsim.planner.zones import Zone
 
-SECOND = 10**6
+SECOND = 10**9
 EPOCH = datetime(1970, 1, 1, tzinfo=timezone.utc)
 
 
 def utc(*moment):
-    """Microseconds from 1970 to a moment in UTC."""
-    return (datetime(*moment, tzinfo=timezone.utc) - EPOCH) // timedelta(microseconds=1)
+    """Returns the nanoseconds from 1970 to a moment in UTC."""
+    return (datetime(*moment, tzinfo=timezone.utc) - EPOCH) // timedelta(microseconds=1) * 1000
 
 
 class Clocks(Test):
     def seconds(self, read, *texts):
-        return [read(it) / SECOND for it in texts]
+        return [read(text) / SECOND for text in texts]
 
     def test_clock(self):
         texts = "8:05", "08:05:09", "12:00 AM", "12:30 pm", "1:30 p.m.", "24:00", "23:59:60", "8:00:00.250", "8:00:00,5"
@@ -53,14 +53,14 @@ class Clocks(Test):
 
     def test_length(self):
         texts = "1s", "100ms", "1min", "0.5s", "2 h", "7us", "1d", "1.5sec"
-        self.assertEqual([length(it) for it in texts], [10**6, 10**5, 6 * 10**7, 500000, 72 * 10**8, 7, 864 * 10**8, 1500000])
-        for bad in "1", "s", "1 x", "-1s", "0.5us", "1,5s", "":
+        self.assertEqual([length(text) for text in texts], [10**9, 10**8, 6 * 10**10, 5 * 10**8, 72 * 10**11, 7000, 864 * 10**11, 15 * 10**8])
+        for bad in "1", "s", "1 x", "-1s", "0.5ns", "1,5s", "":
             with self.subTest(bad), self.assertRaises(ValueError):
                 length(bad)
 
 
 class Moment(Test):
-    """Moments at random, written by datetime in each way, and read back."""
+    """Random moments, written by datetime in each way, and read back."""
 
     def setUp(self):
         super().setUp()
@@ -69,18 +69,18 @@ class Moment(Test):
 
     def reads(self, form, texts, moments):
         how = Moments(form, Zone())
-        self.assertEqual([how.of(f" {it} ") for it in texts], [utc(*it.timetuple()[:6], it.microsecond) for it in moments], texts[0])
+        self.assertEqual([how.of(f" {text} ") for text in texts], [utc(*moment.timetuple()[:6], moment.microsecond) for moment in moments], texts[0])
 
     def test_iso(self):
-        zones = [timezone(timedelta(minutes=it)) for it in (0, 60, -300, 345, -570)]
+        zones = [timezone(timedelta(minutes=item)) for item in (0, 60, -300, 345, -570)]
         here = [it.replace(tzinfo=zones[at % 5]) for at, it in enumerate(self.moments)]
-        there = [it.astimezone(timezone.utc) for it in here]
-        self.reads("iso", [it.isoformat() for it in here], there)
-        self.reads("iso", [it.isoformat(" ") for it in here], there)
-        self.reads("iso", [it.strftime("%Y%m%dT%H%M%S.%f%z") for it in here], there)
-        self.reads("iso", [it.isoformat().replace(".", ",") for it in self.moments], self.moments)
-        self.reads("iso", [it.strftime("%Y-%m-%dT%H:%MZ") for it in self.moments], [it.replace(second=0, microsecond=0) for it in self.moments])
-        self.reads("iso", [str(it.date()) for it in self.moments], [datetime(it.year, it.month, it.day) for it in self.moments])
+        there = [item.astimezone(timezone.utc) for item in here]
+        self.reads("iso", [item.isoformat() for item in here], there)
+        self.reads("iso", [item.isoformat(" ") for item in here], there)
+        self.reads("iso", [item.strftime("%Y%m%dT%H%M%S.%f%z") for item in here], there)
+        self.reads("iso", [moment.isoformat().replace(".", ",") for moment in self.moments], self.moments)
+        self.reads("iso", [item.strftime("%Y-%m-%dT%H:%MZ") for item in self.moments], [it.replace(second=0, microsecond=0) for it in self.moments])
+        self.reads("iso", [str(moment.date()) for moment in self.moments], [datetime(item.year, item.month, item.day) for item in self.moments])
         self.assertEqual(iso("2026-03-02T24:00+0530"), (utc(2026, 3, 3), 19800 * SECOND))
         times = "2026-03-02T25:00", "2026-03-02T08:61", "2026-03-02T08:00:75", "2026-03-02T08:00+25:00", "2026-03-02x"
         for bad in "2026-02-30", "2026-3-2", "x", *times:
@@ -88,31 +88,31 @@ class Moment(Test):
                 iso(bad)
 
     def test_rfc(self):
-        plain = [it.replace(microsecond=0) for it in self.moments]
-        zones = [timezone(timedelta(minutes=it)) for it in (60, -300, 0)]
+        plain = [moment.replace(microsecond=0) for moment in self.moments]
+        zones = [timezone(timedelta(minutes=item)) for item in (60, -300, 0)]
         here = [it.replace(tzinfo=zones[at % 3]) for at, it in enumerate(plain)]
-        there = [it.astimezone(timezone.utc) for it in here]
-        self.reads("rfc", [format_datetime(it) for it in here], there)
-        self.reads("rfc", [format_datetime(it).split(", ")[1] + " (CET)" for it in here], there)
-        self.reads("rfc", [format_datetime(it.replace(tzinfo=timezone.utc), usegmt=True) for it in plain], plain)
-        self.reads("rfc", [format_datetime(it)[:-5] + "EST" for it in plain], [it + timedelta(hours=5) for it in plain])
-        self.reads("rfc", [format_datetime(it)[:-6] for it in plain], plain)
+        there = [item.astimezone(timezone.utc) for item in here]
+        self.reads("rfc", [format_datetime(item) for item in here], there)
+        self.reads("rfc", [format_datetime(item).split(", ")[1] + " (CET)" for item in here], there)
+        self.reads("rfc", [format_datetime(item.replace(tzinfo=timezone.utc), usegmt=True) for item in plain], plain)
+        self.reads("rfc", [format_datetime(item)[:-5] + "EST" for item in plain], [item + timedelta(hours=5) for item in plain])
+        self.reads("rfc", [format_datetime(item)[:-6] for item in plain], plain)
         how = Moments("rfc", Zone())
-        # 2 March 2026 is a Monday; what CET means no RFC says; the year has four digits.
+        # 2 March 2026 is a Monday; no RFC defines CET; the year has four digits.
         for bad in "Tue, 02 Mar 2026 %s +0100", "Mon, 02 Mar 2026 %s CET", "Mon, 02 Mar 26 %s +0100", "Mon, 30 Feb 2026 %s +0100", "Mon, 02 Mar 2026":
             bad = bad.replace("%s", "08:00:17")
             with self.subTest(bad), self.assertRaises(Unread):
                 how.of(bad)
 
     def test_formats_of_strptime(self):
-        plain = [it.replace(microsecond=0) for it in self.moments]
+        plain = [moment.replace(microsecond=0) for moment in self.moments]
         for form in "%d.%m.%Y %H:%M:%S", "%m/%d/%Y %I:%M:%S %p", "%Y%m%d%H%M%S", "%d/%b/%Y:%H:%M:%S", "%A %d %B %Y %H.%M.%S", "%d.%m.%Y, %H:%M:%S":
-            self.reads(form, [it.strftime(form) for it in plain], plain)
+            self.reads(form, [item.strftime(form) for item in plain], plain)
         self.reads("%d/%b/%Y:%H:%M:%S %z", [it.strftime("%d/%b/%Y:%H:%M:%S -0230") for it in plain], [it + timedelta(minutes=150) for it in plain])
-        self.reads("%d.%m.%Y %H:%M:%S.%f", [it.strftime("%d.%m.%Y %H:%M:%S.%f") for it in self.moments], self.moments)
+        self.reads("%d.%m.%Y %H:%M:%S.%f", [moment.strftime("%d.%m.%Y %H:%M:%S.%f") for moment in self.moments], self.moments)
 
     def test_what_strptime_takes_and_is_not_meant(self):
-        """Of fewer digits than a format has it makes another time, as 13:05 of 135; without AM or PM nobody knows which half of a day is meant."""
+        """With fewer digits than the format it reads another time, such as 13:05 for 135; without AM or PM the half of the day is unknown."""
         for form, good, bad in (
             ("%H%M", "0135", ["135", "5", "01350"]),
             ("%Y%m%d%H%M%S", "20260302080500", ["202603020805", "20260302"]),
@@ -129,10 +129,10 @@ class Moment(Test):
         self.assertEqual(Moments("%m/%d/%Y %I:%M %p", Zone()).of("3/2/2026 1:30 pm"), utc(2026, 3, 2, 13, 30))
 
     def test_numbers_since_1970(self):
-        plain = [it.replace(microsecond=0) for it in self.moments]
-        self.reads("unix", [str(utc(*it.timetuple()[:6]) // SECOND) for it in plain], plain)
-        self.reads("unix", [f"{utc(*it.timetuple()[:6]) // SECOND}.{it.microsecond:06}" for it in self.moments], self.moments)
-        self.reads("unixms", [str(utc(*it.timetuple()[:6]) // 1000) for it in plain], plain)
+        plain = [moment.replace(microsecond=0) for moment in self.moments]
+        self.reads("unix", [str(utc(*item.timetuple()[:6]) // SECOND) for item in plain], plain)
+        self.reads("unix", [f"{utc(*moment.timetuple()[:6]) // SECOND}.{moment.microsecond:06}" for moment in self.moments], self.moments)
+        self.reads("unixms", [str(utc(*item.timetuple()[:6]) // 10**6) for item in plain], plain)
         for form, bad in ("unix", "-1"), ("unix", "1."), ("unix", "x"), ("ticks", "1.5"), ("unixms", "1e3"), ("unix", "٣"):
             with self.subTest(bad), self.assertRaises(Unread):
                 Moments(form, Zone()).of(bad)
@@ -140,39 +140,39 @@ class Moment(Test):
 
 class Formats(Test):
     def test_formats_are_found(self):
-        moments = [datetime(2026, 3, 2, 8, 0, 17) + timedelta(seconds=7919 * it) for it in range(300)]
+        moments = [datetime(2026, 3, 2, 8, 0, 17) + timedelta(seconds=7919 * number) for number in range(300)]
         forms = "%d.%m.%Y %H:%M:%S", "%d/%m/%Y %H:%M", "%m/%d/%Y %I:%M:%S %p", "%m-%d-%Y %H:%M:%S", "%Y/%m/%d %H:%M:%S", "%Y%m%d%H%M%S"
         for form in *forms, "%d.%m.%Y, %H:%M", "%d.%m.%Y", "%Y%m%d", "%d/%m/%Y, %I:%M %p", "%d.%m.%Y %H:%M:%S.%f":
-            self.assertEqual(found_format([it.strftime(form) for it in moments]), form)
+            self.assertEqual(found_format([moment.strftime(form) for moment in moments]), form)
         zone = timezone(timedelta(hours=1))
-        here = [it.replace(tzinfo=zone) for it in moments]
+        here = [moment.replace(tzinfo=zone) for moment in moments]
         for form, texts in (
-            ("iso", [it.isoformat() for it in moments]),
-            ("iso", [it.isoformat(" ") + "Z" for it in moments]),
-            ("iso", [it.isoformat() for it in here]),
-            ("iso", [it.strftime("%Y%m%dT%H%M%S") for it in moments]),
-            ("rfc", [format_datetime(it) for it in here]),
-            ("clock", [it.strftime("%H:%M:%S") for it in moments]),
-            ("clock", [it.strftime("%I:%M %p") for it in moments]),
+            ("iso", [moment.isoformat() for moment in moments]),
+            ("iso", [moment.isoformat(" ") + "Z" for moment in moments]),
+            ("iso", [item.isoformat() for item in here]),
+            ("iso", [moment.strftime("%Y%m%dT%H%M%S") for moment in moments]),
+            ("rfc", [format_datetime(item) for item in here]),
+            ("clock", [moment.strftime("%H:%M:%S") for moment in moments]),
+            ("clock", [moment.strftime("%I:%M %p") for moment in moments]),
         ):
             self.assertEqual(found_format(texts), form)
         # There is no 13th month.
         for days, form in (["12/03/2026", "13/03/2026"], "%d/%m/%Y"), (["12/03/2026", "12/13/2026"], "%m/%d/%Y"), (["13.12.2026"], "%d.%m.%Y"):
             self.assertEqual(found_format(days), form)
-        # A tenth may be anything.
+        # One in ten may be anything.
         self.assertEqual(found_format(["2026-03-02"] * 9 + ["x"]), "iso")
 
-    def test_what_has_to_be_said(self):
+    def test_options_that_are_needed(self):
         for texts, says in (
-            (["03/02/2026 8:00", "04/05/2026 9:00"], "'03/02/2026 8:00' may begin with the day or with the month: the format is '%d/%m/%Y %H:%M' or"),
-            (["25/03/2026 8:00", "03/25/2026 8:00"], "may begin with the day or with the month"),
-            (["02.03.26 08:00"], "'02.03.26 08:00' has a year of two digits: the format may be '%d.%m.%y %H:%M'"),
+            (["03/02/2026 8:00", "04/05/2026 9:00"], "'03/02/2026 8:00' could begin with the day or with the month: the format is '%d/%m/%Y %H:%M'"),
+            (["25/03/2026 8:00", "03/25/2026 8:00"], "could begin with the day or with the month"),
+            (["02.03.26 08:00"], "'02.03.26 08:00' has a two-digit year: the format may be '%d.%m.%y %H:%M'"),
             (["46083.25"], "'46083.25' is a number: the format is one of ticks, unix"),
             (["1772434817"], "is a number"),
-            (["2026-03-02"] * 8 + ["x", "y"], "'x' isn't written as '2026-03-02' is; where a format is given such rows are left out"),
-            (["01.10.2026 7:00", "01.10.2026 7:00", "01.10.2026 7:00:30"], "'01.10.2026 7:00:30' isn't written as '01.10.2026 7:00' is"),
-            (["2026-03-02", "x"], "'2026-03-02' is of no format that is found by itself"),
-            (["", " "], "no time to find the format by"),
+            (["2026-03-02"] * 8 + ["x", "y"], "'x' isn't written like '2026-03-02'; if you give a format, such rows are left out"),
+            (["01.10.2026 7:00", "01.10.2026 7:00", "01.10.2026 7:00:30"], "'01.10.2026 7:00:30' isn't written like '01.10.2026 7:00'"),
+            (["2026-03-02", "x"], "the format of '2026-03-02' can't be detected"),
+            (["", " "], "there is no time from which to detect the format"),
         ):
             with self.assertRaises(ValueError) as caught:
                 found_format(texts)
@@ -186,13 +186,13 @@ class Formats(Test):
                 judged_format(bad)
 
     def test_what_looks_like_clocks(self):
-        self.assertEqual(looks_like_clocks([20260302080017, 20260302080018]), "dates with a time, as 20260302080017")
-        self.assertEqual(looks_like_clocks([202603020800]), "dates with a time, as 202603020800")
-        self.assertEqual(looks_like_clocks([800 + 100 * (it // 60) + it % 60 for it in range(0, 300, 7)]), "times of the day, as 1254")
-        seconds = [10000 * (it // 3600) + 100 * (it // 60 % 60) + it % 60 for it in range(28800, 60000, 77)]
-        self.assertEqual(looks_like_clocks(seconds), f"times of the day with seconds, as {seconds[-1]}")
-        self.assertEqual(looks_like_clocks([1772434817]), "seconds since 1970, as 1772434817")
-        self.assertEqual(looks_like_clocks([1772434817000]), "milliseconds since 1970, as 1772434817000")
+        self.assertEqual(looks_like_clocks([20260302080017, 20260302080018]), "dates with a time, such as 20260302080017")
+        self.assertEqual(looks_like_clocks([202603020800]), "dates with a time, such as 202603020800")
+        self.assertEqual(looks_like_clocks([800 + 100 * (number // 60) + number % 60 for number in range(0, 300, 7)]), "times of day, such as 1254")
+        seconds = [10000 * (number // 3600) + 100 * (number // 60 % 60) + number % 60 for number in range(28800, 60000, 77)]
+        self.assertEqual(looks_like_clocks(seconds), f"times of day with seconds, such as {seconds[-1]}")
+        self.assertEqual(looks_like_clocks([1772434817]), "seconds since 1970, such as 1772434817")
+        self.assertEqual(looks_like_clocks([1772434817000]), "milliseconds since 1970, such as 1772434817000")
         for values in range(0, 5000, 7), range(0, 2400, 100), [5] * 100, [], [20261302080017], range(0, 60), [10**18], [800, 801], range(800, 861):
             self.assertIsNone(looks_like_clocks(values))
 
@@ -236,7 +236,7 @@ class Demands(Test):
             Lengths("fortnight", ".", SECOND)
 
     def test_parts_of_a_microsecond(self):
-        """The nearest tick is that of all digits, also where a tick is no longer than a few microseconds."""
+        """The nearest tick is that of all digits, even if a tick is only a few microseconds."""
         for text, unit, tick, ticks in (
             ("1.0009", "ms", 1, 1001),
             ("0.0015", "ms", 1, 2),
@@ -249,13 +249,13 @@ class Demands(Test):
             ("1.500", "ms", 1, 1500),
         ):
             with self.subTest(text):
-                lengths = Lengths(unit, ".", tick)
+                lengths = Lengths(unit, ".", 1000 * tick)
                 self.assertEqual((lengths.ticks[text], lengths.rounded), (ticks, text not in ("0.00000125", "1.500")))
 
     def test_decimal_marks(self):
         texts = ["1,5", "2"], ["1.5"], ["1.000,5"], ["1,000.5"], ["1.000.000"], ["2", "0:03:30,5"], ["1.500", "1,5"], ["0.500"]
-        self.assertEqual([found_decimal(it) for it in texts], [",", ".", ",", ".", ",", None, ",", "."])
-        for texts, says in (["1.500"], "'1.500' may be thousands or a fraction"), (["1.5", "1,5"], "both"):
+        self.assertEqual([found_decimal(text) for text in texts], [",", ".", ",", ".", ",", None, ",", "."])
+        for texts, says in (["1.500"], "'1.500' could be thousands or a decimal fraction"), (["1.5", "1,5"], "both"):
             with self.assertRaisesRegex(ValueError, says):
                 found_decimal(texts)
 
@@ -270,8 +270,8 @@ class Names(Test):
             ("24h", "x_24h"),
             ("from", "x_from"),
             ("Time", "x_time"),
-            ("日本", "x"),
-            ("  --", "x"),
+            ("日本", "name_1"),
+            ("  --", "name_1"),
             ("A" * 40, "a" * 32),
             ("a" * 31 + " b", "a" * 31),
         ):

@@ -1,7 +1,7 @@
-"""The wheel: its tag is what its programs ask for; what goes into it; the same bytes from two folders; it installs and runs without a network.
+"""The wheel: its tag fits its programs; its content; the same bytes from two directories; it installs and runs without a network.
 
-Where hatchling isn't there, no wheel is built: then its hook is called as hatchling would call it, the names of its commands are looked up, and a
-folder is laid out as the wheel would be."""
+Without hatchling no wheel is built: then its hook is called as hatchling would call it, the names of its commands are looked up, and a directory is
+laid out like the wheel."""
 
 import hashlib
 import importlib
@@ -26,7 +26,7 @@ NAMES = ["mpedit", "mpsim", "mpsweep"]
 
 
 def builder():
-    """An interpreter that has hatchling, or None."""
+    """Returns an interpreter that has hatchling, or None."""
     for python in sys.executable, "/usr/bin/python3":
         if os.access(python, os.X_OK) and subprocess.run([python, "-c", "import hatchling"], stderr=subprocess.DEVNULL).returncode == 0:
             return python
@@ -34,7 +34,7 @@ def builder():
 
 
 def build(folder):
-    """Builds the wheel of a copy of the package in this folder."""
+    """Builds the wheel of a copy of the package in this directory."""
     copy = pathlib.Path(folder, "python")
     shutil.copytree(PYTHON, copy, ignore=shutil.ignore_patterns("__pycache__", "dist"))
     shutil.copy(ROOT / "VERSION", folder)
@@ -46,13 +46,13 @@ def build(folder):
 class Tag(Test):
     @unittest.skipUnless(shutil.which("readelf"), "readelf isn't there")
     def test_symbols_of_the_programs(self):
-        """They need the C library alone, and no later one than the tag says."""
+        """They need only the C library, and no later version than the tag says."""
         tag = re.search(r'^TAG = "py3-none-manylinux_(\d+)_(\d+)_x86_64"$', text_of(PYTHON, "hatch_build.py"), flags=re.MULTILINE)
         needed = set()
         for name in NAMES:
             told = subprocess.run(["readelf", "-WdV", programs.find(name)], stdout=subprocess.PIPE, text=True, check=True).stdout
             self.assertEqual(re.findall(r"NEEDED.*\[(.*)\]", told), ["libc.so.6"])
-            needed |= {tuple(map(int, it)) for it in re.findall(r"GLIBC_(\d+)\.(\d+)", told)}
+            needed |= {tuple(map(int, found)) for found in re.findall(r"GLIBC_(\d+)\.(\d+)", told)}
         self.assertEqual(max(needed), tuple(map(int, tag.groups())))
 
 
@@ -66,16 +66,16 @@ class Tag(Test):
 
 
 class Hook(Test):
-    """hatch_build.py, called as hatchling calls it, with a stand-in for the one class of hatchling that it takes."""
+    """hatch_build.py, called as by hatchling, with a stand-in for the one class of hatchling that it uses."""
 
     def hooked(self, root, folder=None):
-        """What the hook adds to a build in a folder `root`, with programs in another."""
+        """Returns what the hook adds to a build in a directory `root`, with programs in another."""
         stand_ins, interface = {}, "hatchling.builders.hooks.plugin.interface"
         for at in range(len(interface.split("."))):
             name = ".".join(interface.split(".")[: at + 1])
             stand_ins[name] = types.ModuleType(name)
         stand_ins[interface].BuildHookInterface = type("BuildHookInterface", (), {})
-        surroundings = {it: os.environ[it] for it in os.environ if it != "MPSIM_PROGRAMS"}
+        surroundings = {item: os.environ[item] for item in os.environ if item != "MPSIM_PROGRAMS"}
         surroundings.update({"MPSIM_PROGRAMS": folder} if folder else {})
         with mock.patch.dict(sys.modules, stand_ins), mock.patch.dict(os.environ, surroundings, clear=True):
             names = {}
@@ -86,7 +86,7 @@ class Hook(Test):
         return data
 
     def test_programs_go_in(self):
-        """From a folder that is named, or as a clone has them; with the tag of a platform."""
+        """From a given directory, or as in a clone; with a platform tag."""
         with tempfile.TemporaryDirectory() as folder:
             folder = os.path.realpath(folder)
             clone = pathlib.Path(folder, "clone")
@@ -102,7 +102,7 @@ class Hook(Test):
             want = {**{f"{clone}/crates/{name}/out/{name}": f"mpsim/bin/{name}" for name in NAMES}, **version}
             self.assertEqual(self.hooked(clone / "python"), {"force_include": want, **tag})
             (clone / "crates" / "mpedit" / "out" / "mpedit").chmod(0o644)
-            with self.assertRaisesRegex(SystemExit, "there is no program .*/mpedit: build it, or name a folder by MPSIM_PROGRAMS"):
+            with self.assertRaisesRegex(SystemExit, "no program .*/mpedit: build it, or set MPSIM_PROGRAMS to a directory that has it"):
                 self.hooked(clone / "python")
 
 
@@ -116,22 +116,22 @@ class Project(Test):
         return dict(re.findall(r"^([\w-]+) = (.*)$", text, flags=re.MULTILINE))
 
     def test_commands(self):
-        """Each is a function that is there."""
+        """Each is an existing function."""
         commands = {name: it.strip('"').split(":") for name, it in self.section("project.scripts").items()}
-        self.assertEqual(sorted(commands), [*NAMES, "planner"])
+        self.assertEqual(sorted(commands), sorted([*NAMES, "mpplan"]))
         for module, function in commands.values():
             self.assertTrue(callable(getattr(importlib.import_module(module), function)))
 
     def test_what_is_packed(self):
-        """All files of the package, of which git ignores none, as hatchling leaves out what git ignores; the version is that of the package."""
+        """All files of the package; git ignores none of them, since hatchling leaves out what git ignores; the version is that of the package."""
         self.assertEqual(self.section("tool.hatch.build.targets.wheel"), {"packages": '["src/mpsim"]'})
         version = self.section("tool.hatch.version")
         found = re.search(version["pattern"].strip('"'), text_of(PYTHON, version["path"].strip('"')))
         self.assertEqual(found["version"], importlib.import_module("mpsim").__version__)
-        found = [it for it in (SOURCES / "mpsim").rglob("*") if it.is_file() and it.suffix != ".pyc" and it.parent.name != "bin"]
-        data = sorted(it.name for it in found if it.suffix != ".py")
+        found = [path for path in (SOURCES / "mpsim").rglob("*") if path.is_file() and path.suffix != ".pyc" and path.parent.name != "bin"]
+        data = sorted(item.name for item in found if item.suffix != ".py")
         named = ["compared.html", "figures.js", "network.html", "page.css", "page.html", "page.js", "pictures.js", "piece.css"]
-        self.assertEqual(data, named)
+        self.assertEqual(data, sorted([*named, *(f"{name}.txt" for name in NAMES)]))
         if not (ROOT / ".git").exists() or not shutil.which("git"):
             self.skipTest("it is no clone of git, or git isn't there")
         ignored = subprocess.run(["git", "check-ignore", "--no-index", *map(str, found)], cwd=ROOT, stdout=subprocess.PIPE, text=True).stdout
@@ -140,7 +140,7 @@ class Project(Test):
 
 class Layout(Test):
     def test_programs_beside_the_package(self):
-        """As a wheel lays them out: the package finds its own programs, and no others."""
+        """Laid out as in a wheel: the package finds its own programs, and no others."""
         with tempfile.TemporaryDirectory() as folder:
             shutil.copytree(SOURCES / "mpsim", os.path.join(folder, "mpsim"))
             shutil.copy(ROOT / "VERSION", os.path.join(folder, "mpsim"))
@@ -152,7 +152,7 @@ class Layout(Test):
                 (f"import mpsim; print(mpsim.run({str(MODEL)!r}, {str(TRACE)!r}), end='')", text_of(EXAMPLES, "callcentre", "report.txt")),
                 ("from mpsim import programs; print(programs.find('mpedit'))", f"{os.path.realpath(folder)}/mpsim/bin/mpedit\n"),
                 (f"import mpsim; print(len(mpsim.run({str(MODEL)!r}, {str(TRACE)!r})._repr_html_()) > 9000)", "True\n"),
-                ("import mpsim.planner; mpsim.planner.main(['--version'])", f"planner {importlib.import_module('mpsim').__version__}\n"),
+                ("import mpsim.planner; mpsim.planner.main(['--version'])", f"mpplan {importlib.import_module('mpsim').__version__}\n"),
             ):
                 ran = subprocess.run([sys.executable, "-B", "-c", script], stdout=subprocess.PIPE, text=True, env=surroundings, cwd=folder)
                 self.assertEqual((ran.returncode, ran.stdout), (0, wanted))
@@ -169,10 +169,10 @@ class Wheel(Test):
 
     def test_what_is_in_it(self):
         with zipfile.ZipFile(self.wheel) as archive:
-            names = sorted(it for it in archive.namelist() if it.startswith("mpsim/bin/"))
+            names = sorted(item for item in archive.namelist() if item.startswith("mpsim/bin/"))
             self.assertEqual(names, [f"mpsim/bin/{name}" for name in NAMES])
             sources = {f"mpsim/{it.relative_to(SOURCES / 'mpsim')}" for it in (SOURCES / "mpsim").rglob("*") if it.is_file() and it.suffix != ".pyc"}
-            self.assertEqual({it for it in archive.namelist() if it.startswith("mpsim/")}, sources | {"mpsim/VERSION", *names})
+            self.assertEqual({item for item in archive.namelist() if item.startswith("mpsim/")}, sources | {"mpsim/VERSION", *names})
             for name, path in zip(NAMES, names):
                 self.assertEqual(archive.getinfo(path).external_attr >> 16 & 0o777, 0o755)
                 self.assertEqual(archive.read(path), pathlib.Path(programs.find(name)).read_bytes())
@@ -183,7 +183,7 @@ class Wheel(Test):
             other = build(os.path.join(self.folder, "another name"))
         finally:
             os.umask(before)
-        sums = [hashlib.sha256(it.read_bytes()).hexdigest() for it in (self.wheel, other)]
+        sums = [hashlib.sha256(item.read_bytes()).hexdigest() for item in (self.wheel, other)]
         self.assertEqual(sums[0], sums[1])
 
     def test_it_installs_and_runs_without_a_network(self):
@@ -196,10 +196,14 @@ class Wheel(Test):
             return subprocess.run(words, stdout=subprocess.PIPE, stderr=subprocess.DEVNULL, text=True, env=surroundings, cwd=home)
 
         report = text_of(EXAMPLES, "callcentre", "report.txt")
-        self.assertEqual(told("planner", "run", MODEL, TRACE, "--page", "page.html").stdout, report)
+        self.assertEqual(told("mpplan", "run", MODEL, TRACE, "--page", "page.html").stdout, report)
         self.assertTrue(text_of(home, "page.html").startswith("<!doctype html>"))
         self.assertEqual(told("mpsim", MODEL, TRACE).stdout, report)
         self.assertEqual(told("mpsim").returncode, 2)
+        for name in NAMES:
+            self.assertEqual(told(name, "--help").stdout, text_of(SOURCES, "mpsim", "help", f"{name}.txt"))
+            self.assertEqual(told(name, "--version").stdout, f"{name} {importlib.import_module('mpsim').__version__}\n")
+            self.assertEqual(told(name, "--help", "--version").returncode, 2)
         self.assertEqual(told("mpsweep", TRACE, MODEL).stdout, "scenario 1 status 0\n" + report)
         self.assertTrue(told("mpedit", MODEL, TRACE, os.devnull).stdout.startswith(report))
         self.assertEqual(told("mpsim", "--made", "7", "--report", "1").stdout, text_of(EXAMPLES, "made-7.txt"))

@@ -1,4 +1,4 @@
-"""Queueing networks over recorded traces, from Python.
+"""Simulate queueing networks over recorded traces, from Python.
 
 >>> import mpsim
 >>> model = "model 1\\nsource door\\nserver desk talk from door\\n"
@@ -6,10 +6,10 @@
 >>> report["desk"].wait, report["desk"].p90
 (6, 3)
 
-The programs mpsim, mpsweep and mpedit do the work, in processes of their own: nothing here simulates, and nothing here is proved. What a call
-takes and raises stands in its own text; `docs/PYTHON.md` begins with tasks.
+The programs mpsim, mpsweep and mpedit do the work, in separate processes: nothing in this package simulates, and nothing in it is proved. The help of
+each function says what it takes and raises; `docs/PYTHON.md` is organised by task.
 
-Times are whole ticks, from 0; what a tick is, is up to who writes the trace.
+Times are whole ticks, from 0. A tick is whatever unit the trace uses.
 """
 
 import os as _os
@@ -17,7 +17,7 @@ import os as _os
 
 
 def _version():
-    """What VERSION says: beside the package where it is installed, at the top of a clone."""
+    """Returns the content of VERSION: next to the installed package, or at the top of a clone."""
     here = _os.path.dirname(_os.path.abspath(__file__))
     for folder in here, _os.path.join(here, "..", "..", ".."):
         file = _os.path.join(folder, "VERSION")
@@ -29,8 +29,8 @@ def _version():
 
 __version__ = _version()
 
-# The module of each name. (No module is called as one of them: reading it would put it in that place.) It is read when one of its names is first
-# asked for, so that the commands of the wheel start without the rest.
+# The module of each name, imported when the name is first used, so that the wheel's commands start quickly. (No module has the name of one of these,
+# since importing it would replace that name.)
 _MODULES = {
     "run": "runs",
     "made": "runs",

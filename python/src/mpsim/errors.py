@@ -1,4 +1,4 @@
-"""How a program ended that wrote no report, as exceptions: a class a status. docs/ERRORS.md has every line with its cause."""
+"""Exceptions for programs that end without a report: one class per status. docs/ERRORS.md lists every error line with its cause."""
 
 import contextlib
 import os
@@ -7,20 +7,20 @@ import signal
 
 
 class Error(Exception):
-    """A program refused what it was given, or failed.
+    """A program rejected its input, or failed.
 
-    `told` (str) is the line that the program wrote, byte for byte, with its name and without the line feed; "" where it wrote none. Bytes that
-    aren't UTF-8 stand in it as Python's surrogateescape has them. `status` (int or None) is the program's status, below 0 the number of the signal
-    that ended it, None where none ran to its end. `file` is the path of the file that the line speaks of, as the caller gave it; None where that
-    was no path. `source` (str or None) is the faulty line of the model or of the edits, or the faulty record of the trace, as the file has it. The
-    numbers of the line are attributes of int: `line`, `word`, `record`, `field` from 1, `input`, `position` from 0, `time` in ticks, `visits`; and
-    `column`, `node` of str. One that the line hasn't is None; `column` is also there where the line has the number of a field.
+    `told` (str) is the line that the program wrote, byte for byte, with the program's name and without the line feed; "" if it wrote none. Bytes that
+    aren't UTF-8 are kept as in Python's surrogateescape. `status` (int or None) is the program's status; negative if a signal of that number ended
+    it, None if no program ran to its end. `file` is the path of the file named in the line, as the caller gave it; None if it wasn't a path. `source`
+    (str or None) is the invalid line of the model or of the edits, or the invalid record of the trace. The values in the line are attributes: the
+    numbers (int) `line`, `word`, `record` and `field` from 1, `input` and `position` from 0, `time` in ticks, and `visits`; and the names (str)
+    `column` and `node`. Those that the line doesn't contain are None, except that `column` is also set when the line has the number of a field.
 
     >>> import mpsim
     >>> try:
     ...     mpsim.run("model 1\\nsource Door\\n", [])
-    ... except mpsim.ModelError as fault:
-    ...     print(fault.told, fault.line, fault.word, fault.source, sep="; ")
+    ... except mpsim.ModelError as error:
+    ...     print(error.told, error.line, error.word, error.source, sep="; ")
     mpsim: model line 2: word 2 not allowed; 2; 2; source Door
     """
 
@@ -33,7 +33,7 @@ class Error(Exception):
             setattr(self, name, numbers.get(name))
 
     def __str__(self):
-        """What happened, with the file, the name of the column, and below it the faulty line, with a mark under its word."""
+        """Returns the error with its file and column, followed by the invalid line with its word marked."""
         text = f"{self.file}: {self.why}" if self.file else self.why
         if self.field and self.column:
             text += f" (column {self.column})"
@@ -42,39 +42,39 @@ class Error(Exception):
         return "\n    ".join([text, self.source, *_mark(self.source, self.word)])
 
     def __reduce__(self):
-        # So that it comes out of a pool of processes as it went in.
+        # Lets a pool of processes pass the exception on unchanged.
         return _again, (type(self), self.why, vars(self))
 
 
 def _again(kind, why, attributes):
-    fault = kind(why)
-    vars(fault).update(attributes)
-    return fault
+    error = kind(why)
+    vars(error).update(attributes)
+    return error
 
 
 def _mark(source, word):
-    """A line of marks below this word of a line; one more than there are stands behind its end."""
+    """Returns a line that marks this word of a line; a word past the last is marked after the end."""
     if word is None or not source.replace("\t", " ").isprintable():
         return []
-    spans = [it.span() for it in re.finditer(r"[^ \t]+", source)] + [(len(source) + 1, len(source) + 2)]
+    spans = [found.span() for found in re.finditer(r"[^ \t]+", source)] + [(len(source) + 1, len(source) + 2)]
     begin, end = spans[min(word, len(spans)) - 1]
     return [re.sub(r"[^\t]", " ", source[:begin]).ljust(begin) + "^" * (end - begin)]
 
 
 class UsageError(Error, ValueError):
-    """Status 2 or 12: an option's value, or a path that isn't UTF-8."""
+    """Status 2 or 12: an option has an invalid value, or a path isn't UTF-8."""
 
 
 class ModelError(Error, ValueError):
-    """Status 3: the model is refused. (Of a sweep also: a file is too long.)"""
+    """Status 3: the model is invalid (or, in a sweep, a file is too long)."""
 
 
 class TraceError(Error, ValueError):
-    """Status 4: the trace is refused."""
+    """Status 4: the trace is invalid."""
 
 
 class BoundError(Error):
-    """Status 5: a departure passes the model's bound. `node`, `position` and `time` say which, and when it would be."""
+    """Status 5: a departure exceeds the model's bound. `node`, `position` and `time` identify it."""
 
 
 class ReadError(Error, OSError):
@@ -86,30 +86,30 @@ class WriteError(Error, OSError):
 
 
 class OutOfMemory(Error, MemoryError):
-    """Status 8: the program has no memory."""
+    """Status 8: the program ran out of memory."""
 
 
 class VisitsError(Error):
-    """Status 9: a node has too many visits. `node` and `visits` say which, and how many."""
+    """Status 9: a node has too many visits. `node` names it, and `visits` is their number."""
 
 
 class EditsError(Error, ValueError):
-    """Status 10: the edits are refused."""
+    """Status 10: the edits are invalid."""
 
 
 class ProgramError(Error):
-    """A program isn't there, can't be started, was ended by a signal, or ended with a status that isn't its own."""
+    """A program is missing, can't be started, was ended by a signal, or ended with an unknown status."""
 
 
 class TimedOut(Error, TimeoutError):
-    """A program wasn't done within the seconds that it was given, and was ended."""
+    """A program exceeded its timeout and was ended."""
 
 
 class ReportError(ValueError):
-    """A text is no report: it is cut, altered, or of another form. `line` (int, from 1) is where, `found` (str) what stands there, `file` the path,
-    where one was read, else None."""
+    """A text isn't a report: it is cut off, altered, or in another form. `line` (int, from 1) is the place, `found` (str) the text there, `file` the
+    path if a file was read, else None."""
 
-    def __init__(self, line, found, why="is no line of a report", file=None):
+    def __init__(self, line, found, why="is not a line of a report", file=None):
         super().__init__(line, found, why, file)
         self.line, self.found, self.why, self.file = line, found, why, file
 
@@ -120,11 +120,11 @@ class ReportError(ValueError):
 
 @contextlib.contextmanager
 def read_from(path):
-    """Has a ReportError of the block name the file that is read."""
+    """Adds the path of the file to a ReportError raised in the block."""
     try:
         yield
-    except ReportError as fault:
-        raise ReportError(fault.line, fault.found, fault.why, path) from None
+    except ReportError as error:
+        raise ReportError(error.line, error.found, error.why, path) from None
 
 
 KINDS = {
@@ -139,13 +139,13 @@ KINDS = {
     10: EditsError,
     12: UsageError,
 }
-# What a program takes, in the order of its words, by the names that its lines have for it. In those of mpsweep files have numbers.
+# The inputs of each program, in the order of its arguments, by the names that its error lines use. mpsweep numbers its files.
 ROLES = {"mpsim": ("model", "trace"), "mpedit": ("model", "trace", "edits"), "mpsweep": ()}
 
 
 def error_of(program, status, told, inputs=()):
-    """The exception for a status that isn't 0 and for the text of the error output. Inputs are those of the program's words, in their order (they
-    have `path`, `line` and `record`); the faulty line is read there."""
+    """Returns the exception for a non-zero status and the text on stderr. `inputs` are those among the program's arguments, in order (with `path`,
+    `line` and `record`), from which the invalid line is read."""
     told = told[:-1] if told.endswith("\n") else told
     if status < 0:
         return ProgramError(f"{program} was ended by {_signal(-status)}", told, status)
@@ -169,24 +169,24 @@ def error_of(program, status, told, inputs=()):
 
 
 def _signal(number):
-    """The name of a signal, with what it may come of."""
+    """Returns the name of a signal and its likely cause."""
     name = signal.Signals(number).name if number in set(signal.Signals) else f"signal {number}"
-    causes = {"SIGILL": ": the processor lacks what x86-64-v2 has", "SIGKILL": ", perhaps for want of memory"}
+    causes = {"SIGILL": ": the processor doesn't support x86-64-v2", "SIGKILL": ", perhaps for lack of memory"}
     return name + causes.get(name, "")
 
 
 def _numbers(why):
-    """The numbers and names of a line."""
+    """Returns the numbers and names in an error line."""
     found = {name: int(value) for name, value in re.findall(r"\b(line|word|record|field|input|position) (\d+)", why)}
     for name, pattern in ("time", r"\bat time (\d+)"), ("visits", r"^node \w+ has (\d+) visits"):
-        found.update({name: int(it) for it in re.findall(pattern, why)})
+        found.update({name: int(found) for found in re.findall(pattern, why)})
     for name, pattern in ("node", r"^node (\w+) (?:position|has) "), ("column", r"^trace header: column (\w+) missing"):
-        found.update({name: it for it in re.findall(pattern, why)})
+        found.update({name: text for text in re.findall(pattern, why)})
     return found
 
 
 def _input_of(program, why, inputs):
-    """The input that a line speaks of, or None."""
+    """Returns the input that an error line refers to, or None."""
     found = re.match(r"(?:cannot read )?(?:the )?(?:file (\d+)|(model|trace|edits)\b)", why)
     if not found:
         return None

@@ -1,4 +1,4 @@
-"""What is handed to a program: files by their paths, and all else written into memory, where it has a name below /proc."""
+"""Passes inputs to a program: files by their paths, everything else through memory, which has a name under /proc."""
 
 import contextlib
 import csv
@@ -12,8 +12,8 @@ from .model import Model, columns
 
 
 class Set(NamedTuple):
-    """An edit: record `record` (int, from 1 behind the header) becomes one of this source (str), time (int, ticks) and values (a tuple of int, in
-    the order in which the model names columns first).
+    """An edit that replaces record `record` (int, from 1 after the header) by one with this source (str), time (int, ticks) and values (tuple of int,
+    in the order in which the model first names the columns).
 
     >>> import mpsim
     >>> str(mpsim.Set(10, "web", 20, (1, 1, 4)))
@@ -30,7 +30,8 @@ class Set(NamedTuple):
 
 
 class Add(NamedTuple):
-    """An edit: one record more behind all others, of this source (str), time (int, ticks) and values (a tuple of int, as those of `Set`).
+    """An edit that appends a record with this source (str), time (int, ticks) and values (tuple of int, in the order in which the model first names
+    the columns).
 
     >>> import mpsim
     >>> str(mpsim.Add("src", 3, (2,)))
@@ -46,15 +47,15 @@ class Add(NamedTuple):
 
 
 def _row_of(edit):
-    """The words of an edit's row: the source, the time and the values."""
+    """Returns the words of an edit's row: the source, the time and the values."""
     if isinstance(edit.values, (str, bytes, Mapping)) or not isinstance(edit.values, Iterable):
-        raise TypeError(f"the values of an edit are numbers, in the order of the model's columns, and no {type(edit.values).__name__}: {edit!r}")
+        raise TypeError(f"the values of an edit are numbers, in the order of the model's columns, not {type(edit.values).__name__}: {edit!r}")
     return [edit.source, _whole(edit.time), *map(_whole, edit.values)]
 
 
 def records_of(lines):
-    """Pairs of a record's text (str), with the ends of its lines, and its fields (list of str), of the lines of a trace, from the header on, as the
-    program has them: empty lines are none. Raises csv.Error where Python's reader takes a field for none."""
+    """Yields pairs of a record's text (str), including line ends, and its fields (list of str), from the lines of a trace, starting with the header.
+    Empty lines are skipped, as in the program. Raises csv.Error if Python's reader can't parse a field."""
     kept = []
 
     def each():
@@ -69,20 +70,20 @@ def records_of(lines):
 
 
 class _Line:
-    """In place of a file for a writer of CSV, which gives back what this does: the text of a row."""
+    """Replaces the file of a CSV writer, which then returns the text of a row."""
 
     write = staticmethod(str)
 
 
 def row_writer():
-    """What makes the text of a row of CSV, without its end. By the end that is cut off carriage returns in a field are quoted too, by each version of
-    Python."""
+    """Returns a function that makes the text of a CSV row, without its line end. The line end that is cut off makes every version of Python quote
+    carriage returns too."""
     write = csv.writer(_Line, lineterminator="\r\n").writerow
     return lambda row: write(row)[:-2]
 
 
 class Input:
-    """A file for a program: a path as it was given, or what `write` puts into a file of bytes in memory, until `close`."""
+    """A file for a program: a given path, or what `write` puts into a file in memory, which lasts until `close`."""
 
     def __init__(self, path=None, write=None):
         self.path, self._memory = path, None
@@ -97,22 +98,22 @@ class Input:
 
     @property
     def word(self):
-        """The name for the program. One that begins with a dash would be an option."""
+        """The name to give to the program. A leading dash would make it an option."""
         if self._memory is not None:
             return f"/proc/self/fd/{self._memory}"
         return f"./{self.path}" if self.path.startswith("-") else self.path
 
     @property
     def handles(self):
-        """The open files that the program has to have: the memory, or the one that a path as /dev/fd/63 names, which a shell makes of <(command)."""
+        """The open files that the program must inherit: the memory, or the one named by a path such as /dev/fd/63, which a shell makes for
+        <(command)."""
         if self._memory is not None:
             return [self._memory]
         found = re.fullmatch(r"/(?:dev|proc/self)/fd/(\d{1,9})", self.path)
         return [int(found[1])] if found and int(found[1]) > 2 else []
 
     def text(self):
-        """The text (str), where the file can be read again, as a pipe can't; else None. Bytes that aren't UTF-8 stand as they are
-        (surrogateescape)."""
+        """Returns the text (str) if the file can be read again, unlike a pipe; else None. Bytes that aren't UTF-8 are kept (surrogateescape)."""
         with contextlib.suppress(OSError, ValueError):
             if os.path.isfile(self.word):
                 with open(self.word, encoding="utf-8", errors="surrogateescape", newline="\n") as file:
@@ -120,13 +121,13 @@ class Input:
         return None
 
     def line(self, number):
-        """A line of a model or of edits, from 1, or None."""
+        """Returns a line of a model or of edits, from 1, or None."""
         text = self.text()
         lines = text.split("\n") if text else []
         return lines[number - 1].removesuffix("\r") if 0 < number <= len(lines) else None
 
     def _records(self):
-        """Pairs of a record's text and its fields, where the file can be read again."""
+        """Yields pairs of a record's text and its fields, if the file can be read again."""
         if os.path.isfile(self.word):
             with open(self.word, encoding="utf-8-sig", errors="surrogateescape", newline="") as file:
                 for text, fields in records_of(file):
@@ -138,24 +139,24 @@ class Input:
         return None
 
     def record(self, number):
-        """The text of a record of a trace, from 1, or of its header, 0, or None."""
+        """Returns the text of a record of a trace (from 1, the header is 0), or None."""
         found = self._record(number)
         return found and found[0]
 
     def column(self, field):
-        """The name of a column of a trace, from 1, or None."""
+        """Returns the name of a column of a trace, from 1, or None."""
         found = self._record(0)
         return found[1][field - 1] if found and field <= len(found[1]) else None
 
     def close(self):
-        """Lets the memory go."""
+        """Frees the memory."""
         if self._memory is not None:
             os.close(self._memory)
             self._memory = None
 
 
 def _given(value):
-    """An input of a text, bytes, or a path. A text of a model, a trace or edits has a line feed, and hardly a path has one."""
+    """Returns the input for a text, bytes or a path. Texts of models, traces and edits contain a line feed, and paths hardly ever do."""
     if isinstance(value, str) and "\n" in value:
         return Input(write=lambda file: file.write(value.encode(errors="surrogateescape")))
     if isinstance(value, (bytes, bytearray)):
@@ -168,12 +169,12 @@ def _is_given(value):
 
 
 def model_input(value):
-    """A model: a Model, a text (str with a line feed, or bytes), or a path."""
+    """Returns the input for a model: a Model, a text (str with a line feed, or bytes), or a path."""
     return _given(str(value) if isinstance(value, Model) else value)
 
 
 def model_text(value):
-    """The text (str) of a Model, a text, bytes, or the path of a file. Raises OSError where the file can't be read."""
+    """Returns the text (str) of a Model, a text, bytes, or a file's path. Raises OSError if the file can't be read."""
     with contextlib.closing(model_input(value)) as given:
         if given.path is not None:
             with open(given.path, encoding="utf-8", errors="surrogateescape", newline="\n") as file:
@@ -182,49 +183,50 @@ def model_text(value):
 
 
 def trace_input(value, model):
-    """A trace: a path, a text, a data frame, or rows; the model is an input too. Raises TypeError or ValueError where it is none of these."""
+    """Returns the input for a trace: a path, a text, a data frame, or rows; `model` is an input too. Raises TypeError or ValueError for anything
+    else."""
     if _is_given(value):
         return _given(value)
     if not isinstance(value, Iterable):
-        raise TypeError(f"a trace is a path, a text, a data frame or rows, and no {type(value).__name__}")
+        raise TypeError(f"a trace is a path, a text, a data frame or rows, not {type(value).__name__}")
     rows = _rows_of_frame(value) if hasattr(value, "columns") else _rows(iter(value), model)
     return Input(write=lambda file: _write_rows(file, rows))
 
 
 def edits_input(value):
-    """Edits: a path, a text, which may be empty, or a list of Set, Add and lines. Raises TypeError where it is none of these."""
+    """Returns the input for edits: a path, a text, which may be empty, or a list of Set, Add and lines. Raises TypeError for anything else."""
     if isinstance(value, str) and not value:
         return Input(write=lambda file: None)
     if _is_given(value):
         return _given(value)
     if isinstance(value, (Set, Add)) or not isinstance(value, Iterable):
-        raise TypeError(f"edits are a path, a text, or a list of Set and Add, and no {type(value).__name__}")
-    return Input(write=lambda file: file.writelines(f"{it}\n".encode() for it in map(_known_edit, value)))
+        raise TypeError(f"edits are a path, a text, or a list of Set and Add, not {type(value).__name__}")
+    return Input(write=lambda file: file.writelines(f"{item}\n".encode() for item in map(_known_edit, value)))
 
 
 def _known_edit(edit):
     if not isinstance(edit, (Set, Add, str)):
-        raise TypeError(f"an edit is a Set, an Add or a line, and no {type(edit).__name__}: {edit!r}")
+        raise TypeError(f"an edit is a Set, an Add or a line, not {type(edit).__name__}: {edit!r}")
     return edit
 
 
 def _first(names):
-    """Names of columns in the order that the program takes."""
-    return ["source", "time"] + [it for it in names if it not in ("source", "time")]
+    """Returns names of columns in the order that the program requires."""
+    return ["source", "time"] + [name for name in names if name not in ("source", "time")]
 
 
 def _rows_of_frame(frame):
-    """The header and the rows of a data frame of pandas or polars."""
+    """Returns the header and the rows of a pandas or polars data frame."""
     names = list(frame.columns)
     for name in "source", "time":
         if name not in names:
             raise ValueError(f"the frame has no column {name!r}: {names}")
     values = [frame[name] for name in _first(names)]
-    return itertools.chain([_first(names)], zip(*[it.tolist() if hasattr(it, "tolist") else it.to_list() for it in values]))
+    return itertools.chain([_first(names)], zip(*[value.tolist() if hasattr(value, "tolist") else value.to_list() for value in values]))
 
 
 def _rows(rows, model):
-    """The header and the rows of rows: mappings; or named tuples; or sequences, of which the first may be the header."""
+    """Returns the header and the rows of mappings, named tuples, or sequences, whose first may be the header."""
     first = next(rows, None)
     if isinstance(first, Mapping):
         header = _first(first)
@@ -237,13 +239,12 @@ def _rows(rows, model):
 
 def _of_mapping(row, header, number):
     if set(row) != set(header):
-        raise ValueError(f"trace record {number} has the columns {list(row)}, and those before it have {header}")
+        raise ValueError(f"trace record {number} has the columns {list(row)}, but those before it have {header}")
     return [row[name] for name in header]
 
 
 def _whole(value):
-    """A whole number of a column of floats, which one missing value makes of whole numbers, as a whole number. The program refuses all other
-    floats."""
+    """Converts whole floats to int: one missing value turns a whole column into floats. The program rejects all other floats."""
     return int(value) if isinstance(value, float) and value.is_integer() else value
 
 
@@ -251,13 +252,13 @@ def _write_rows(file, rows):
     text, line_of = _Text(file), row_writer()
     for number, row in enumerate(rows):
         if isinstance(row, (str, bytes)):
-            raise TypeError(f"trace record {number} is a text, and no row: {row!r}")
-        text.write(line_of([_whole(it) for it in row]) + "\n")
+            raise TypeError(f"trace record {number} is a text, not a row: {row!r}")
+        text.write(line_of([_whole(item) for item in row]) + "\n")
     text.flush()
 
 
 class _Text:
-    """Gathers the texts of rows, and writes them by the thousand."""
+    """Collects the texts of rows and writes them in batches."""
 
     def __init__(self, file):
         self.file, self.texts = file, []

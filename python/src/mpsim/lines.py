@@ -1,12 +1,12 @@
-"""The lines of a report, but for those of jobs, as named tuples. docs/REPORT.md has every word."""
+"""The lines of a report, except job lines, as named tuples. docs/REPORT.md explains every field."""
 
 from typing import NamedTuple, Optional
 
 
 class Node(NamedTuple):
-    """A line `node`: its name and kind (str), and numbers (int). Times are in ticks: `wait` is the sum of the waits, `max` the greatest, `p50`,
-    `p90` and `p99` percentiles of them; `busy` and `area` are sums over time. `in_` (the word `in`) counts the visits, `util` is a float, or None
-    for a node without servers. Form 1 has no percentiles, and of a model of version 1 no `held`: they are None there.
+    """A `node` line: its name and kind (str), and its numbers (int). Times are in ticks: `wait` is the sum of the waits, `max` the longest, `p50`,
+    `p90` and `p99` their percentiles; `busy` and `area` are sums over time. `in_` (the field `in`) counts the visits, `util` is a float, or None for
+    a node without servers. Form 1 has no percentiles, and a model of version 1 no `held`: they are None then.
 
     >>> import mpsim
     >>> desk = mpsim.run("model 1\\nsource door\\nserver desk =4 from door\\n", [("door", 0), ("door", 1)])["desk"]
@@ -32,22 +32,22 @@ class Node(NamedTuple):
 
     @property
     def mean_wait(self):
-        """The mean wait of the visits that departed (float, ticks), the field's Wq; None where none departed."""
+        """The mean wait of the visits that departed (float, ticks), known as Wq; None if none departed."""
         return self.wait / self.out if self.out else None
 
     @property
     def mean_time(self):
-        """The mean time in the node of the visits that departed (float, ticks), the field's W; None where none departed or some are held."""
+        """The mean time in the node of the visits that departed (float, ticks), known as W; None if none departed or some are held."""
         return self.area / self.out if self.out and not self.held else None
 
     @property
     def share_lost(self):
-        """The share of the visits that were lost (float); None where nobody came."""
+        """The share of the visits that were lost (float); None if there were none."""
         return self.lost / self.in_ if self.in_ else None
 
     def figure(self, name):
-        """A figure (int, float or None) by its name (str): a word of the line, as "p90" or "in", or `mean_wait`, `mean_time`, `share_lost`. Raises
-        AttributeError for another name.
+        """Returns a figure (int, float or None) by its name (str): a field of the line, such as "p90" or "in", or `mean_wait`, `mean_time` or
+        `share_lost`. Raises AttributeError for another name.
 
         >>> import mpsim
         >>> desk = mpsim.run("model 1\\nsource door\\nserver desk =4 from door\\n", [("door", 0), ("door", 1)])["desk"]
@@ -59,20 +59,20 @@ class Node(NamedTuple):
         return getattr(self, "in_" if name == "in" else name)
 
     def line(self):
-        """The line of the report (str), without its line feed."""
+        """Returns the line of the report (str), without its line feed."""
         words = (f"{word} {value}" for word, value in zip(NUMBERS, self[2:-1]) if value is not None)
         return f"node {self.name} {self.kind} {' '.join(words)} util {'-' if self.util is None else f'{self.util:.4f}'}"
 
 
-# The words of a node's numbers, as the line and frames have them.
-NUMBERS = [it.rstrip("_") for it in Node._fields[2:]]
-# What a node can be asked for.
+# The names of a node's numbers, as in the line and in data frames.
+NUMBERS = [field.rstrip("_") for field in Node._fields[2:]]
+# The names that `figure` takes.
 FIGURES = [*NUMBERS, "mean_wait", "mean_time", "share_lost"]
 
 
 class Exit(NamedTuple):
-    """A line `exit`: the node (str) and its output (int) that nobody reads, how many jobs left there (int), and the sum of their times in the
-    network (int, ticks)."""
+    """An `exit` line: the node (str) and its output (int) that no node reads, the number of jobs that left there (int), and the sum of their times in
+    the network (int, ticks)."""
 
     name: str
     output: int
@@ -81,7 +81,7 @@ class Exit(NamedTuple):
 
 
 class Again(NamedTuple):
-    """The last line of an edited report: so many of all blocks are done again (int)."""
+    """The last line of an edited report: how many of all blocks were computed again (int)."""
 
     done: int
     blocks: int

@@ -1,11 +1,12 @@
-"""Models: a builder that writes the text, texts that differ in a value, and which nodes and columns a text names. The program judges them."""
+"""Models: a builder that writes their text, texts that differ in values, and the nodes and columns in a text. The programs check models."""
 
 import itertools
+import re
 from typing import NamedTuple, Tuple
 
 
 class Output:
-    """An output of a node, which another node reads: `node[1]` is output 1 of the node whose output this is."""
+    """An output of a node, to be read by another node: `node[1]` is output 1 of the node whose output this is."""
 
     def __init__(self, name, number=0):
         self.name, self.number = name, number
@@ -13,7 +14,7 @@ class Output:
     def __getitem__(self, number):
         return Output(self.name, number)
 
-    # An output is no sequence of outputs.
+    # An output isn't a sequence of outputs.
     __iter__ = None
 
     def __str__(self):
@@ -24,16 +25,17 @@ class Output:
 
 
 def _demand(value):
-    """The word for a demand: a column's name, or a number of ticks."""
+    """Returns a service time as a model writes it: a column's name, or a number of ticks."""
     return value if isinstance(value, str) else f"={value}"
 
 
 class Model:
-    """A model, built line by line in the order of the calls (docs/MODEL.md has what each kind of node does).
+    """A model, built line by line in the order of the calls (docs/MODEL.md explains each kind of node).
 
-    `bound` (int) is the latest time of a departure, in ticks. Each call adds a node by its name (str) and gives the node's output 0; `node[1]` is
-    output 1. A demand is a column's name (str) or a number of ticks (int), places and servers are int, inputs are outputs of nodes, or their names
-    (str). `str(model)` is the text; it begins `model 2` where a node wants that. Nothing is refused here: `run` and the others raise ModelError.
+    `bound` (int) is the latest allowed departure, in ticks. Each call adds a node with a name (str) and returns its output 0; `node[1]` is output 1.
+    A service time (demand) is a column's name (str) or a number of ticks (int), places and servers are int, inputs are outputs of nodes or their
+    names (str). `str(model)` is the text; it begins with `model 2` if a node needs that. Nothing is checked here: `run` and the other calls raise
+    ModelError.
 
     >>> import mpsim
     >>> model = mpsim.Model(bound=1000)
@@ -51,30 +53,30 @@ class Model:
     def __init__(self, bound=None):
         self._lines, self._version = [] if bound is None else [f"bound {bound}"], 1
 
-    def _add(self, kind, name, asked, inputs, version=1):
+    def _add(self, kind, name, arguments, inputs, version=1):
         self._version = max(self._version, version)
-        words = [kind, name, *asked, *(["from", *inputs] if inputs else [])]
+        words = [kind, name, *arguments, *(["from", *inputs] if inputs else [])]
         self._lines.append(" ".join(map(str, words)))
         return Output(name)
 
     def source(self, name):
-        """The records of the trace that name it."""
+        """Adds a source: the records of the trace that name it."""
         return self._add("source", name, [], [])
 
     def server(self, name, demand, *inputs):
-        """One server, first come, first served."""
+        """Adds a single server, first come, first served."""
         return self._add("server", name, [_demand(demand)], inputs)
 
     def delay(self, name, demand, *inputs):
-        """Each job is served from its arrival on."""
+        """Adds a delay: each job is served from its arrival on, without waiting."""
         return self._add("delay", name, [_demand(demand)], inputs)
 
     def loss(self, name, places, demand, *inputs):
-        """One server with so many places, the job in service counted. Output 1 has the lost jobs."""
+        """Adds a single server with this many places, including the one in service. Output 1 has the lost jobs."""
         return self._add("loss", name, [places, _demand(demand)], inputs)
 
     def tandem(self, name, first, *stages_and_inputs):
-        """Servers in series, which block: the demand of the first, then a pair of places and demand for each other one, then the inputs.
+        """Adds servers in series with blocking: the service time of the first, a pair of places and service time for each other one, then the inputs.
 
         >>> import mpsim
         >>> model = mpsim.Model()
@@ -82,14 +84,14 @@ class Model:
         >>> str(model).splitlines()[-1]
         'tandem desk ask / 1 write / 4 =2 from door'
         """
-        stages = [it for it in stages_and_inputs if isinstance(it, tuple)]
-        asked = [_demand(first)]
+        stages = [stages_and_input for stages_and_input in stages_and_inputs if isinstance(stages_and_input, tuple)]
+        arguments = [_demand(first)]
         for places, demand in stages:
-            asked += ["/", places, _demand(demand)]
-        return self._add("tandem", name, asked, [it for it in stages_and_inputs if not isinstance(it, tuple)])
+            arguments += ["/", places, _demand(demand)]
+        return self._add("tandem", name, arguments, [item for item in stages_and_inputs if not isinstance(item, tuple)])
 
     def forkjoin(self, name, branches, *inputs):
-        """A job goes through all branches at once; a branch is a list of demands.
+        """Adds a fork-join station: a job goes through all branches at once; a branch is a list of service times.
 
         >>> import mpsim
         >>> model = mpsim.Model()
@@ -97,12 +99,12 @@ class Model:
         >>> str(model).splitlines()[-1]
         'forkjoin both a | b =2 from parts'
         """
-        asked = [word for branch in branches for word in ["|", *map(_demand, branch)]]
-        return self._add("forkjoin", name, asked[1:], inputs)
+        arguments = [word for branch in branches for word in ["|", *map(_demand, branch)]]
+        return self._add("forkjoin", name, arguments[1:], inputs)
 
     def split(self, name, *inputs, turn=None, mod=None, cut=None):
-        """Sends each job to one output: by `turn=outputs`, by `mod=(outputs, column)`, or by `cut=(column, threshold, ..)`. Raises TypeError where
-        it isn't one of these.
+        """Adds a split, which sends each job to one output: by `turn=outputs`, by `mod=(outputs, column)`, or by `cut=(column, threshold, ..)`.
+        Raises TypeError unless exactly one of them is given.
 
         >>> import mpsim
         >>> model = mpsim.Model()
@@ -110,21 +112,21 @@ class Model:
         >>> str(model).splitlines()[-1]
         'split menu cut kind 1 5 from calls'
         """
-        if sum(it is not None for it in (turn, mod, cut)) != 1:
+        if sum(item is not None for item in (turn, mod, cut)) != 1:
             raise TypeError("a split takes one of turn, mod and cut")
-        asked = [turn, "turn"] if turn is not None else ["cut", *cut] if cut is not None else [mod[0], "mod", mod[1]]
-        return self._add("split", name, asked, inputs)
+        arguments = [turn, "turn"] if turn is not None else ["cut", *cut] if cut is not None else [mod[0], "mod", mod[1]]
+        return self._add("split", name, arguments, inputs)
 
     def fork(self, name, outputs, *inputs):
-        """Each job goes on by each of so many outputs."""
+        """Adds a fork: each job continues on each of this many outputs."""
         return self._add("fork", name, [outputs], inputs, 2)
 
     def join(self, name, *inputs):
-        """Keeps what comes until of one job something has come by each input."""
+        """Adds a join: it keeps each part of a job until a part has arrived at each input."""
         return self._add("join", name, [], inputs, 2)
 
     def trunk(self, name, servers, demand, *inputs):
-        """So many servers, and nobody waits. Output 1 has the lost jobs."""
+        """Adds a trunk group with this many servers and no queue. Output 1 has the lost jobs."""
         return self._add("trunk", name, [servers, _demand(demand)], inputs, 2)
 
     def __str__(self):
@@ -132,8 +134,8 @@ class Model:
 
 
 def variants(text, **values):
-    """Models that differ in values: a dict of texts (str), one for each combination, in which `{name}` of the text is replaced as by `str.format`.
-    The keys are the values, or tuples of them where there are several names. Raises KeyError for a name that has no values.
+    """Returns models that differ in values: a dict of texts (str), one per combination, in which `{name}` is replaced as by `str.format`. The keys
+    are the values, or tuples of them if there are several names. Raises KeyError for a name without values.
 
     >>> import mpsim
     >>> models = mpsim.variants("model 2\\nsource calls\\ntrunk lines {lines} hold from calls\\n", lines=range(20, 23))
@@ -147,7 +149,7 @@ def variants(text, **values):
     return found
 
 
-# Of the words between a node's name and its inputs: those that may be columns. Numbers and signs aren't, since a column begins with a letter.
+# Which of the words between a node's name and its inputs may be columns. Numbers and signs aren't, since a column begins with a letter.
 _COLUMNS = {
     "server": slice(0, None),
     "delay": slice(0, None),
@@ -159,58 +161,61 @@ _COLUMNS = {
 
 
 def columns(text):
-    """The columns that a model's text names (list of str), in the order in which it names them first: that of a record's values in an edit, and in
-    a row without a header."""
+    """Returns the columns that a model names (list of str), in the order in which it first names them. Values of a record in an edit, and of a row
+    without a header, have the same order."""
     found = {}
     for line in text.split("\n"):
         words = line.split()
-        asked = words[2 : words.index("from") if "from" in words else len(words)]
+        arguments = words[2 : words.index("from") if "from" in words else len(words)]
         if words[:1] == ["split"]:
-            asked = asked[1:2] if asked[:1] == ["cut"] else asked[2:]
+            arguments = arguments[1:2] if arguments[:1] == ["cut"] else arguments[2:]
         else:
-            asked = asked[_COLUMNS.get(words[0] if words else "", slice(0, 0))]
-        found.update({it: None for it in asked if it[0].isalpha()})
+            arguments = arguments[_COLUMNS.get(words[0] if words else "", slice(0, 0))]
+        found.update({argument: None for argument in arguments if argument[0].isalpha()})
     return list(found)
 
 
 class ModelNode(NamedTuple):
-    """A node as a model's text has it: its name and kind (str), the words between its name and its inputs (str), how many outputs it has (int), and
-    its inputs, each the name of a node and the number of an output (tuples of str and int)."""
+    """A node in a model's text: its name and kind (str), the words between its name and its inputs (str), its number of outputs (int), and its
+    inputs, each the name of a node and the number of an output (tuples of str and int)."""
 
     name: str
     kind: str
-    asked: str
+    arguments: str
     outputs: int
     inputs: Tuple[Tuple[str, int], ...]
 
 
 def nodes_of(text):
-    """The nodes of a model's text that mpsim accepts (list of ModelNode), in the order of its lines. Of another text it may tell anything, or raise
-    ValueError."""
+    """Returns the nodes of a model that mpsim accepts (list of ModelNode), in the order of its lines. For another text the result is undefined, or it
+    raises ValueError."""
     nodes = []
     for line in text.split("\n"):
         words = line.split()
         if not words or words[0].startswith("#") or words[0] in ("model", "bound"):
             continue
         if len(words) == 1:
-            raise ValueError(f"{line.strip()!r} is no line of a model")
+            raise ValueError(f"{line.strip()!r} is not a line of a model")
         begin = words.index("from") if "from" in words else len(words)
-        kind, asked = words[0], words[2:begin]
-        inputs = [it.partition(".") for it in words[begin + 1 :]]
-        nodes.append(ModelNode(words[1], kind, " ".join(asked), _outputs(kind, asked), tuple((it, int(number or 0)) for it, _, number in inputs)))
+        kind, arguments = words[0], words[2:begin]
+        inputs = [word.partition(".") for word in words[begin + 1 :]]
+        read = tuple((name, int(number or 0)) for name, _, number in inputs)
+        nodes.append(ModelNode(words[1], kind, " ".join(arguments), _outputs(kind, arguments), read))
     return nodes
 
 
-def _outputs(kind, asked):
+def _outputs(kind, arguments):
     if kind in ("loss", "trunk"):
         return 2
-    if kind in ("fork", "split") and asked:
-        return len(asked) - 1 if asked[0] == "cut" else int(asked[0])
+    if kind in ("fork", "split") and arguments:
+        # A number that mpsim rejects must not take memory here.
+        count = int(arguments[0]) if re.fullmatch(r"\d{1,3}", arguments[0], re.ASCII) else 1
+        return len(arguments) - 1 if arguments[0] == "cut" else count
     return 1
 
 
 def sources(text):
-    """The sources that a model's text declares (list of str), in the order of their lines, which is the one in which their records go at one time.
+    """Returns the sources that a model declares (list of str), in the order of their lines, which decides between records at equal times.
 
     >>> sources("model 1\\nsource phone\\nserver desk talk from phone web\\nsource web\\n")
     ['phone', 'web']

@@ -1,4 +1,4 @@
-"""A program that runs, and how it ends: nothing of it is left, whatever happens."""
+"""Runs a program and cleans up after it, however it ends."""
 
 import contextlib
 import os
@@ -11,24 +11,24 @@ from .errors import ProgramError, ReportError, TimedOut, error_of
 
 
 class Running:
-    """A program that runs in a block. Its output is `stream`. Behind the block it has ended, by itself or killed: also where the block is left by
-    an exception, by Ctrl-C, or before all is read. Leaving raises what the program told, where its status is none of `fine`.
+    """Runs a program within a block; its output is `stream`. At the end of the block it has ended, by itself or killed, even if an exception or
+    Ctrl-C ends the block or not everything was read. Leaving the block raises the program's error unless its status is one of `fine`.
 
-    `timeout` (seconds, int or float, or None) is counted from the start of the program to its end."""
+    `timeout` (seconds, int or float, or None) counts from the start of the program to its end."""
 
     def __init__(self, name, words, inputs, fine=(0,), timeout=None):
         self.name, self.inputs, self.fine = name, inputs, fine
         self._process = self._timer = None
         self._is_late = self._is_killed = False
         file = programs.find(name)
-        # The error output goes into memory, where it can't fill a pipe that nobody reads.
+        # stderr goes to memory, where it can't fill a pipe that nobody reads.
         self._errors = os.memfd_create("mpsim-errors")
         try:
             self._process = subprocess.Popen(
                 [file, *words],
                 stdout=subprocess.PIPE,
                 stderr=self._errors,
-                pass_fds=[handle for it in inputs for handle in it.handles],
+                pass_fds=[handle for item in inputs for handle in item.handles],
                 env=programs.surroundings(),
             )
             self.stream = self._process.stdout
@@ -36,9 +36,9 @@ class Running:
                 self._timer = threading.Timer(timeout, self._late)
                 self._timer.daemon = True
                 self._timer.start()
-        except OSError as fault:
+        except OSError as error:
             self._clear()
-            raise ProgramError(f"{file} can't be started: {fault.strerror}") from fault
+            raise ProgramError(f"{file} can't be started: {error.strerror}") from error
         except BaseException:
             self._clear()
             raise
@@ -47,39 +47,39 @@ class Running:
         return self
 
     def __exit__(self, kind, value, trace):
-        told = ""
+        message = ""
         try:
             self._settle(kind)
-            told = os.pread(self._errors, os.fstat(self._errors).st_size, 0).decode(errors="surrogateescape")
+            message = os.pread(self._errors, os.fstat(self._errors).st_size, 0).decode(errors="surrogateescape")
         finally:
             self._clear()
         if kind is None or issubclass(kind, ReportError):
-            self._judge(told)
+            self._judge(message)
 
     def _settle(self, kind):
-        """Waits for the end of the program, where it goes towards one, and kills it where it doesn't."""
+        """Waits for the program if it is about to end, else kills it."""
         if kind is None:
             if self.stream.read(1):
-                # Nobody wants the rest.
+                # Nobody needs the rest.
                 self._kill()
             self._process.wait()
         elif issubclass(kind, ReportError):
-            # A program that dies leaves its report cut; how it died is to be told, and it is about to.
+            # A program that dies leaves its report cut off. Wait a moment for its end, so as to report how it died.
             with contextlib.suppress(subprocess.TimeoutExpired):
                 self._process.wait(1)
 
-    def _judge(self, told):
-        """Raises what the program's end asks for."""
+    def _judge(self, message):
+        """Raises the error that the program's end implies."""
         status = self._process.returncode
         if self._is_late and status == -signal.SIGKILL:
-            raise TimedOut(f"{self.name} was ended, since its time was out", told, status) from None
+            raise TimedOut(f"{self.name} was ended: its timeout has passed", message, status) from None
         if self._is_killed:
             return
         if status == -signal.SIGINT:
-            # At a terminal Ctrl-C ends both, and the end of the program may be seen first.
+            # At a terminal Ctrl-C ends both, and the program's end may be noticed first.
             raise KeyboardInterrupt
         if status not in self.fine:
-            raise error_of(self.name, status, told, self.inputs) from None
+            raise error_of(self.name, status, message, self.inputs) from None
 
     def _late(self):
         self._is_late = True
@@ -91,7 +91,7 @@ class Running:
         self._process.kill()
 
     def _clear(self):
-        """Ends the program, where it still runs, and lets go of all that was opened for it."""
+        """Ends the program if it still runs, and closes everything opened for it."""
         if self._timer is not None:
             self._timer.cancel()
         if self._process is not None:

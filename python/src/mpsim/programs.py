@@ -1,63 +1,78 @@
-"""Where the three programs are, what they are run with, and the commands of the wheel that become them."""
+"""Finds the three programs, sets up their environment, and provides the wheel's commands, which answer --help and --version."""
 
 import os
 import resource
 import shutil
 import sys
 
+from . import __version__
 from .errors import ProgramError
 
 HERE = os.path.dirname(os.path.abspath(__file__))
-# As tools/memory.sh has them: the C library takes memory in large pieces, on huge pages where the system gives them, which spares a quarter of the
-# time of a million records. They change no byte of a report. Where the address space has a limit, of which they would take 64 MB at once, the last
-# alone is set: heaps of their own, which threads would have, may take more of it than the run needs.
+# The same settings as in tools/memory.sh: the C library takes memory in large pieces, on huge pages if possible, which saves a quarter of the time
+# for a million records. They don't change the report. If the address space is limited, of which they would take 64 MB at once, only the last one is
+# set: separate heaps for threads could take more memory than the run needs.
 TUNABLES = ":".join(
-    f"glibc.malloc.{it}" for it in ("hugetlb=1", "mmap_threshold=1073741824", "trim_threshold=1073741824", "top_pad=67108864", "arena_max=1")
+    f"glibc.malloc.{item}" for item in ("hugetlb=1", "mmap_threshold=1073741824", "trim_threshold=1073741824", "top_pad=67108864", "arena_max=1")
 )
 ONE_HEAP = "glibc.malloc.arena_max=1"
 
 
 def find(name):
-    """The file of a program (str): in the folder that MPSIM_PROGRAMS names; else in the wheel, in the clone around this file, or on the path.
-    Raises ProgramError where there is none. A clone's program isn't built here: its script, as ./mpsim, does that."""
-    asked = os.environ.get("MPSIM_PROGRAMS")
+    """Returns the path of a program (str): in the directory that MPSIM_PROGRAMS names; else in the wheel, in the clone around this file, or on the
+    PATH. Raises ProgramError if it isn't found. A clone's programs are built by build.py, not here."""
+    given = os.environ.get("MPSIM_PROGRAMS")
     clone = os.path.join(HERE, "..", "..", "..", "crates", name, "out")
-    for folder in [asked] if asked else [os.path.join(HERE, "bin"), clone]:
+    for folder in [given] if given else [os.path.join(HERE, "bin"), clone]:
         file = os.path.abspath(os.path.join(folder, name))
         if os.path.isfile(file) and os.access(file, os.X_OK):
             return file
-    found = None if asked else shutil.which(name)
+    found = None if given else shutil.which(name)
     if found is None:
-        where = asked or f"this package, in a clone around it (where ./{name} builds it), or on the path"
-        raise ProgramError(f"there is no program {name} in {where}; MPSIM_PROGRAMS names a folder that has it")
+        where = given or f"this package, in a clone around it (where ./build.py {name} builds it), or on the PATH"
+        raise ProgramError(f"no program {name} in {where}; set MPSIM_PROGRAMS to a directory that has it")
     return found
 
 
 def surroundings():
-    """The environment of a program: this one's, with settings of memory where it has none."""
+    """Returns the environment of a program: this process's, with memory settings unless it already has some."""
     is_free = resource.getrlimit(resource.RLIMIT_AS)[0] == resource.RLIM_INFINITY
     return {"GLIBC_TUNABLES": TUNABLES if is_free else ONE_HEAP, **os.environ}
 
 
+def _answer(name):
+    """Prints the help or the version if the only argument asks for it, and returns whether it does, as the scripts of a clone and of a release do."""
+    if sys.argv[1:] == ["--help"]:
+        with open(os.path.join(HERE, "help", f"{name}.txt"), encoding="ascii") as text:
+            print(text.read(), end="")
+    elif sys.argv[1:] == ["--version"]:
+        print(name, __version__)
+    else:
+        return False
+    return True
+
+
 def _become(name):
-    # The program takes the place of this process, so that its signals, pipes and status are the command's own.
+    if _answer(name):
+        return
+    # The program replaces this process, so that signals, pipes and the status are its own.
     try:
         file = find(name)
-    except ProgramError as fault:
-        sys.exit(str(fault))
+    except ProgramError as error:
+        sys.exit(str(error))
     os.execve(file, [name, *map(os.fsencode, sys.argv[1:])], surroundings())
 
 
 def mpsim():
-    """The command mpsim of the wheel."""
+    """Runs the wheel's command mpsim."""
     _become("mpsim")
 
 
 def mpsweep():
-    """The command mpsweep of the wheel."""
+    """Runs the wheel's command mpsweep."""
     _become("mpsweep")
 
 
 def mpedit():
-    """The command mpedit of the wheel."""
+    """Runs the wheel's command mpedit."""
     _become("mpedit")

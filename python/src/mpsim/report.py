@@ -1,4 +1,4 @@
-"""Reports: the one reader of their text, which refuses what is cut or altered, and what is asked of them. docs/REPORT.md has every word."""
+"""Reports: the only reader of their text, which rejects cut or altered ones, and their figures. docs/REPORT.md explains every field."""
 
 import contextlib
 import io
@@ -10,11 +10,11 @@ from .lines import NUMBERS, Again, Exit, Node
 from .model import nodes_of
 from .node_visits import FIELDS, HELD, LOST, NodeVisits, Visits
 
-# Bytes of job lines that are read at a time.
+# The number of bytes of job lines read at a time.
 CHUNK = 1 << 19
 N, NAME = r"(0|[1-9]\d*)", r"([a-z][a-z0-9_]{0,31})"
 KIND = "source|server|delay|loss|tandem|forkjoin|split|fork|join|trunk"
-# The lines of a report, but for those of jobs.
+# The lines of a report, except job lines.
 LINES = {
     name: re.compile(text.replace("NAME", NAME).replace("KIND", KIND).replace("N", N) + "\n", re.ASCII)
     for name, text in {
@@ -26,21 +26,21 @@ LINES = {
     }.items()
 }
 JOB = re.compile(rf"job {N} {NAME} arrive {N} (?:wait {N} depart {N}|lost|held)".encode())
-# A line of a visit that departed, without its node, its numbers and its line feed; without letters.
+# The line of a visit that departed, without its node, its numbers and its line feed; then without letters.
 STAND_INS = (b" lost\n", b" wait -1 depart -1\n"), (b" held\n", b" wait -2 depart -2\n")
 SHAPE, DIGITS, LETTERS = b"job   wait  depart \n", b"0123456789-", b"abdeijoprtw"
 
 
 class Report:
-    """What a run tells.
+    """The report of a run.
 
-    `form` (1 or 2), `jobs` (int) and `span` (int, ticks) are those of its first lines; `nodes` (a tuple of Node) and `exits` (a tuple of Exit) are
-    in the order of the lines. `report["desk"]` is the node of a name, KeyError where there is none, and `"desk" in report` whether there is one.
-    `visits` (Visits) is None unless the lines of the jobs are there. `again` (Again) is None but for an edit. `str(report)` is the text without the
-    lines of the jobs; `lines()` has all.
+    `form` (1 or 2), `jobs` (int) and `span` (int, ticks) are those of its first lines; `nodes` (tuple of Node) and `exits` (tuple of Exit) are in the
+    order of the lines. `report["desk"]` is the node of that name (KeyError if there is none), and `"desk" in report` tests for it. `visits` (Visits)
+    is None unless the report has job lines. `again` (Again) is None except after an edit. `str(report)` is the text without job lines; `lines()` has
+    everything.
 
-    `model` is the model's text (str), of which a page has the network: a report doesn't say who reads whom. A run knows it; one that is read has it
-    where it is given, and else None. Where its nodes aren't those of the report, setting it raises ValueError.
+    `model` is the model's text (str), which a page needs to draw the network, since a report doesn't say how nodes are connected. Reports from a run
+    have it; reports read from a file have it only if it was given, else None. Setting it raises ValueError if its nodes aren't those of the report.
 
     >>> import mpsim
     >>> report = mpsim.run("model 1\\nsource door\\nserver desk =4 from door\\n", [("door", 0), ("door", 1)])
@@ -57,7 +57,7 @@ class Report:
     def __init__(self, form, jobs, span, nodes, exits, visits=None, again=None):
         self.form, self.jobs, self.span = form, jobs, span
         self.nodes, self.exits, self.visits, self.again = tuple(nodes), tuple(exits), visits, again
-        self._by_name = {it.name: it for it in self.nodes}
+        self._by_name = {node.name: node for node in self.nodes}
         self._model = None
 
     @property
@@ -66,8 +66,8 @@ class Report:
 
     @model.setter
     def model(self, text):
-        if text is not None and sorted((it.name, it.kind) for it in nodes_of(text)) != sorted((it.name, it.kind) for it in self.nodes):
-            raise ValueError("the model isn't that of the report: its nodes are others")
+        if text is not None and sorted((node.name, node.kind) for node in nodes_of(text)) != sorted((node.name, node.kind) for node in self.nodes):
+            raise ValueError("the model isn't that of the report: its nodes differ")
         self._model = text
 
     def __getitem__(self, name):
@@ -76,7 +76,7 @@ class Report:
     def __contains__(self, name):
         return name in self._by_name
 
-    # What a loop should go over, nodes or names, isn't plain: `nodes` says it.
+    # A loop could mean nodes or names; `nodes` is explicit.
     __iter__ = None
 
     def __repr__(self):
@@ -86,12 +86,13 @@ class Report:
         return "".join(self.lines(jobs=False))
 
     def lines(self, jobs=True):
-        """The lines (str, each with its line feed), byte for byte as they were read; with `jobs` those of the jobs too, where the report has them."""
+        """Yields the lines (str, each with its line feed), byte for byte as they were read; with `jobs`, including the job lines if the report has
+        them."""
         yield f"mpsim report {self.form}\njobs {self.jobs} span {self.span}\n"
-        for it in self.nodes:
-            yield it.line() + "\n"
-        for it in self.exits:
-            yield f"exit {it.name}.{it.output} {it.jobs} sojourn {it.sojourn}\n"
+        for node in self.nodes:
+            yield node.line() + "\n"
+        for item in self.exits:
+            yield f"exit {item.name}.{item.output} {item.jobs} sojourn {item.sojourn}\n"
         for it in self.visits.each() if jobs and self.visits else ():
             yield f"job {it.job} {it.node} arrive {it.arrive} " + (f"wait {it.wait} depart {it.depart}\n" if it.end == "left" else f"{it.end}\n")
         if self.again:
@@ -99,14 +100,14 @@ class Report:
 
     @property
     def mean_sojourn(self):
-        """The mean time of a job in the network (float, ticks), from the lines `exit`; behind a fork each part that leaves counts as one. None
-        where none left."""
-        jobs = sum(it.jobs for it in self.exits)
-        return sum(it.sojourn for it in self.exits) / jobs if jobs else None
+        """The mean time of a job in the network (float, ticks), from the `exit` lines; after a fork, each part that leaves counts. None if none
+        left."""
+        jobs = sum(item.jobs for item in self.exits)
+        return sum(item.sojourn for item in self.exits) / jobs if jobs else None
 
     def to_pandas(self):
-        """The nodes as a data frame, a row a node by its name, with the words of the lines as columns. Raises ImportError where pandas isn't
-        there."""
+        """Returns the nodes as a data frame, with a row per node, indexed by its name, and the fields of the lines as columns. Raises ImportError if
+        pandas is missing."""
         import pandas
 
         frame = pandas.DataFrame(list(self.nodes), columns=["name", "kind", *NUMBERS])
@@ -114,27 +115,27 @@ class Report:
 
     @classmethod
     def read(cls, path, model=None):
-        """The report in a file, with its model (a Model, a text, or a path) where that is given. Raises OSError where a file can't be read,
-        ReportError where it is no report, is cut, or contradicts itself, and ValueError where the model is another's."""
+        """Returns the report in a file, with its model (a Model, a text, or a path) if given. Raises OSError if a file can't be read; ReportError if
+        it isn't a report, is cut off, or contradicts itself; and ValueError if the model is that of another report."""
         with open(path, "rb") as stream, read_from(path):
             return cls.parse(stream, model)
 
     @classmethod
     def parse(cls, text, model=None):
-        """The report of a text (str), of bytes, or of an open file of bytes. It takes a model and raises exceptions as `read` does.
+        """Returns the report in a text (str), in bytes, or in an open file of bytes. The model and the exceptions are as in `read`.
 
         >>> import mpsim
         >>> mpsim.Report.parse("mpsim report 2\\njobs 3 span")
         Traceback (most recent call last):
-        mpsim.errors.ReportError: report line 2: 'jobs 3 span' is no line of a report
+        mpsim.errors.ReportError: report line 2: 'jobs 3 span' is not a line of a report
         """
         report = Reading(text).report()
         report.model = None if model is None else model_text(model)
         return report
 
     def save(self, path, title=None, **options):
-        """Writes the page of this run: one HTML file, which asks nothing of any network. It is there as a whole, or not at all; OSError is raised
-        where it can't be written. Options are those of `mpsim.page.page`: `tick`, `start` and `within`.
+        """Writes the page of this run: one HTML file that loads nothing from the network. The file is written completely or not at all; OSError is
+        raised if it can't be written. The options are those of `mpsim.page.page`: `tick`, `start` and `within`.
 
         >>> import mpsim, os, tempfile
         >>> report = mpsim.run("model 1\\nsource door\\nserver desk =4 from door\\n", [("door", 0), ("door", 1)], jobs=True)
@@ -154,29 +155,29 @@ class Report:
 
 
 def with_model(report, given):
-    """A report with the text of the model that was given (Input); without it where the file is another one by now, or can't be read again."""
+    """Returns a report with the text of the given model (Input), or without it if the file has changed or can't be read again."""
     with contextlib.suppress(ValueError):
         report.model = given.text()
     return report
 
 
 def stream_of(text):
-    """An open file of bytes of a text, of bytes, or of such a file."""
+    """Returns a text, bytes or an open file of bytes as an open file of bytes."""
     if hasattr(text, "read"):
         return text
     return io.BytesIO(text.encode(errors="surrogateescape") if isinstance(text, str) else text)
 
 
 class Reading:
-    """A report that is being read. Its first lines are there at once, as `form`, `jobs`, `span`, `nodes`, `exits` and `again` of a Report; `pieces`
-    gives the visits. In a sweep (`in_sweep`, bool) the next scenario may stand behind it."""
+    """Reads a report. Its first lines are available at once, as `form`, `jobs`, `span`, `nodes`, `exits` and `again` of a Report; `pieces` gives the
+    visits. In a sweep (`in_sweep`, bool) the next scenario may follow."""
 
     def __init__(self, text, first=1, in_sweep=False):
         self._stream, self._number = stream_of(text), first - 1
         self.again = None
         self._next()
         if re.fullmatch(rb"mpsim report ([03-9]|[1-9]\d+)\n", self._line):
-            raise self._fault(self._line, "begins a report of a form that isn't known here: 1 and 2 are")
+            raise self._error(self._line, "begins a report of an unknown form: only 1 and 2 are known")
         self.form = int(self._line_of("form")[1])
         self.jobs, self.span = map(int, self._line_of("jobs").groups())
         self.nodes, self.exits, self._node_lines = [], [], self._number
@@ -186,25 +187,25 @@ class Reading:
             self.again = Again(*map(int, self._line_of("again").groups()))
         self._has_jobs = self._line.startswith(b"job ") and not self.again
         if not self._has_jobs and self._line and not (in_sweep and self._line.startswith(b"scenario ")):
-            raise self._fault(self._line)
+            raise self._error(self._line)
 
     @property
     def rest(self):
-        """The line behind a report without lines of jobs, and its number: in a sweep the next scenario begins there."""
+        """The line after a report without job lines, and its number: in a sweep the next scenario begins there."""
         return self._line, self._number
 
     def _next(self):
         self._number += 1
         self._line = self._stream.readline()
 
-    def _fault(self, line, why="is no line of a report"):
+    def _error(self, line, why="is not a line of a report"):
         return ReportError(self._number, line.decode(errors="surrogateescape").rstrip("\n"), why)
 
     def _line_of(self, kind):
-        """The groups of the line at which reading stands, which goes on behind it."""
+        """Returns the groups of the current line, and moves on to the next."""
         found = LINES[kind].fullmatch(self._line.decode("ascii", "surrogateescape"))
         if not found:
-            raise self._fault(self._line)
+            raise self._error(self._line)
         self._next()
         return found
 
@@ -213,14 +214,14 @@ class Reading:
         while self._line.startswith(b"node ") or not self.nodes:
             line = self._line
             name, kind, *values, util = self._line_of("node").groups()
-            node = Node(name, kind, *[None if it is None else int(it) for it in values], None if util == "-" else float(util))
+            node = Node(name, kind, *[None if value is None else int(value) for value in values], None if util == "-" else float(util))
             self.nodes.append(node)
             if (node.p50 is None) != (self.form == 1) or (node.held is None and self.form == 2):
                 raise ReportError(self._number - 1, line.decode().rstrip("\n"), f"isn't of form {self.form}")
             if node.in_ != node.out + node.lost + (node.held or 0):
                 raise self._contradiction(node, "its in isn't the sum of out, lost and held")
             if node.name in names:
-                raise self._contradiction(node, "its name stands twice")
+                raise self._contradiction(node, "its name appears twice")
             names.append(node.name)
         return names
 
@@ -232,24 +233,24 @@ class Reading:
             it = Exit(name, *map(int, values))
             place = names.index(name) if name in names else -1, it.output
             if place <= before or place[0] < 0:
-                raise ReportError(self._number - 1, line.decode().rstrip("\n"), "is of no node, or stands behind the line of a later output")
+                raise ReportError(self._number - 1, line.decode().rstrip("\n"), "names no node, or follows the line of a later output")
             before = place
             self.exits.append(it)
 
     def _judge_jobs(self):
-        """Jobs come by the sources, and where nothing is forked or joined each leaves once, so that it is seen where a line lacks."""
-        if self.jobs != sum(it.in_ for it in self.nodes if it.kind == "source"):
+        """Checks the number of jobs: they arrive at the sources and, without forks and joins, each leaves once, so a missing line is noticed."""
+        if self.jobs != sum(node.in_ for node in self.nodes if node.kind == "source"):
             raise ReportError(self._node_lines - 1, f"jobs {self.jobs} span {self.span}", "contradicts the lines of the sources")
-        if not any(it.kind in ("fork", "join") for it in self.nodes) and self.jobs != sum(it.jobs for it in self.exits):
-            raise self._fault(self._line, f"stands behind lines of exits by which not all of {self.jobs} jobs leave")
+        if not any(node.kind in ("fork", "join") for node in self.nodes) and self.jobs != sum(item.jobs for item in self.exits):
+            raise self._error(self._line, f"follows exit lines by which not all of the {self.jobs} jobs leave")
 
     def _contradiction(self, node, why):
         return ReportError(self._node_lines + self.nodes.index(node), node.line(), f"contradicts the report: {why}")
 
     def pieces(self):
-        """The visits, as NodeVisits of one node each, in the order of the lines. No more than half a megabyte of text is held at a time. Raises
-        ReportError where a line is none, and behind the last piece where the visits of a node aren't those that its line counts."""
-        seen = {it.name: _Seen(self.span) for it in self.nodes}
+        """Yields the visits, as NodeVisits of one node each, in the order of the lines. At most half a megabyte of text is held at a time. Raises
+        ReportError for an invalid line and, after the last piece, if a node's visits don't match its line."""
+        seen = {node.name: _Seen(self.span) for node in self.nodes}
         # The names of the nodes from that of the last visit on.
         self._left = list(seen)
         for text in self._texts():
@@ -257,11 +258,11 @@ class Reading:
                 seen[piece.node].add(piece)
                 yield piece
         for node in self.nodes:
-            if seen[node.name].told() != (node.in_, node.out, node.lost, node.held or 0, node.wait, node.max, node.area):
-                raise self._contradiction(node, "the lines of its jobs are others, or some lack")
+            if seen[node.name].totals() != (node.in_, node.out, node.lost, node.held or 0, node.wait, node.max, node.area):
+                raise self._contradiction(node, "its job lines differ, or some are missing")
 
     def _texts(self):
-        """The lines of the jobs, whole lines, half a megabyte or so at a time."""
+        """Yields the job lines, whole lines, about half a megabyte at a time."""
         left = self._line if self._has_jobs else b""
         while self._has_jobs:
             text = self._stream.read(CHUNK)
@@ -277,11 +278,11 @@ class Reading:
             yield left
 
     def _pieces_of(self, text):
-        # No number of a report is below 0, so that a visit without a wait can be given one, and all lines have one shape. Then many lines are
-        # looked at together: those of one node are cut off, its name is taken out, what is left has to be that shape without its digits, and
-        # is four numbers a line without its letters.
+        # No number in a report is negative, so visits without a wait can get one, and all lines have the same shape. Many lines can then be checked
+        # at once: those of one node are cut off, and its name is removed; without digits the rest must have that shape, and without letters it is
+        # four numbers per line.
         if b"-" in text or not text.endswith(b"\n") or re.search(rb" 0\d", text):
-            raise self._first_fault(text)
+            raise self._first_error(text)
         for end, stand_in in STAND_INS:
             text = text.replace(end, stand_in)
         while text:
@@ -295,44 +296,44 @@ class Reading:
             if not shaped or not _fill(piece, lines.translate(None, LETTERS), count) or not self._is_next(piece):
                 for end, stand_in in STAND_INS:
                     mine = mine.replace(stand_in, end)
-                raise self._first_fault(mine)
+                raise self._first_error(mine)
             self._number += count
             yield piece
 
     def _is_next(self, piece):
-        """Whether the visits are of a node that is there and not before the one of the last visits, and of jobs that are there."""
+        """Returns whether the visits are to a known node that doesn't come before the last one, and of known jobs."""
         if piece.node not in self._left or min(piece.job) < 1 or max(piece.job) > self.jobs:
             return False
         del self._left[: self._left.index(piece.node)]
         return True
 
-    def _first_fault(self, text):
-        """The fault of the first of these lines that is none, line by line."""
+    def _first_error(self, text):
+        """Returns the error of the first invalid line, checked one by one."""
         *lines, cut = text.split(b"\n")
         for line in lines:
             found = JOB.fullmatch(line)
-            numbers = [int(it) for it in found.group(1, 3, 4, 5) if it] if found else []
+            numbers = [int(item) for item in found.group(1, 3, 4, 5) if item] if found else []
             if not found or not 1 <= numbers[0] <= self.jobs or max(numbers) >= 1 << 63:
-                return self._fault(line)
+                return self._error(line)
             name = found[2].decode()
             if name not in self._left:
-                return self._fault(line, "is of no node, or stands behind the lines of a later one")
+                return self._error(line, "names no node, or follows the lines of a later one")
             del self._left[: self._left.index(name)]
             self._number += 1
-        return self._fault(cut, "is cut")
+        return self._error(cut, "is cut")
 
-    def report(self, asked=False):
-        """The whole report. One of nobody has no line of a job: whether it has visits is then told by `asked`, that they were asked for."""
+    def report(self, wanted=False):
+        """Returns the whole report. A report without jobs has no job lines; whether it gets (empty) visits depends on `wanted`."""
         visits = None
-        if self._has_jobs or asked:
-            visits = Visits((it.name, NodeVisits(it.name)) for it in self.nodes)
+        if self._has_jobs or wanted:
+            visits = Visits((node.name, NodeVisits(node.name)) for node in self.nodes)
             for piece in self.pieces():
                 visits[piece.node].extend(piece)
         return Report(self.form, self.jobs, self.span, self.nodes, self.exits, visits, self.again)
 
 
 class _Seen:
-    """What the visits of a node come to, as its line tells it."""
+    """Adds up the visits to a node, to compare them with its line."""
 
     def __init__(self, span):
         self.span = span
@@ -345,16 +346,16 @@ class _Seen:
         self.max = max(self.max, max(visits.wait))
         self.area += sum(visits.depart) - sum(visits.arrive)
         if lost or held:
-            # In place of what stands for its departure, a lost visit leaves as it comes, and a held one at the end.
+            # A lost visit leaves when it arrives, a held one at the end, instead of the values that mark them.
             self.area += sum(arrive - LOST for arrive, wait in zip(visits.arrive, visits.wait) if wait == LOST)
             self.area += held * (self.span - HELD)
 
-    def told(self):
+    def totals(self):
         return self.count, self.count - self.lost - self.held, self.lost, self.held, self.wait, self.max, self.area
 
 
 def _fill(visits, numbers, count):
-    """Puts four numbers a line of so many lines into visits. Whether they are that many, and in range."""
+    """Appends numbers, four per line, to visits. Returns whether there are enough, all in range."""
     words = numbers.split()
     if len(words) != 4 * count:
         return False

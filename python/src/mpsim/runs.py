@@ -1,17 +1,17 @@
-"""The calls that run the three programs.
+"""Functions that run the three programs.
 
-What each of them takes:
+What they take:
 
 - A model is a Model, a text (str with a line feed, or bytes), or a path (str or PathLike).
-- A trace is a path, a text, a data frame of pandas or polars with the columns `source` and `time`, or rows: dicts, named tuples, or sequences, of
-  which the first may be the header. Rows without a header are a source, a time and the values of the columns in the order in which the model names
-  them first. Times and values are whole numbers; a float that is whole is taken as one, since a missing value makes floats of a column.
-- `workers` (int, 1 to 64) and `block` (int, 1 to 65,536) change who does what, and nothing of the report.
-- `timeout` (seconds) is how long a program may take, from its start to its end; where it takes longer it is ended, and TimedOut raised.
+- A trace is a path, a text, a pandas or polars data frame with the columns `source` and `time`, or rows: dicts, named tuples, or sequences, whose
+  first may be the header. Rows without a header are a source, a time and the values of the columns in the order in which the model first names them.
+  Times and values are whole numbers; whole floats are accepted, since a missing value turns a column into floats.
+- `workers` (int, 1 to 64) and `block` (int, 1 to 65,536) divide the work; they don't change the report.
+- `timeout` (seconds) limits the time of a program from its start to its end; a program that exceeds it is ended, and TimedOut is raised.
 
-What each of them raises: the exceptions of `mpsim.errors`, by the status of the program; ProgramError where there is no program, or it is killed;
-ReportError where what it wrote is no report; TypeError or ValueError for what is no model, trace or edits. KeyboardInterrupt ends the program too.
-Nothing is left behind: no process, no open file, no file on a disk.
+What they raise: the exceptions in `mpsim.errors`, by the status of the program; ProgramError if the program is missing or killed; ReportError if its
+output isn't a report; TypeError or ValueError for an invalid model, trace or edits. KeyboardInterrupt ends the program too. They leave nothing
+behind: no process, no open file, no file on disk.
 """
 
 import contextlib
@@ -25,13 +25,13 @@ from .processes import Running
 from .report import Reading, with_model
 from .sweeps import Scenario, Sweep, scenarios_of
 
-# mpsweep takes so many models.
+# The most models that mpsweep takes.
 MODELS = 64
 
 
 @contextlib.contextmanager
 def _inputs(*makers):
-    """What these make, each of those before it; all is closed behind the block."""
+    """Makes inputs, each from those before it, and closes all at the end of the block."""
     with contextlib.ExitStack() as stack:
         made = []
         for make in makers:
@@ -58,8 +58,8 @@ def _report(program, words, inputs, jobs, timeout):
 
 
 def run(model, trace, *, jobs=False, workers=None, block=None, form=None, timeout=None):
-    """The report (Report) of a trace through a model, by mpsim. With `jobs` it has the visits; `form` is 1 or 2, 2 where it isn't given. The head
-    of this module says what models and traces are, and what is raised.
+    """Runs a trace through a model with mpsim and returns the Report. With `jobs` it has the visits; `form` is 1 or 2 (default: 2). The module's
+    documentation says what models and traces are, and what is raised.
 
     >>> import mpsim
     >>> model = mpsim.Model()
@@ -69,12 +69,12 @@ def run(model, trace, *, jobs=False, workers=None, block=None, form=None, timeou
     (70, 0.6666666666666666)
     """
     with _model_and_trace(model, trace) as inputs:
-        words = [it.word for it in inputs] + _options(jobs, workers, block, form)
+        words = [item.word for item in inputs] + _options(jobs, workers, block, form)
         return _report("mpsim", words, inputs, jobs, timeout)
 
 
 def made(number, *, jobs=False, workers=None, block=None, form=None, timeout=None):
-    """The report (Report) of the made input of a number (int, 0 to 2^64 - 1), by mpsim. It raises what `run` does.
+    """Runs mpsim on the input generated from a number (int, 0 to 2^64 - 1) and returns the Report. Raises what `run` does.
 
     >>> import mpsim
     >>> mpsim.made(7).jobs
@@ -85,9 +85,9 @@ def made(number, *, jobs=False, workers=None, block=None, form=None, timeout=Non
 
 @contextlib.contextmanager
 def visits(model, trace, *, workers=None, block=None, timeout=None):
-    """A run of which nothing is kept: a block with a Reading (`mpsim.report`), whose `nodes` and `exits` are there at once, and whose `pieces()`
-    gives the visits, as NodeVisits of one node each. Who leaves the block early ends the program. It raises what `run` does, at the end of the
-    block at the latest; `timeout` counts the time in the block.
+    """Runs mpsim without keeping the visits: a block with a Reading (`mpsim.report`), whose `nodes` and `exits` are available at once, and whose
+    `pieces()` gives the visits, as NodeVisits of one node each. Leaving the block early ends the program. Raises what `run` does, at the latest at
+    the end of the block; `timeout` includes the time spent in the block.
 
     >>> import mpsim
     >>> trace = "source,time\\ndoor,0\\ndoor,1\\n"
@@ -96,13 +96,13 @@ def visits(model, trace, *, workers=None, block=None, timeout=None):
     1
     """
     with _model_and_trace(model, trace) as inputs:
-        with Running("mpsim", [it.word for it in inputs] + _options(True, workers, block), inputs, timeout=timeout) as running:
+        with Running("mpsim", [item.word for item in inputs] + _options(True, workers, block), inputs, timeout=timeout) as running:
             yield Reading(running.stream)
 
 
 def edit(model, trace, edits, *, timeout=None):
-    """The report (Report) of an edited trace, by mpedit, whose `again` tells how much of the run the edits reach. Edits are a text (str with a line
-    feed, or bytes), a path, or a list of Set and Add. It raises what `run` does, and EditsError.
+    """Runs an edited trace with mpedit and returns the Report, whose `again` says how much of the run the edits affect. Edits are a text (str with a
+    line feed, or bytes), a path, or a list of Set and Add. Raises what `run` does, and EditsError.
 
     >>> import mpsim
     >>> rows = [("door", 0, 4), ("door", 1, 1)]
@@ -111,30 +111,30 @@ def edit(model, trace, edits, *, timeout=None):
     (1, 2, 2)
     """
     with _inputs(lambda _: model_input(model), lambda made: trace_input(trace, made[0]), lambda _: edits_input(edits)) as inputs:
-        return _report("mpedit", [it.word for it in inputs], inputs, False, timeout)
+        return _report("mpedit", [item.word for item in inputs], inputs, False, timeout)
 
 
 def sweep(trace, models, *, jobs=False, timeout=None):
-    """One trace through many models: a Sweep of all that `scenarios` hands over, whose arguments it takes and whose exceptions it raises.
+    """Runs a trace through many models and returns the Sweep. The arguments and exceptions are those of `scenarios`.
 
     >>> import mpsim
     >>> models = mpsim.variants("model 2\\nsource calls\\ntrunk lines {lines} =5 from calls\\n", lines=[1, 2, 3])
     >>> mpsim.sweep([("calls", 0), ("calls", 1), ("calls", 2)], models).curve("lines", "share_lost")
     [(1, 0.6666666666666666), (2, 0.3333333333333333), (3, 0.0)]
     """
-    # Where Ctrl-C comes between two scenarios, the program isn't left to whoever holds the traceback.
+    # If Ctrl-C comes between two scenarios, the program mustn't live as long as the traceback.
     with contextlib.closing(scenarios(trace, models, jobs=jobs, timeout=timeout)) as coming:
-        return Sweep((it.label, it) for it in coming)
+        return Sweep((item.label, item) for item in coming)
 
 
 def scenarios(trace, models, *, jobs=False, timeout=None):
-    """One trace through many models: each Scenario as it comes, in the order of the models. They are a dict by labels, or a list, labelled 1, 2 and
-    so on; any number of them.
+    """Runs a trace through many models, and yields each Scenario as it comes, in the order of the models. They are a dict by label, or a list,
+    labelled 1, 2 and so on, of any length.
 
-    mpsweep runs them, 64 a call. It writes no lines of jobs: with `jobs` each model has a run of mpsim, which takes longer, and its report has the
-    visits. A model that is refused, or whose run is, hands over a Scenario with its status; what `run` raises besides stops all: a file that can't
-    be read, no memory, and a time that is out, which is that of all runs together. Of a list of rows the first model says which column is which.
-    Who stops early lets the iterator go, or closes it (`contextlib.closing`), and with it the program.
+    mpsweep runs them, 64 per call. It writes no job lines, so with `jobs` each model is run by mpsim instead, which takes longer, and its report has
+    the visits. A model that is refused, or whose run is, gives a Scenario with its status. Other exceptions of `run` end the sweep: a file that can't
+    be read, lack of memory, and a timeout, which counts all runs together. If the trace is a list of rows, the first model gives the order of their
+    columns. To stop early, drop the iterator or close it (`contextlib.closing`), which ends the program.
 
     >>> import mpsim
     >>> models = mpsim.variants("model 1\\nsource door\\nserver desk ={ticks} from door\\n", ticks=[1, 2, 4])
@@ -158,25 +158,25 @@ def _scenarios(trace, labelled, jobs, timeout):
     with _inputs(lambda _: model_input(labelled[0][1]), lambda made: trace_input(trace, made[0])) as (_, rows):
         for begin in range(0, len(labelled), step):
             some = labelled[begin : begin + step]
-            with _inputs(*[lambda _, it=it: model_input(it) for _, it in some]) as texts:
+            with _inputs(*[lambda _, item=it: model_input(item) for _, it in some]) as texts:
                 left = None if end is None else max(end - time.monotonic(), 0)
                 yield from run_some(rows, texts, [label for label, _ in some], left)
 
 
 @contextlib.contextmanager
 def sweep_text(trace, models):
-    """What mpsweep writes of a trace and of 1 to 64 models (a list): a block with an open file of bytes. It raises what `run` does but for what a
-    scenario is refused for, at the end of the block at the latest; whoever leaves the block early ends the program."""
+    """Runs mpsweep on a trace and 1 to 64 models (list): a block with its output as an open file of bytes. Raises what `run` does, except for refused
+    scenarios, at the latest at the end of the block; leaving the block early ends the program."""
     with _inputs(lambda _: model_input(models[0]), lambda made: trace_input(trace, made[0])) as (_, rows):
-        with _inputs(*[lambda _, it=it: model_input(it) for it in models]) as texts:
+        with _inputs(*[lambda _, item=model: model_input(item) for model in models]) as texts:
             inputs = [rows, *texts]
-            with Running("mpsweep", [it.word for it in inputs], inputs, fine=(0, 11)) as running:
+            with Running("mpsweep", [item.word for item in inputs], inputs, fine=(0, 11)) as running:
                 yield running.stream
 
 
 def _by_mpsweep(rows, models, labels, timeout):
     inputs = [rows, *models]
-    with Running("mpsweep", [it.word for it in inputs], inputs, fine=(0, 11), timeout=timeout) as running:
+    with Running("mpsweep", [item.word for item in inputs], inputs, fine=(0, 11), timeout=timeout) as running:
         yield from scenarios_of(running.stream, labels, inputs)
 
 
@@ -184,6 +184,6 @@ def _by_mpsim(rows, models, labels, timeout):
     (model,), (label,) = models, labels
     try:
         found = Scenario(label, 0, _report("mpsim", [model.word, rows.word, "--jobs"], [model, rows], True, timeout), None)
-    except (ModelError, TraceError, BoundError, VisitsError) as fault:
-        found = Scenario(label, fault.status, None, fault)
+    except (ModelError, TraceError, BoundError, VisitsError) as error:
+        found = Scenario(label, error.status, None, error)
     yield found

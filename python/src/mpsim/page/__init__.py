@@ -1,4 +1,4 @@
-"""The page of a run, or of several side by side: one HTML file, which asks nothing of any network; and the piece of it that a notebook shows."""
+"""Makes the page of a run, or of several side by side: one HTML file that loads nothing from the network; and the excerpt that a notebook shows."""
 
 import base64
 import hashlib
@@ -11,7 +11,7 @@ from ..planner.files import written
 from ..planner.pooled import beside_pools, pool_lines
 from .colours import in_light, style
 from .flows import flows
-from .network import asked_of, network, nodes_that_are_drawn
+from .network import arguments_of, network, nodes_that_are_drawn
 from .pictures import NUMBERS, pictures_of
 from .tables import columns_of, exits_table, facts, legend, nodes_table
 
@@ -25,25 +25,25 @@ def _part(name):
 
 
 def _policy(script):
-    """What the browser lets the page do: nothing by a network, and no script but this one."""
+    """The browser's policy for the page: no network access, and only the page's own script."""
     digest = base64.b64encode(hashlib.sha256(script.encode()).digest()).decode()
     return f"default-src 'none'; style-src 'unsafe-inline'; script-src 'sha256-{digest}'; base-uri 'none'; form-action 'none'"
 
 
 def _first_node(nodes):
-    """The node to begin with: where somebody waits that with the longest p90, else the busiest one, or one that has servers."""
-    return max(nodes, key=lambda it: (it.p90 or 0, it.max or 0, it.lost, it.util or 0, it.util is not None)).name
+    """Returns the node to select first: the one with waits and the longest p90, else the busiest, or one with servers."""
+    return max(nodes, key=lambda item: (item.p90 or 0, item.max or 0, item.lost, item.util or 0, item.util is not None)).name
 
 
 def _exact(value):
-    """A figure for the script. One that no double holds goes as a text."""
+    """Returns a figure for the script; as text if a double can't hold it."""
     if isinstance(value, list):
-        return [_exact(it) for it in value]
+        return [_exact(item) for item in value]
     return str(value) if isinstance(value, int) and value >= 1 << 53 else value
 
 
 def _data(reports, lines, labels, columns, tick, start):
-    """What the script works on: the figures and pictures of the nodes of each run (`lines`, lists of Node), in the order of the columns."""
+    """Returns the script's data: the figures and charts of the nodes of each run (`lines`, lists of Node), in the order of the columns."""
     runs = []
     for label, report, mine in zip(labels, reports, lines):
         nodes = nodes_that_are_drawn(report)
@@ -52,18 +52,18 @@ def _data(reports, lines, labels, columns, tick, start):
                 "label": label,
                 "facts": facts(report),
                 "span": report.span,
-                "kinds": {it.name: it.kind for it in mine},
-                "nodes": {it.name: _exact([column.of(report, it) for column in columns]) for it in mine},
+                "kinds": {item.name: item.kind for item in mine},
+                "nodes": {item.name: _exact([column.of(report, item) for column in columns]) for item in mine},
                 "pictures": {
                     node: {picture: {name: _exact(it) for name, it in parts.items()} for picture, parts in both.items()}
                     for node, both in pictures_of(report, mine, NUMBERS // len(reports), tick).items()
                 },
-                "asked": {it.name: asked_of(it) for it in nodes},
+                "asked": {node.name: arguments_of(node) for node in nodes},
                 "flows": {f"{name}.{output}": count for (name, output), count in flows(nodes, report).items()},
             }
         )
     return {
-        "columns": [it.name for it in columns],
+        "columns": [column.name for column in columns],
         "runs": runs,
         "node": _first_node(lines[0]),
         "tick": None if tick is None else float(tick),
@@ -73,25 +73,25 @@ def _data(reports, lines, labels, columns, tick, start):
 
 
 def _options(names, chosen=None):
-    return "".join(f'<option{" selected" if it == chosen else ""}>{escape(it)}</option>' for it in names)
+    return "".join(f'<option{" selected" if name == chosen else ""}>{escape(name)}</option>' for name in names)
 
 
 def page(reports, labels=None, title=None, tick=None, start=None, within=None):
-    """The page (str) of a report, or of several side by side, under their labels (1, 2 and so on where none are given). The network and the rows of
-    the tables are those of the first one; figures follow the run that is chosen. A pool is a node as a whole: the figures of its name are its own.
+    """Returns the page (str) of a report, or of several side by side, under their labels (by default 1, 2 and so on). The network and the rows of the
+    tables are those of the first; figures follow the selected run. A pool is one node: the figures under its name are those of the whole.
 
-    With `tick`, the seconds of a tick (a number), axes have times of the day, with `start`, the datetime of time 0 on the clock of the place, dates
-    too. With `within` (int, ticks) the share of all that came who are served within that time is a figure as others are: for that each report needs
-    its visits. Raises ValueError where there is no report.
+    With `tick`, the seconds per tick (a number), axes show times of day; with `start`, the local datetime of time 0, also dates. With `within` (int,
+    ticks), the share of all arrivals served within that time becomes a figure; each report then needs its visits. Raises ValueError if there is no
+    report.
     """
     reports = list(reports)
     if not reports:
-        raise ValueError("a page wants a report: none is there, or each model was refused")
-    # A name of a file that isn't UTF-8 can't stand in a page.
-    labels = [str(it).encode(errors="surrogateescape").decode(errors="replace") for it in labels or range(1, len(reports) + 1)]
+        raise ValueError("a page needs a report: none was given, or every model was refused")
+    # A file name that isn't UTF-8 can't appear in a page.
+    labels = [str(label).encode(errors="surrogateescape").decode(errors="replace") for label in labels or range(1, len(reports) + 1)]
     first, is_several = reports[0], len(reports) > 1
     title = (title or (f"{len(reports)} runs" if is_several else "Run")).encode(errors="surrogateescape").decode(errors="replace")
-    columns, lines = columns_of(reports, within), [beside_pools(it) for it in reports]
+    columns, lines = columns_of(reports, within), [beside_pools(report) for report in reports]
     data = _data(reports, lines, labels, columns, tick, start)
     script = "(() => {\n'use strict';\n" + "".join(map(_part, SCRIPTS)) + "})();\n"
     svg = network(first, lines[0], data["node"])
@@ -100,31 +100,31 @@ def page(reports, labels=None, title=None, tick=None, start=None, within=None):
         title=escape(title),
         style=style() + _part("piece.css") + _part("page.css"),
         facts=facts(first),
-        pools="".join(f"\n<p>{escape(it)}</p>" for it in pool_lines(reports, lacks=True)),
+        pools="".join(f"\n<p>{escape(pool_line)}</p>" for pool_line in pool_lines(reports, lacks=True)),
         runs=f'<label>Run <select id="run">{_options(labels)}</select></label>' if is_several else "",
         network=Template(_part("network.html")).substitute(legend=legend(), svg=svg) if svg else "",
         compared=_part("compared.html") if is_several else "",
-        nodes=_options([it.name for it in lines[0]], data["node"]),
+        nodes=_options([line.name for line in lines[0]], data["node"]),
         tables=nodes_table(first, lines[0], columns),
         exits="" if is_several else exits_table(first),
-        # Nothing in a text may end the element that it stands in.
+        # Nothing in a text may end the element that contains it.
         data=json.dumps(data, separators=(",", ":"), allow_nan=False).replace("<", "\\u003c"),
         script=script,
     )
 
 
 def save(path, reports, labels=None, title=None, **options):
-    """Writes a page, whole or not at all. It takes what `page` takes, and raises OSError besides."""
+    """Writes a page, completely or not at all. Takes what `page` takes, and also raises OSError."""
     text = page(reports, labels, title, **options)
     with written(os.fspath(path)) as file:
         file.write(text)
 
 
 def drawing(report):
-    """The network alone (str), as an SVG file for documents: in light colours. Raises ValueError where the report's model isn't known."""
+    """Returns only the network (str), as an SVG file for documents, in light colours. Raises ValueError if the report's model isn't known."""
     svg = network(report, beside_pools(report), is_still=True)
     if not svg:
-        raise ValueError("the network wants the model of the report")
+        raise ValueError("the network needs the model of the report")
     head, body = svg.split(">", 1)
     head = head.replace("<svg ", '<svg xmlns="http://www.w3.org/2000/svg" ', 1)
     rules = in_light(_part("piece.css"))
@@ -133,7 +133,7 @@ def drawing(report):
 
 
 def piece(report):
-    """What a notebook shows (str): the network and the tables, without a script."""
+    """Returns what a notebook shows (str): the network and the tables, without a script."""
     lines = beside_pools(report)
     svg = network(report, lines, is_still=True)
     drawn = f'{legend()}<div class="scroll">{svg}</div>' if svg else ""

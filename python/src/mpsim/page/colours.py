@@ -1,9 +1,9 @@
-"""The colours of a page: each with its value in light and in dark. They are told apart by their lightness too, and none says anything alone."""
+"""The colours of a page, each for light and dark mode. They also differ in lightness, and none carries meaning alone."""
 
 import re
 
 COLOURS = {
-    # Letters, soft letters and lines, borders that only part, the ground, and what has the keyboard.
+    # Text, secondary text and lines, decorative borders, background, and keyboard focus.
     "ink": ("#1b1f24", "#e6e9ed"),
     "soft": ("#57606a", "#9aa4b0"),
     "line": ("#d0d7de", "#3a424c"),
@@ -11,7 +11,7 @@ COLOURS = {
     "focus": ("#005fcc", "#8cc8ff"),
     "marked": ("#b35900", "#ffc857"),
     "row": ("#fff3c4", "#453a12"),
-    # Nodes without servers, and by their load, from the lowest fifth to the highest; then the letters on them.
+    # Nodes without servers, then by load, from the lowest fifth to the highest; then the text on them.
     "load0": ("#f3f4f6", "#232a32"),
     "load1": ("#eff6fc", "#16283a"),
     "load2": ("#c6dff3", "#1c4468"),
@@ -24,7 +24,7 @@ COLOURS = {
     "on3": ("#1b1f24", "#ffffff"),
     "on4": ("#ffffff", "#10151a"),
     "on5": ("#ffffff", "#10151a"),
-    # What pictures draw.
+    # The colours of charts.
     "p50": ("#0072b2", "#56b4e9"),
     "p90": ("#c04a00", "#e69f00"),
     "max": ("#57606a", "#9aa4b0"),
@@ -32,17 +32,17 @@ COLOURS = {
     "lost": ("#7a3f9d", "#cc9be8"),
 }
 SCHEMES = "light", "dark"
-# Where a page says which it wants, or the notebook around a piece.
+# The page, or the notebook around an excerpt, may choose the mode.
 LIGHT = "[data-theme=light] .mpsim,[data-jp-theme-light=true] .mpsim,.vscode-light .mpsim"
 DARK = "[data-theme=dark] .mpsim,[data-jp-theme-light=false] .mpsim,.vscode-dark .mpsim"
 
 
 def in_light(text):
-    """A text of rules with the values of the colours in light, for programs that know no variables."""
+    """Returns CSS with the light values of the colours filled in, for programs that don't support variables."""
     return re.sub(r"var\(--(\w+)\)", lambda found: COLOURS[found[1]][0], text)
 
 
 def style():
-    """The rules that give each colour its value: as the system has it, but for who says otherwise."""
+    """Returns the CSS that sets the colours: by the system's mode unless another is chosen."""
     light, dark = (f"{';'.join(f'--{name}:{it[at]}' for name, it in COLOURS.items())};color-scheme:{scheme}" for at, scheme in enumerate(SCHEMES))
     return f".mpsim{{{light}}}\n@media (prefers-color-scheme:dark){{.mpsim{{{dark}}}}}\n{LIGHT}{{{light}}}\n{DARK}{{{dark}}}\n"

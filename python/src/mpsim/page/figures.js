@@ -1,10 +1,10 @@
-// Numbers, times and shares, as they are shown and worked out. A number that a double can't hold comes as a text.
+// Numbers, times and shares: formatting and arithmetic. A number that a double can't hold comes as text.
 const shown = value => value === null || value === undefined ? '–'
   : typeof value === 'string' ? BigInt(value).toLocaleString('en') : value.toLocaleString('en', { maximumFractionDigits: 4 });
 const percent = share => `${(100 * share).toFixed(1)} %`;
 
-// The place of a tick on the clock, where the page knows how long a tick is, with the date where it knows that too, or the day's number.
-// Dates go up to the year 9999: where more is taken for ticks than they are, days have numbers.
+// The time of day of a tick if the page knows the length of a tick, with the date if it knows that too, else with the number of the day.
+// Dates end with the year 9999; beyond it, if times aren't really ticks, days have numbers.
 const DAY = 86400, LAST = Date.UTC(9999, 11, 31);
 const twoDigits = value => String(value).padStart(2, '0');
 function dateOf(day, calendar) {
@@ -18,7 +18,7 @@ function clock(ticks, calendar, parts) {
   return { date: dateOf(day, calendar), time, both: `${dateOf(day, calendar)} ${time}` }[parts];
 }
 
-// Places on an axis, some `count` of them: at 1, 2 or 5 with zeros, and on an axis of times at minutes, hours and days of the clock.
+// About `count` places on an axis: at 1, 2 or 5 with zeros, or, on a time axis, at full minutes, hours and days.
 const CLOCK_STEPS = [60, 120, 300, 600, 900, 1800, 3600, 7200, 10800, 14400, 21600, 43200, ...[1, 2, 7, 14, 28, 91, 182, 364].map(it => it * DAY)];
 function stepsOf(low, high, count, calendar) {
   const rough = (high - low) / count || 1, power = 10 ** Math.floor(Math.log10(rough));
@@ -33,7 +33,7 @@ function stepsOf(low, high, count, calendar) {
   return found;
 }
 
-// How many of those that departed waited for so many ticks at most: the least and the greatest count that the waits which are kept allow.
+// How many of those that departed waited at most this many ticks: the lowest and the highest count that the stored waits allow.
 function countsWithin(waits, ticks) {
   const { wait, count } = waits;
   let at = -1;
@@ -42,13 +42,13 @@ function countsWithin(waits, ticks) {
   const isExact = at < 0 || at === wait.length - 1 || Number(wait[at]) === ticks;
   return [low, isExact ? low : count[at + 1] - 1];
 }
-// The share of `whole` as a text; between two bounds where they differ.
+// The share of `whole` as text; two bounds if they differ.
 function shareOf([low, high], whole) {
   const texts = [percent(low / whole), percent(high / whole)];
   return texts[0] === texts[1] ? texts[0] : texts.join(' to ');
 }
 
-// The step of the scale of loads, and the lines of a node's box: as network.py writes them for the first run.
+// The step of the load scale, and the lines of a node's box, as network.py writes them for the first run.
 const TOLD_BY_IN = ['source', 'split', 'fork', 'delay', 'trunk'];
 const stepOf = util => util === null || util === undefined ? 0 : Math.min(Math.floor(util * 5), 4) + 1;
 function figuresOf(kind, figure) {
@@ -61,7 +61,7 @@ function saidOf(name, kind, figure) {
   return `${name}, ${kind}, ${util === null ? 'no servers' : `util ${util.toFixed(4)}`}, ${figuresOf(kind, figure)}`;
 }
 
-// Rows in the order of their values: numbers where all are, else texts; what is missing goes last either way, and equals stay as they stand.
+// Sorts rows by value: as numbers if all are, else as text. Missing values go last in both directions, and equal ones keep their order.
 function sorted(rows, valueOf, isUp) {
   const pairs = rows.map(row => [valueOf(row), row]), isNumber = pairs.every(([value]) => value === '' || !isNaN(value));
   const compare = (one, other) => isNumber ? one - other : one < other ? -1 : one > other ? 1 : 0;

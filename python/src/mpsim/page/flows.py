@@ -1,30 +1,30 @@
-"""How many jobs went by each output of a network, as far as a report tells it."""
+"""Finds how many jobs took each output of a network, as far as a report shows it."""
 
 
 def flows(nodes, report):
-    """How many jobs (int) went by the outputs of these nodes of a model: a dict by pairs of a node's name and a number. One that isn't there can't be
-    told: of a split and a join the report counts what came by all their outputs together, so that each one is told by who reads it."""
-    told = {(it.name, it.output): it.jobs for it in report.exits}
+    """Returns the number of jobs (int) on the outputs of a model's nodes: a dict by pairs of a node's name and an output. Missing pairs are unknown:
+    for a split and a join the report counts all outputs together, so each is derived from the node that reads it."""
+    known = {(item.name, item.output): item.jobs for item in report.exits}
     for node in nodes:
         line = report[node.name]
         if node.kind in ("loss", "trunk"):
-            told[node.name, 0], told[node.name, 1] = line.out, line.lost
+            known[node.name, 0], known[node.name, 1] = line.out, line.lost
         elif node.kind == "fork":
-            told.update({(node.name, it): line.out for it in range(node.outputs)})
+            known.update({(node.name, number): line.out for number in range(node.outputs)})
         elif node.kind not in ("split", "join"):
-            told[node.name, 0] = line.out
+            known[node.name, 0] = line.out
     before = -1
-    while len(told) > before:
-        before = len(told)
+    while len(known) > before:
+        before = len(known)
         for node in nodes:
-            _by_sum(told, node.inputs, report[node.name].in_)
+            _by_sum(known, node.inputs, report[node.name].in_)
             if node.kind == "split":
-                _by_sum(told, [(node.name, it) for it in range(node.outputs)], report[node.name].out)
-    return told
+                _by_sum(known, [(node.name, number) for number in range(node.outputs)], report[node.name].out)
+    return known
 
 
-def _by_sum(told, outputs, count):
-    """Where all of these outputs but one are told, and all together, that one is too."""
-    left = [it for it in outputs if it not in told]
+def _by_sum(known, outputs, count):
+    """If all but one of these outputs are known, and their sum, derives the missing one."""
+    left = [output for output in outputs if output not in known]
     if len(left) == 1:
-        told[left[0]] = count - sum(told[it] for it in outputs if it != left[0])
+        known[left[0]] = count - sum(known[output] for output in outputs if output != left[0])

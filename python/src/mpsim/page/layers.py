@@ -1,16 +1,16 @@
-"""Where the nodes of a network stand: in layers from the sources to the right, with the lines between them."""
+"""Lays out a network: nodes in layers, from the sources to the right, and the lines between them."""
 
 from typing import NamedTuple, Tuple
 
 # The box of a node, and the gaps between boxes.
 WIDE, HIGH, GAP_X, GAP_Y = 150, 62, 64, 20
-# How high a line is that passes a layer, and the end of one that leaves; how wide the words behind that are; the gap around all.
+# The height of a line that crosses a layer, and of the end of one that leaves; the width of the text after that; the margin.
 PASSING, LEAVING, LEAVES, AROUND = 12, 20, 70, 12
 
 
 class Line(NamedTuple):
-    """A line from an output (its node's name and number): the names of the places by which it goes, its node's first, and whether somebody reads it
-    (else it ends by leaving)."""
+    """A line from an output (its node's name and number): the names of the places it passes, beginning with its node, and whether a node reads it
+    (else it leaves the network)."""
 
     output: Tuple[str, int]
     path: Tuple[str, ...]
@@ -18,7 +18,7 @@ class Line(NamedTuple):
 
 
 class Layout:
-    """The left side and the middle of each place, by name (`places`); the lines; and how wide and high all is."""
+    """The left edge and the middle of each place, by name (`places`); the lines; and the width and height of the drawing."""
 
     def __init__(self, nodes):
         columns, self.lines = _columns(nodes, _layers(nodes))
@@ -28,32 +28,32 @@ class Layout:
         left = {name: AROUND + at * (WIDE + GAP_X) for at, column in enumerate(columns) for name in column}
         self.places = {name: (left[name], middle[name] - top) for name in middle}
         self.height = max(y + high[name] / 2 for name, (_, y) in self.places.items()) + AROUND
-        last = LEAVES if all(name not in {it.name for it in nodes} for name in columns[-1]) else WIDE
+        last = LEAVES if all(name not in {node.name for node in nodes} for name in columns[-1]) else WIDE
         self.width = 2 * AROUND + (len(columns) - 1) * (WIDE + GAP_X) + last
 
 
 def _layers(nodes):
-    """The number of each node's layer: behind all that it reads; that of a source is just before who reads it."""
+    """Returns the number of each node's layer: after everything it reads; a source comes just before its reader."""
     layers, left = {}, list(nodes)
     while left:
-        for it in left:
-            if all(name in layers for name, _ in it.inputs):
-                layers[it.name] = max((layers[name] + 1 for name, _ in it.inputs), default=0)
-        if len(before := left) == len(left := [it for it in left if it.name not in layers]):
+        for item in left:
+            if all(name in layers for name, _ in item.inputs):
+                layers[item.name] = max((layers[name] + 1 for name, _ in item.inputs), default=0)
+        if len(before := left) == len(left := [item for item in left if item.name not in layers]):
             raise ValueError(f"node {before[0].name} of the model reads what isn't there, or itself")
     for node in nodes:
-        near = [layers[it.name] for it in nodes if any(name == node.name for name, _ in it.inputs)]
+        near = [layers[item.name] for item in nodes if any(name == node.name for name, _ in item.inputs)]
         if not node.inputs and near:
             layers[node.name] = min(near) - 1
     return layers
 
 
 def _columns(nodes, layers):
-    """For each layer a dict from the names of the places in it to their heights; and the lines. Where a line passes a layer, it has a place there."""
-    readers = {it: node.name for node in nodes for it in node.inputs}
+    """Returns, for each layer, the heights of its places by name (dict), and the lines. A line that crosses a layer has a place there."""
+    readers = {item: node.name for node in nodes for item in node.inputs}
     columns = [{} for _ in range(max(layers.values()) + 2)]
-    for it in nodes:
-        columns[layers[it.name]][it.name] = HIGH
+    for each in nodes:
+        columns[layers[each.name]][each.name] = HIGH
     lines = []
     for node in nodes:
         for number in range(node.outputs):
@@ -65,11 +65,11 @@ def _columns(nodes, layers):
             if not reader:
                 columns[last][name] = LEAVING
             lines.append(Line((node.name, number), (node.name, *(it for it, _ in passed), reader or name), reader is not None))
-    return [it for it in columns if it], lines
+    return [column for column in columns if column], lines
 
 
 def _middles(columns, lines, high):
-    """How far down the middle of each place is: as near to those that it is joined to as the others of its layer let it be."""
+    """Returns the vertical middle of each place: as near to its neighbours as the others in its layer allow."""
     beside = {name: [] for name in high}
     for line in lines:
         for one, other in zip(line.path, line.path[1:]):
@@ -78,7 +78,7 @@ def _middles(columns, lines, high):
     middle = {}
     for column in columns:
         _spread(column, {name: at for at, name in enumerate(column)}, middle)
-    # There and back, by those before and those behind; then by both.
+    # Forth by the places before, back by those after; then by both.
     for turn in range(10):
         order = range(len(columns)) if turn % 2 == 0 else range(len(columns) - 1, -1, -1)
         for at in order:
@@ -89,14 +89,14 @@ def _middles(columns, lines, high):
                 near.update(*columns[at + 1 : at + 2])
             wanted = {}
             for name in columns[at]:
-                found = [middle[it] for it in beside[name] if it in near]
+                found = [middle[item] for item in beside[name] if item in near]
                 wanted[name] = sum(found) / len(found) if found else middle[name]
             _spread(columns[at], wanted, middle)
     return middle
 
 
 def _spread(column, wanted, middle):
-    """Places those of a layer in the order of what they want, no nearer than the gap, and on the whole where they want to be."""
+    """Places those of a layer in the order of their wanted positions, with at least the gap between them, and on average where they want to be."""
     end, moved = None, {}
     for name in sorted(column, key=wanted.get):
         moved[name] = wanted[name] if end is None else max(wanted[name], end + GAP_Y + column[name] / 2)

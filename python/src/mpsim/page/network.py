@@ -1,4 +1,4 @@
-"""The network as SVG: loads as colours and as figures, flows as the width of the lines."""
+"""Draws the network as SVG: loads as colours and as figures, flows as the width of the lines."""
 
 from html import escape
 
@@ -7,21 +7,21 @@ from .flows import flows
 from .layers import HIGH, WIDE, Layout
 from .tables import shown
 
-# The steps of the scale of loads.
+# The steps of the load scale.
 STEPS = 5
-# How round a box is, by kind, and where its letters begin.
+# The corner radius of a box, by kind, and where its text begins.
 ROUND, INDENT = {"source": 31, "delay": 31, "split": 2, "fork": 2, "join": 2}, {"source": 14, "delay": 14}
-# Nobody waits at these, so that the line of figures tells how many came.
+# No job waits at these, so the line of figures shows the arrivals.
 TOLD_BY_IN = "source", "split", "fork", "delay", "trunk"
 
 
 def nodes_that_are_drawn(report):
-    """The nodes of the report's model (list of ModelNode), none where that isn't known."""
+    """Returns the nodes of the report's model (list of ModelNode), none if it isn't known."""
     return nodes_of(report.model) if report.model else []
 
 
 def step(util):
-    """The step of the scale: 1 to 5 by fifths, 0 for a node without servers."""
+    """Returns the step of the load scale: 1 to 5 by fifths, 0 for a node without servers."""
     return 0 if util is None else min(int(util * STEPS), STEPS - 1) + 1
 
 
@@ -29,17 +29,17 @@ def _shortened(text, most):
     return text if len(text) <= most else text[: most - 1] + "…"
 
 
-def asked_of(node):
-    """The second line of a box: the kind and what the model asks of it."""
-    return _shortened(f"{node.kind} {node.asked}".strip(), 22)
+def arguments_of(node):
+    """Returns the second line of a box: the kind and its arguments in the model."""
+    return _shortened(f"{node.kind} {node.arguments}".strip(), 22)
 
 
 def figures_of(line):
-    """The third line of a box, of a line of the report."""
+    """Returns the third line of a box, from a line of the report."""
     if line.kind in TOLD_BY_IN:
         text = f"{line.in_:,} in"
     elif line.p90 is None and line.max is None:
-        # Of a pool without lines of jobs the mean alone is known.
+        # For a pool without job lines only the mean is known.
         text = f"mean wait {shown(None if line.mean_wait is None else round(line.mean_wait, 3))}"
     else:
         text = f"max {line.max:,}" if line.p90 is None else f"p90 {line.p90:,}"
@@ -47,23 +47,23 @@ def figures_of(line):
 
 
 def said_of(line):
-    """What is read out of a box."""
+    """Returns the text of a box for screen readers."""
     return f"{line.name}, {line.kind}, {'no servers' if line.util is None else f'util {line.util:.4f}'}, {figures_of(line)}"
 
 
 def network(report, lines, chosen=None, is_still=False):
-    """The SVG (str), with the figures of `lines` (list of Node) and the chosen node marked; "" where the report's model isn't known. In one that is
-    still no node is a button."""
-    nodes, figures = nodes_that_are_drawn(report), {it.name: it for it in lines}
+    """Returns the SVG (str), with the figures of `lines` (list of Node) and the selected node marked; "" if the report's model isn't known. In a
+    still one no node is a button."""
+    nodes, figures = nodes_that_are_drawn(report), {line.name: line for line in lines}
     if not nodes:
         return ""
-    layout, counts, outputs = Layout(nodes), flows(nodes, report), {it.name: it.outputs for it in nodes}
+    layout, counts, outputs = Layout(nodes), flows(nodes, report), {node.name: node.outputs for node in nodes}
     most = max([*counts.values(), 1])
-    # A wide network shrinks to the page, down to letters that can still be read, and then scrolls.
+    # A wide network shrinks to the page, as long as its text stays legible, and then scrolls.
     size = f'viewBox="0 0 {layout.width:.0f} {layout.height:.0f}" width="{layout.width:.0f}" style="min-width:{0.72 * layout.width:.0f}px"'
     parts = [f'<svg class="network" {size} role="group" aria-label="Network of {len(nodes)} nodes">']
     parts += [_line(it, [layout.places[name] for name in it.path], counts.get(it.output), most, outputs[it.output[0]]) for it in layout.lines]
-    parts += [_box(figures[it.name], it, layout.places[it.name], it.name == chosen, is_still) for it in nodes]
+    parts += [_box(figures[node.name], node, layout.places[node.name], node.name == chosen, is_still) for node in nodes]
     return "".join(parts) + "</svg>"
 
 
@@ -85,19 +85,19 @@ def _line(line, places, count, most, outputs):
     else:
         tip = f'<circle class="tip" cx="{to_x + 3}" cy="{to_y:.1f}" r="4"/>'
         tip += f'<text class="flow leave" x="{to_x + 11}" y="{to_y + 4:.1f}">{text} leave</text>'
-    # The number of the output stands near the next layer, where the lines of a split have parted.
+    # The number of the output is near the next layer, where the lines of a split have separated.
     near_x, near_y = places[1]
     port = f'<text class="flow" x="{near_x - 12}" y="{near_y - 7:.1f}" text-anchor="end">.{number}</text>' if outputs > 1 and number else ""
-    told = f"<title>output {number}: {text} jobs</title>"
+    label = f"<title>output {number}: {text} jobs</title>"
     drawn = f'<path d="{path}" stroke-width="{1 + 5 * (count or 0) / most:.1f}"/>'
-    return f'<g class="edge{" none" if count == 0 else ""}" data-flow="{name}.{number}">{told}{drawn}{tip}{port}</g>'
+    return f'<g class="edge{" none" if count == 0 else ""}" data-flow="{name}.{number}">{label}{drawn}{tip}{port}</g>'
 
 
 def _box(line, node, place, is_chosen, is_still):
     x, middle = place
     top, said, left = middle - HIGH / 2, escape(said_of(line)), x + INDENT.get(node.kind, 10)
     parts = [f'<title>{said}</title><rect class="box" x="{x}" y="{top:.1f}" width="{WIDE}" height="{HIGH}" rx="{ROUND.get(node.kind, 8)}"/>']
-    rows = ("name", 18, _shortened(node.name, 14)), ("kind", 33, asked_of(node)), ("figures", 46, figures_of(line))
+    rows = ("name", 18, _shortened(node.name, 14)), ("kind", 33, arguments_of(node)), ("figures", 46, figures_of(line))
     parts += [f'<text class="{kind}" x="{left}" y="{top + down:.1f}">{escape(text)}</text>' for kind, down, text in rows]
     if line.util is not None:
         parts.append(f'<text class="load" x="{x + WIDE - 10}" y="{top + 18:.1f}" text-anchor="end">{int(100 * line.util + 0.5)} %</text>')

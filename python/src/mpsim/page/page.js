@@ -1,11 +1,11 @@
-// What is chosen, and what follows from it.
+// The selection, and what depends on it.
 const data = JSON.parse(document.getElementById('data').textContent);
 const by = id => document.getElementById(id);
 const valuesOf = (run, node) => data.runs[run].nodes[node] || data.columns.map(() => null);
 const figureOf = (run, node) => name => valuesOf(run, node)[data.columns.indexOf(name)];
 const state = { run: 0, node: data.node, figure: data.columns[0] };
 
-// The figure to begin with is one that differs between the runs: the share that was asked for, or else one of these.
+// The first figure shown is one that differs between the runs: the requested share, or else one of these.
 if (data.columns[0] === 'in') {
   const differs = name => new Set(data.runs.map((_, run) => figureOf(run, state.node)(name))).size > 1;
   state.figure = ['p90', 'share lost', 'mean wait', 'util'].find(differs) || 'p90';
@@ -20,7 +20,7 @@ function showCards() {
 function showPictures() {
   const { pictures, span } = data.runs[state.run], mine = pictures[state.node];
   if (!mine) {
-    const why = Object.keys(pictures).length ? 'Nobody can wait at this node, or nobody came.'
+    const why = Object.keys(pictures).length ? 'No job can wait at this node, or none arrived.'
       : 'This report has no lines of jobs (--jobs, or jobs=True), so that there are no pictures of its waits.';
     by('pictures').replaceChildren(html('p', {}, why));
     return;
@@ -60,7 +60,7 @@ function show() {
   if (by('compared')) showCompared();
 }
 
-// The table of nodes and the network were written for the first run; these write them for the one that is chosen.
+// The table of nodes and the network were written for the first run; these write them for the selected one.
 function refillTable() {
   document.querySelectorAll('#nodes tbody tr').forEach(row => {
     row.cells[1].textContent = data.runs[state.run].kinds[row.dataset.node] ?? '–';
@@ -68,7 +68,7 @@ function refillTable() {
       fill(row.cells[at + 2], { 'data-v': value ?? '' }, []).textContent = shown(value);
     });
   });
-  // They stand as before, which is no order of these figures.
+  // The rows keep their order, which isn't one of these figures.
   document.querySelectorAll('#nodes thead th').forEach(it => it.setAttribute('aria-sort', 'none'));
 }
 function refillBoxes() {
@@ -111,7 +111,7 @@ function choose(change) {
   show();
 }
 
-// What is clicked, typed and chosen.
+// Clicks, keys and choices.
 document.querySelectorAll('g.node').forEach(box => {
   const chosen = () => choose({ node: box.dataset.node });
   box.addEventListener('click', chosen);
@@ -133,7 +133,7 @@ document.addEventListener('click', event => {
   const button = event.target.closest('thead button');
   if (!button) return;
   const cell = button.closest('th'), body = cell.closest('table').tBodies[0], at = cell.cellIndex, before = cell.getAttribute('aria-sort');
-  // Figures begin with the greatest, names with the first.
+  // Figures sort in descending order first, names in ascending order.
   const isUp = before === 'none' ? at === 0 : before === 'descending';
   for (const it of cell.parentNode.cells) it.setAttribute('aria-sort', 'none');
   cell.setAttribute('aria-sort', isUp ? 'ascending' : 'descending');

@@ -1,4 +1,4 @@
-// Elements, of a page and of pictures.
+// Elements of the page and of charts.
 const fill = (element, attributes, children) => {
   for (const [name, value] of Object.entries(attributes)) element.setAttribute(name, value);
   element.append(...children);
@@ -9,12 +9,12 @@ const svg = (name, attributes = {}, ...children) => fill(document.createElementN
 
 const WIDE = 560, HIGH = 250, LEFT = 56, RIGHT = 46, TOP = 12, BOTTOM = 40, FLOOR = HIGH - BOTTOM;
 
-// A picture with two axes: x has low, high, its name, and the text of a place; y has high, and a text. Its places are read out by the pointer and by
-// the arrow keys: `read` tells of each.
+// A chart with two axes: x has low, high, its name, and the text of a place; y has high, and a text. The pointer and the arrow keys step through its
+// places; `read` describes each.
 function picture(name, says, x, y, places, read) {
   const across = value => LEFT + (WIDE - LEFT - RIGHT) * (value - x.low) / (x.high - x.low || 1);
   const up = value => FLOOR - (FLOOR - TOP) * value / (y.high || 1);
-  const label = `${says}. Arrow keys read it out.`;
+  const label = `${says}. Step through it with the arrow keys.`;
   const root = svg('svg', { viewBox: `0 0 ${WIDE} ${HIGH}`, role: 'img', tabindex: 0, 'aria-label': label, 'data-picture': name });
   const grid = svg('g', { class: 'grid' }), axis = svg('g', { class: 'axis' });
   for (const value of stepsOf(0, y.high, 5)) {
@@ -49,16 +49,16 @@ function picture(name, says, x, y, places, read) {
   return { root, told, across, up };
 }
 
-// Waits over time: a step a piece, a gap where nobody departed; below them bars of who came, and of these who was lost or held.
+// Waits over time: a step per interval, a gap if no job departed; below them bars of arrivals, and of those that were lost or held.
 function timesTold(begin, end, span, calendar) {
   const time = tick => clock(tick, calendar, span * calendar.tick > DAY ? 'both' : 'time');
   return `${time(begin)} to ${time(end)}`;
 }
 function pieceTold({ width, came, lost, p50, p90, max }, at, span, calendar) {
   const gone = lost[at] ? `, ${shown(lost[at])} lost or held` : '';
-  const text = `${timesTold(at * width, (at + 1) * width, span, calendar)}: ${shown(came[at])} came${gone}`;
+  const text = `${timesTold(at * width, (at + 1) * width, span, calendar)}: ${shown(came[at])} arrived${gone}`;
   if (p50[at] === null) return text;
-  return `${text}; half waited for ${shown(p50[at])} or less, 9 of 10 for ${shown(p90[at])}, the longest for ${shown(max[at])}`;
+  return `${text}; half waited ${shown(p50[at])} or less, 9 of 10 ${shown(p90[at])} or less, the longest wait was ${shown(max[at])}`;
 }
 function stairs(values, width, across, up) {
   let path = '', isOpen = false, end = null;
@@ -74,7 +74,7 @@ function stairs(values, width, across, up) {
 }
 const timeAxis = (end, calendar, name) => ({ low: 0, high: end, calendar, name,
   text: value => clock(value, calendar, end * calendar.tick < 4 * DAY ? 'time' : 'date') });
-// Lines over time, of pairs of a name and a class, each with its name at its end.
+// Lines over time, from pairs of a name and a class, each with its name at its end.
 function drawLines(p, series, kinds) {
   const ends = [];
   for (const [name, kind] of kinds) {
@@ -82,7 +82,7 @@ function drawLines(p, series, kinds) {
     p.root.append(svg('path', { class: kind, d: line.path }));
     if (line.end) ends.push([name, kind, line.end[1]]);
   }
-  // Names of lines that end near one another stand one below the other.
+  // Names of lines that end close together go one below the other.
   ends.sort((one, other) => one[2] - other[2]);
   ends.forEach((it, at) => { if (at) it[2] = Math.max(it[2], ends[at - 1][2] + 12); });
   const past = Math.max(0, ...ends.map(it => it[2] - FLOOR));
@@ -92,7 +92,7 @@ function overTime(series, span, calendar) {
   const { width, came, lost } = series, end = came.length * width;
   const top = Math.max(1, ...series.max.map(Number)), most = Math.max(1, ...came);
   const axis = timeAxis(end, calendar, calendar.tick ? 'time of arrival' : 'arrival, ticks');
-  const p = picture('time', 'Waits by the time at which jobs came', axis, { high: top, text: shown }, came.map((_, at) => (at + .5) * width),
+  const p = picture('time', 'Waits by time of arrival', axis, { high: top, text: shown }, came.map((_, at) => (at + .5) * width),
     at => pieceTold(series, at, span, calendar));
   const bar = (value, kind, at) => {
     const high = 46 * value / most, wide = Math.max(p.across(width) - p.across(0) - .4, .6);
@@ -100,11 +100,11 @@ function overTime(series, span, calendar) {
   };
   came.forEach((value, at) => { bar(value, 'came', at); bar(lost[at], 'lost', at); });
   drawLines(p, series, [['max', 'max'], ['p90', 'p90'], ['p50', 'p50']]);
-  const bars = `Bars: how many came${lost.some(it => it) ? ', and in the darker colour how many of them were lost or held' : ''}.`;
-  return html('figure', {}, html('h3', {}, 'Waits over time'), p.root, p.told, html('figcaption', {}, `Pieces of ${shown(width)} ticks. Lines: the waits, in ticks. ${bars}`));
+  const bars = `Bars: arrivals${lost.some(it => it) ? ', and in the darker colour how many of them were lost or held' : ''}.`;
+  return html('figure', {}, html('h3', {}, 'Waits over time'), p.root, p.told, html('figcaption', {}, `Intervals of ${shown(width)} ticks. Lines: the waits, in ticks. ${bars}`));
 }
 
-// How many are in the node over time: of each piece the mean and the greatest. The last piece ends with the run; the axis is that of the waits.
+// The number in the node over time: the mean and the maximum of each interval. The last interval ends with the run; the axis is that of the waits.
 function numberTold({ width, mean, max }, at, span, calendar) {
   const times = timesTold(at * width, Math.min((at + 1) * width, span), span, calendar);
   return `${times}: ${shown(mean[at])} in the node on average, ${shown(max[at])} at most`;
@@ -116,15 +116,15 @@ function numberOverTime(series, span, calendar) {
     at => numberTold(series, at, span, calendar));
   drawLines(p, series, [['max', 'max'], ['mean', 'p50']]);
   return html('figure', {}, html('h3', {}, 'Number in the node over time'), p.root, p.told,
-    html('figcaption', {}, `Of each piece of ${shown(width)} ticks the mean, and the most at one time. Who is lost isn't in it.`));
+    html('figcaption', {}, `The mean and the maximum in each interval of ${shown(width)} ticks. Lost jobs don't count.`));
 }
 
-// The share by wait, of those that departed; and a field that tells the share served within a time, of all that came as well.
+// The share by wait, of those that departed; and a field for a time, with the shares of arrivals and of departures served within it.
 function byWait(waits, figure) {
   const { came, wait, count } = waits, departed = count[count.length - 1], high = Number(wait[wait.length - 1]) || 1;
-  const p = picture('waits', 'Share of those that departed, by how long they waited', { low: 0, high, name: 'wait, ticks', text: shown },
+  const p = picture('waits', 'Share of those that departed, by wait', { low: 0, high, name: 'wait, ticks', text: shown },
     { high: 1, text: it => `${Math.round(100 * it)} %` }, wait.map(Number),
-    at => `${percent(count[at] / departed)} waited for ${shown(wait[at])} or less`);
+    at => `${percent(count[at] / departed)} waited ${shown(wait[at])} or less`);
   const isStep = wait.length < 60;
   const path = wait.map((it, at) => {
     const x = p.across(Number(it)).toFixed(1), y = p.up(count[at] / departed).toFixed(1);
@@ -134,7 +134,7 @@ function byWait(waits, figure) {
   ['p50', 'p90', 'p99'].forEach((name, at) => {
     const value = figure(name);
     if (value === null) return;
-    // Each on a line of its own, so that none covers another.
+    // Each on its own line, so that none covers another.
     const x = p.across(Number(value)), isLast = x > WIDE - RIGHT - 60, y = FLOOR - 44 + 17 * at;
     p.root.append(svg('g', { class: 'mark' }, svg('line', { x1: x, x2: x, y1: TOP, y2: FLOOR }),
       svg('text', { x: isLast ? x - 4 : x + 4, y, 'text-anchor': isLast ? 'end' : 'start' }, `${name} ${shown(value)}`)));
@@ -148,13 +148,13 @@ function byWait(waits, figure) {
   };
   field.addEventListener('input', tell);
   tell();
-  const told = html('p', {}, html('label', {}, 'Served within ', field, ' ticks: '), ofAll, ` of the ${shown(came)} that came, `, ofDeparted,
+  const told = html('p', {}, html('label', {}, 'Served within ', field, ' ticks: '), ofAll, ` of the ${shown(came)} that arrived, `, ofDeparted,
     ` of the ${shown(departed)} that departed.`);
   return html('figure', {}, html('h3', {}, 'How long they waited'), p.root, p.told, told,
-    html('figcaption', {}, `The curve is of those that departed. It is exact at ${shown(wait.length)} waits.`));
+    html('figcaption', {}, `The curve counts those that departed. It is exact at ${shown(wait.length)} waits.`));
 }
 
-// Of several runs a figure of a node, over their labels where these are numbers, else side by side.
+// A figure of a node in several runs, over their labels if these are numbers, else side by side.
 function curveOf(labels, values, chosen, says, choose) {
   const isPlain = labels.every(it => it.trim() !== '' && Number.isFinite(Number(it)));
   const xs = isPlain ? labels.map(Number) : labels.map((_, at) => at);

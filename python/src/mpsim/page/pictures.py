@@ -1,4 +1,4 @@
-"""What the pictures of a page draw, worked out of a report: small, however many visits there are."""
+"""Computes the data of a page's charts from a report; small, however many visits there are."""
 
 from array import array
 from bisect import bisect_left, bisect_right
@@ -7,54 +7,54 @@ from fractions import Fraction
 from ..node_visits import HELD, LOST, percentile_of
 from ..planner.pooled import visits_at
 
-# How many numbers all pictures of a page have together, some seven a piece of the time and two a wait; and what one picture has of these, at least
-# and at most.
+# The limit of numbers for all charts of a page together, at about seven per time interval and two per wait; and the minimum and maximum for one
+# chart.
 NUMBERS, LEAST, PIECES, WAITS = 6000, 20, 240, 200
-# A piece of the time has so many visits on average, or its percentiles say little.
+# The average number of visits per interval, below which percentiles mean little.
 VISITS = 20
-# Widths of less than a day that people like, in seconds.
+# Round widths of less than a day, in seconds.
 CLOCK, DAY = [1, 2, 5, 10, 15, 20, 30, 60, 120, 300, 600, 900, 1800, 3600, 7200, 10800, 21600, 43200], 86400
-# Nobody waits at these, and nobody is in these for any time.
+# No job waits at these, and none spends any time in these.
 WITHOUT_WAITS, PASSED = ("source", "split", "fork", "delay"), ("source", "split", "fork")
 
 
 def nice(least, tick=None):
-    """A width that people like, no less than this one (int, in ticks): 1, 2 or 5 with zeros; where it is known how many seconds a tick has, seconds,
-    minutes, hours or days."""
+    """Returns a round width, not less than this one (int, in ticks): 1, 2 or 5 with zeros; if the seconds per tick are known, round seconds, minutes,
+    hours or days."""
     if tick is None:
         power = 10 ** (len(str(least)) - 1)
-        return next(it * power for it in (1, 2, 5, 10) if it * power >= least)
+        return next(item * power for item in (1, 2, 5, 10) if item * power >= least)
     tick = Fraction(str(tick))
-    seconds = next((it for it in CLOCK if it >= least * tick), None) or DAY * nice(-(-least * tick // DAY))
+    seconds = next((item for item in CLOCK if item >= least * tick), None) or DAY * nice(-(-least * tick // DAY))
     return -(-seconds // tick)
 
 
 def width_of(span, pieces, tick=None):
-    """How wide (int, ticks) a piece of the time is, of about so many."""
+    """Returns the width (int, ticks) of a time interval, for about this many."""
     return nice(-(-max(span, 1) // pieces), tick)
 
 
 def over_time(visits, span, pieces, tick=None):
-    """The visits of a node by the time at which they came, in about so many pieces of one width: how many came, how many of these were lost or held,
-    and of the waits of those that departed p50, p90 and the greatest, None where none did."""
+    """Returns the visits to a node by time of arrival, in about this many intervals of equal width: the arrivals, how many of them were lost or held,
+    and the p50, p90 and maximum of the waits of those that departed, None if none did."""
     width = width_of(span, pieces, tick)
-    told = {"width": width, "came": [], "lost": [], "p50": [], "p90": [], "max": []}
+    series = {"width": width, "came": [], "lost": [], "p50": [], "p90": [], "max": []}
     begin = 0
     for end_time in range(width, span + width + 1, width):
         end = bisect_left(visits.arrive, end_time, begin)
-        waits = sorted(it for it in visits.wait[begin:end] if it >= 0)
-        told["came"].append(end - begin)
-        told["lost"].append(end - begin - len(waits))
+        waits = sorted(item for item in visits.wait[begin:end] if item >= 0)
+        series["came"].append(end - begin)
+        series["lost"].append(end - begin - len(waits))
         for name, percent in ("p50", 50), ("p90", 90), ("max", 100):
-            told[name].append(percentile_of(waits, percent) if waits else None)
+            series[name].append(percentile_of(waits, percent) if waits else None)
         begin = end
-    return told
+    return series
 
 
 def number_over_time(visits, span, width):
-    """How many of the visits of a node were in it, in pieces of the time of one width (int, ticks), of which the last ends with the span: the mean of
-    each piece, to three digits, and the greatest number. Who was lost is never in it, who is held is there to the end. At a moment who leaves is gone
-    and who comes is there, so that a visit that takes no time isn't seen.
+    """Returns how many of a node's visits were in it, in time intervals of one width (int, ticks), the last of which ends with the span: the mean of
+    each interval, to three decimals, and the maximum. Lost visits are never in the node, held ones stay to the end. At any moment departures come
+    before arrivals, so a visit of no duration doesn't show.
 
     >>> import mpsim
     >>> report = mpsim.run("model 1\\nsource door\\nserver desk =4 from door\\n", [("door", 0), ("door", 1), ("door", 4)], jobs=True)
@@ -63,20 +63,19 @@ def number_over_time(visits, span, width):
     """
     begins = array("q", (arrive for arrive, wait in zip(visits.arrive, visits.wait) if wait != LOST))
     ends = array("q", sorted(span if wait == HELD else depart for depart, wait in zip(visits.depart, visits.wait) if wait != LOST))
-    told, came, gone = {"width": width, "mean": [], "max": []}, 0, 0
+    series, came, gone = {"width": width, "mean": [], "max": []}, 0, 0
     for begin in range(0, span, width):
         end, first, before = min(begin + width, span), came, gone
         came, gone = bisect_left(begins, end, first), bisect_left(ends, end, before)
-        # Who was there at the begin is there for all of the piece, but for what is behind a departure; who comes, from the arrival on.
+        # A visit present at the beginning counts for the whole interval, less the time after its departure; an arrival counts from its time on.
         within = (first - before) * (end - begin) + (came - first - gone + before) * end - sum(begins[first:came]) + sum(ends[before:gone])
-        told["mean"].append(round(within / (end - begin), 3))
-        told["max"].append(_greatest(begins, ends, begin, range(first, came), before))
-    return told
+        series["mean"].append(round(within / (end - begin), 3))
+        series["max"].append(_greatest(begins, ends, begin, range(first, came), before))
+    return series
 
 
 def _greatest(begins, ends, begin, numbers, gone):
-    """The greatest number that is there at once within a piece: at its begin, or when one of those of these numbers (a range) has come. So many were
-    gone before."""
+    """Returns the maximum present at once within an interval: at its beginning, or after one of these arrivals (range) less those gone before."""
     gone = bisect_right(ends, begin, gone)
     most = numbers.start - gone
     for number in numbers:
@@ -88,31 +87,31 @@ def _greatest(begins, ends, begin, numbers, gone):
 
 
 def distribution(visits, most):
-    """How many visits came, and of those that departed some of their waits, rising, with how many waited for no longer. Each count is exact. They
-    are all waits where these are few; else those at equal ranks, at percentiles that people ask for, and at ranks that close in on the greatest."""
+    """Returns the number of visits, and some waits of those that departed, in rising order, with how many waited no longer. Each count is exact. All
+    waits are included if they are few; else those at equally spaced ranks, at common percentiles, and at ranks that close in on the longest."""
     waits = visits.waits()
     count = len(waits)
-    ranks = {1} | {-(-count * it // most) for it in range(1, most + 1)} | {-(-count * it // 100) for it in (50, 90, 95, 99)}
-    ranks |= {count - (count >> it) for it in range(1, count.bit_length() + 1)}
-    kept = sorted({waits[it - 1] for it in ranks if it > 0}) if count else []
-    return {"came": len(visits), "wait": kept, "count": [bisect_right(waits, it) for it in kept]}
+    ranks = {1} | {-(-count * number // most) for number in range(1, most + 1)} | {-(-count * item // 100) for item in (50, 90, 95, 99)}
+    ranks |= {count - (count >> number) for number in range(1, count.bit_length() + 1)}
+    kept = sorted({waits[rank - 1] for rank in ranks if rank > 0}) if count else []
+    return {"came": len(visits), "wait": kept, "count": [bisect_right(waits, item) for item in kept]}
 
 
 def pictures_of(report, nodes, numbers, tick=None):
-    """The pictures of those of some nodes (list of Node) of a report in which somebody can be and to which somebody came, by name; of about so many
-    numbers together. `tick` is how many seconds a tick has, where that is known."""
+    """Returns the charts of those nodes (list of Node) of a report where jobs can stay and did arrive, by name, with about this many numbers in all.
+    `tick` is the seconds per tick, if known."""
     if report.visits is None:
         return {}
-    waited = {it.name: it.kind not in WITHOUT_WAITS for it in nodes if it.kind not in PASSED}
-    drawn = [it for it in visits_at(report, waited) if len(it)]
+    waited = {node.name: node.kind not in WITHOUT_WAITS for node in nodes if node.kind not in PASSED}
+    drawn = [visit for visit in visits_at(report, waited) if len(visit)]
     each = numbers // max(len(drawn), 1)
     pieces, waits = (min(max(each // share, LEAST), most) for share, most in ((10, PIECES), (7, WAITS)))
     found = {}
-    for it in drawn:
-        count, mine = max(min(pieces, len(it) // VISITS), 10), found.setdefault(it.node, {})
-        if waited[it.node]:
-            mine["time"] = over_time(it, report.span, count, tick)
-            mine["waits"] = distribution(it, waits)
+    for item in drawn:
+        count, mine = max(min(pieces, len(item) // VISITS), 10), found.setdefault(item.node, {})
+        if waited[item.node]:
+            mine["time"] = over_time(item, report.span, count, tick)
+            mine["waits"] = distribution(item, waits)
         if report.span:
-            mine["number"] = number_over_time(it, report.span, width_of(report.span, count, tick))
+            mine["number"] = number_over_time(item, report.span, width_of(report.span, count, tick))
     return found

@@ -1,4 +1,4 @@
-"""The tables of a page, and the figures in them."""
+"""Makes the tables of a page and formats their figures."""
 
 from html import escape
 from typing import Callable, NamedTuple
@@ -10,7 +10,7 @@ from ..report import Report
 
 
 class Column(NamedTuple):
-    """A column of the table of nodes: its head, what that says, and the figure (int or float, or None) of a node of a report."""
+    """A column of the table of nodes: its head, the explanation of the head, and the figure (int or float, or None) of a node of a report."""
 
     name: str
     says: str
@@ -22,42 +22,42 @@ def _rounded(value, digits):
 
 
 COLUMNS = [
-    Column("in", "visits", lambda report, it: it.in_),
-    Column("out", "visits that departed", lambda report, it: it.out),
-    Column("lost", "visits that were turned away", lambda report, it: it.lost),
-    Column("held", "visits held by a join to the end", lambda report, it: it.held),
-    Column("share lost", "lost / in", lambda report, it: _rounded(it.share_lost, 4)),
-    Column("mean wait", "Wq: wait / out", lambda report, it: _rounded(it.mean_wait, 3)),
-    Column("p50", "half waited for no longer", lambda report, it: it.p50),
-    Column("p90", "9 of 10 waited for no longer", lambda report, it: it.p90),
-    Column("p99", "99 of 100 waited for no longer", lambda report, it: it.p99),
-    Column("max", "the longest wait", lambda report, it: it.max),
-    Column("util", "busy / (servers × span)", lambda report, it: it.util),
-    Column("in node", "L: mean number of jobs, area / span", lambda report, it: _rounded(it.area / report.span, 3) if report.span else None),
-    Column("peak", "most jobs just after one came", lambda report, it: it.peak),
+    Column("in", "visits", lambda report, node: node.in_),
+    Column("out", "visits that departed", lambda report, node: node.out),
+    Column("lost", "visits that were turned away", lambda report, node: node.lost),
+    Column("held", "visits held by a join to the end", lambda report, node: node.held),
+    Column("share lost", "lost / in", lambda report, node: _rounded(node.share_lost, 4)),
+    Column("mean wait", "Wq: wait / out", lambda report, node: _rounded(node.mean_wait, 3)),
+    Column("p50", "half waited no longer", lambda report, node: node.p50),
+    Column("p90", "9 of 10 waited no longer", lambda report, node: node.p90),
+    Column("p99", "99 of 100 waited no longer", lambda report, node: node.p99),
+    Column("max", "the longest wait", lambda report, node: node.max),
+    Column("util", "busy / (servers × span)", lambda report, node: node.util),
+    Column("in node", "L: mean number of jobs, area / span", lambda report, node: _rounded(node.area / report.span, 3) if report.span else None),
+    Column("peak", "most jobs just after an arrival", lambda report, node: node.peak),
 ]
 
 
 def columns_of(reports, within=None):
-    """The columns of a page, with the share that is served within so many ticks where that is asked for. Raises ValueError where a report has no
-    visits for that."""
+    """Returns the columns of a page, with the share served within this many ticks if requested. Raises ValueError if a report lacks the visits for
+    that."""
     if within is None:
         return COLUMNS
-    if any(it.visits is None for it in reports):
-        raise ValueError("the share within a time wants the lines of the jobs: jobs=True, or --jobs")
-    says = f"share of all that came who were served after at most {within} ticks"
-    return [Column(f"within {within}", says, lambda report, it: _rounded(_share(report, it, within), 4)), *COLUMNS]
+    if any(report.visits is None for report in reports):
+        raise ValueError("the share within a time needs job lines: use jobs=True or --jobs")
+    says = f"share of all arrivals served after at most {within} ticks"
+    return [Column(f"within {within}", says, lambda report, node: _rounded(_share(report, node, within), 4)), *COLUMNS]
 
 
 def _share(report, node, within):
-    """The share that is served within so many ticks; None where nobody ever waits or is lost."""
+    """Returns the share served within this many ticks; None if jobs never wait or get lost there."""
     if node.kind == "pool":
         return pooled(report, node.name).share_within(within)
     return None if node.kind in (*PASSED, "delay") else report.visits[node.name].share_within(within)
 
 
 def shown(value):
-    """A figure as one reads it (str)."""
+    """Formats a figure for reading (str)."""
     if value is None:
         return "–"
     if isinstance(value, int):
@@ -70,7 +70,7 @@ def _cell(value):
 
 
 def head_of(words, is_still=False):
-    """The row at the head of a table, of pairs of a word and what it says: buttons that sort, but for a table that is still."""
+    """Returns the row at the head of a table, from pairs of a word and its explanation: buttons that sort, except in a still table."""
     if is_still:
         return "<tr>" + "".join(f'<th scope="col" title="{escape(says)}">{escape(word)}</th>' for word, says in words) + "</tr>"
     cells = (f'<th scope="col" aria-sort="none"><button type="button" title="{escape(says)}">{escape(word)}</button></th>' for word, says in words)
@@ -84,32 +84,32 @@ def _table(name, caption, words, rows, is_still):
 
 
 def nodes_table(report, nodes, columns, is_still=False):
-    """The table of these nodes (list of Node) of a report."""
+    """Returns the table of these nodes (list of Node) of a report."""
     rows = []
-    for it in nodes:
-        cells = "".join(_cell(column.of(report, it)) for column in columns)
-        rows.append(f'<tr data-node="{it.name}"><th scope="row">{it.name}</th><td>{it.kind}</td>{cells}</tr>')
-    words = [("node", "name"), ("kind", "kind"), *((it.name, it.says) for it in columns)]
+    for item in nodes:
+        cells = "".join(_cell(column.of(report, item)) for column in columns)
+        rows.append(f'<tr data-node="{item.name}"><th scope="row">{item.name}</th><td>{item.kind}</td>{cells}</tr>')
+    words = [("node", "name"), ("kind", "kind"), *((column.name, column.says) for column in columns)]
     return _table("nodes", "Nodes, times in ticks", words, rows, is_still)
 
 
 def exits_table(report, is_still=False):
-    """The table of the outputs that nobody reads."""
+    """Returns the table of the outputs that no node reads."""
     rows = []
-    for it in report.exits:
-        mean = _rounded(it.sojourn / it.jobs, 3) if it.jobs else None
-        rows.append(f'<tr><th scope="row">{it.name}.{it.output}</th>{_cell(it.jobs)}{_cell(mean)}</tr>')
-    words = [("exit", "output that nobody reads"), ("jobs", "jobs that left"), ("mean sojourn", "from coming into the network to leaving it")]
+    for item in report.exits:
+        mean = _rounded(item.sojourn / item.jobs, 3) if item.jobs else None
+        rows.append(f'<tr><th scope="row">{item.name}.{item.output}</th>{_cell(item.jobs)}{_cell(mean)}</tr>')
+    words = [("exit", "output that no node reads"), ("jobs", "jobs that left"), ("mean sojourn", "from arriving in the network to leaving it")]
     return _table("exits", "Where jobs left the network", words, rows, is_still)
 
 
 def facts(report):
-    """A line on a whole run."""
+    """Returns a line about the whole run."""
     mean = report.mean_sojourn
     return f"{report.jobs:,} jobs, span {report.span:,} ticks" + ("" if mean is None else f", mean time in the network {mean:,.1f} ticks")
 
 
 def legend():
-    """What the colours of the network say."""
-    steps = "".join(f'<span class="load{it}">{20 * it - 20}–{20 * it} %</span>' for it in range(1, 6))
-    return f'<p class="legend">Utilisation: {steps}<span class="load0">no servers</span> Lines are as wide as the jobs that went by.</p>'
+    """Returns the legend of the network's colours."""
+    steps = "".join(f'<span class="load{number}">{20 * number - 20}–{20 * number} %</span>' for number in range(1, 6))
+    return f'<p class="legend">Utilisation: {steps}<span class="load0">no servers</span> The width of a line shows how many jobs took it.</p>'

@@ -1,32 +1,36 @@
-"""The command `planner`: what stands between an export and a decision.
+"""The command `mpplan`, which takes a planner from an export to a decision.
 
-Each name of COMMANDS is a subcommand, and a module here with the functions that a program calls as well. The module has `EXAMPLE`, a call as one
-types it; `words(parser)`, which declares its words; and `main(asked)`, which does what they ask and gives the status, None for 0. What can't be done
-is raised: an Error of a program, a ReportError, an OSError, or a ValueError whose text says which file, row, column and value. It ends as one line.
+Each name in COMMANDS is a subcommand and a module of this package, whose functions can be called from Python too. The module has `EXAMPLE`, an
+example command line; `words(parser)`, which declares the arguments; and `main(args)`, which runs the command and returns its status, None for 0. It
+raises an Error of a program, a ReportError, an OSError, or a ValueError whose message names the file, row, column and value. `mpplan` prints any of
+them as one line.
 """
 
 import sys
 
 COMMANDS = {
-    "prepare": "makes a trace of an export with any delimiter, encoding, time format and names, and the first lines of its model",
-    "scale": "makes a trace with more load of a trace",
-    "edit": "changes records of a trace, adds some, or takes some out",
-    "pool": "divides the calls of a trace among agents with one queue",
-    "run": "runs a trace through a model, and writes the report, and a page to look at",
-    "days": "cuts a trace by day, runs each day by itself, and tells all in one table",
-    "table": "writes the nodes, exits or visits of a report or a sweep as CSV",
-    "compare": "writes one figure of each node over several reports, with the differences to the first",
-    "service": "tells of a node the share that is served within a time, and percentiles of the waits",
-    "hours": "tells who came and waited by hour of the day, hour, day or weekday",
-    "sojourns": "tells how long jobs were in the network, by source and by the node where they left",
-    "sweep": "runs traces through any number of models, here or on other machines, and writes one table",
-    "page": "makes a page to look at of reports",
+    "prepare": "make a trace from an export, whatever its delimiter, encoding, time format and names, and start a model for it",
+    "scale": "scale the load of a trace up or down",
+    "edit": "change, add or remove records of a trace",
+    "pool": "divide the calls of a trace among agents who share one queue",
+    "staff": "find the least number of agents per interval of the day that reaches a service level",
+    "recorded": "report what the telephone system recorded, abandoned calls included, per interval of the day",
+    "validate": "compare recorded waits with those of a model, per interval of the day",
+    "run": "run a trace through a model, and write its report and an HTML page of it",
+    "days": "run each day of a trace separately, and write all days as one table",
+    "table": "write the nodes, exits or visits of a report or a sweep as CSV",
+    "compare": "compare one figure of each node across reports, with the differences from the first",
+    "service": "report a node's service level (the share served within a time) and its wait percentiles",
+    "hours": "report arrivals and waits by hour of day, by day, by weekday or hour by hour",
+    "sojourns": "report how long jobs stay in the network, by source and by the node where they leave",
+    "sweep": "run traces through any number of models, here or on other machines, and write one table",
+    "page": "make an HTML page from one or more reports",
 }
 
 
 def main(argv=None):
-    """Does what the words ask (those of the command line where none are given), and gives the status: 0, that of a program which refused or failed,
-    2 for words that are none, 130 for Ctrl-C, 141 where nobody reads the output any more, 1 for all else."""
+    """Runs `mpplan` with these arguments (by default those of the command line) and returns its status: 0; that of a program that refused or failed;
+    2 for invalid arguments; 130 for Ctrl-C; 141 if the reader of the output has gone; 1 otherwise."""
     try:
         from .command import ended
 

@@ -1,4 +1,4 @@
-"""`python3 -m mpsim.planner` is the command `planner`."""
+"""Runs the command `mpplan` as `python3 -m mpsim.planner`."""
 
 import sys
 

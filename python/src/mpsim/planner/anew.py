@@ -1,4 +1,4 @@
-"""Pools that stand in a model, and who serves and waits in them worked out anew, for a part of the trace that `planner pool` made."""
+"""Finds the pools in a model and recomputes their agents and waits for part of a trace that `mpplan pool` made."""
 
 import contextlib
 from typing import NamedTuple
@@ -7,13 +7,14 @@ from ..errors import BoundError, ModelError, TraceError, VisitsError
 from ..inputs import model_input
 from ..model import nodes_of
 from ..runs import run
+from . import rostered
 from .pool import agent_lines, calls_at, columns_of, front, in_front, inputs_of, trunk_lines
-from .pooled import agents_of, queue_name
+from .pooled import agents_of, gone_name, queue_name
 
 
 class Standing(NamedTuple):
-    """A pool that stands in a model: its name (str), how many agents it has (int), the demand of its calls (str), and the model (str) in which they
-    come to it, as `pool.front` has it."""
+    """A pool in a model: its name (str), its number of agents (int), the service time of its calls (str), and the model (str) of everything upstream
+    of it, as returned by `pool.front`."""
 
     name: str
     agents: int
@@ -22,9 +23,11 @@ class Standing(NamedTuple):
 
 
 def standing(model, trace):
-    """The pools (list of Standing) that stand in a model with the lines that `planner pool` writes, each behind those that stand in front of it. A
-    trunk group that loses a call of the trace (Trace) is none, since that was made for another number of agents; where the trace is refused it is
-    one. The model is one that `mpsim.run` takes. Where it is none, or can't be read again, no pool stands there.
+    """Returns the pools (list of Standing) in a model whose lines are those that `mpplan pool` writes, upstream pools first.
+
+    A trunk group that loses a call of the trace (Trace) isn't a pool, since the trace was made for another number of agents; if the trace is
+    rejected, it counts as one. The model is any that `mpsim.run` accepts. An invalid model, or one that can't be read twice, has no pools. Raises
+    ValueError for a pool with a roster, patience or priorities, whose agents don't follow from their number.
 
     >>> from mpsim.planner.anew import standing
     >>> from mpsim.planner.traces import Trace
@@ -36,10 +39,14 @@ def standing(model, trace):
     with contextlib.closing(model_input(model)) as given:
         text = given.text() or ""
     found, lost = [], {}
-    # What the reader of models can't take is left to the runs that refuse it.
+    # Models that this reader can't parse are left to the runs that reject them.
     with contextlib.suppress(ValueError):
-        nodes = {it.name: it for it in nodes_of(text)}
-        found = sorted(_named(nodes), key=lambda it: len(in_front(nodes, [queue_name(it[0])])))
+        nodes = {node.name: node for node in nodes_of(text)}
+        found = sorted(_named(nodes), key=lambda item: len(in_front(nodes, [queue_name(item[0])])))
+    for name, *_ in found:
+        if rostered.COMMENT.format(node=name) in text.splitlines() or gone_name(name) in nodes:
+            why = "its waits hold only for the whole trace; run mpplan pool for each part"
+            raise ValueError(f"{name} is a pool with a roster, patience or priorities: {why}")
     if groups := [name for name, *_, end in found if name == end]:
         with contextlib.suppress(ModelError, TraceError, BoundError, VisitsError):
             report = run(front(text, groups), trace.lines())
@@ -48,26 +55,54 @@ def standing(model, trace):
 
 
 def _named(nodes):
-    """Of each pool among nodes (a dict of ModelNode by their names) its name, its agents, the demand of its calls, and a node that serves them: the
-    trunk group, which has its name, or the first agent."""
-    for it in nodes.values():
-        name = it.name.removesuffix(queue_name(""))
-        if it.kind == "delay" and name in nodes and nodes[name].kind == "trunk":
-            agents, demand = nodes[name].asked.split()
-            end, lines = name, trunk_lines(name, int(agents), demand, inputs_of(it))
-        elif it.kind == "split" and (servers := agents_of(nodes, name)):
-            agents, demand, end = len(servers), nodes[servers[0]].asked, servers[0]
-            lines = agent_lines(name, agents, demand, inputs_of(it), is_read=False)
+    """Yields the name, the number of agents, the service time and a serving node of each pool among `nodes` (dict of ModelNode by name). The serving
+    node is the trunk group of the pool's name, or the first agent."""
+    for node in nodes.values():
+        name = node.name.removesuffix(queue_name(""))
+        if node.kind == "delay" and name in nodes and nodes[name].kind == "trunk":
+            agents, demand = nodes[name].arguments.split()
+            end, lines = name, trunk_lines(name, int(agents), demand, inputs_of(node))
+        elif node.kind == "split" and (servers := agents_of(nodes, name)):
+            agents, demand, end = len(servers), nodes[servers[0]].arguments, servers[0]
+            lines = agent_lines(name, agents, demand, inputs_of(node), is_read=False)
         else:
             continue
         if all(nodes.get(made.name) == made for made in nodes_of("\n".join(lines))):
             yield name, int(agents), demand, end
 
 
+def pools_in(text, trace):
+    """Returns the pools (list of Standing) in the lines of a model (str) whose agents and waits are columns of a trace (Trace), upstream pools first,
+    whatever number of agents the trace was made for. Raises ValueError for a pool with a roster, patience or priorities."""
+    with contextlib.suppress(ValueError):
+        nodes = {node.name: node for node in nodes_of(text)}
+        found = sorted(_named(nodes), key=lambda item: len(in_front(nodes, [queue_name(item[0])])))
+        there = [it for it in found if f"{it[0]}_agent" in trace.header and f"{it[0]}_wait" in trace.header]
+        return [Standing(name, agents, demand, front(text, [end])) for name, agents, demand, end in there]
+    return []
+
+
+def varied(texts, trace):
+    """Returns the names of pools (list of str) that have different numbers of agents in these models (iterable of str), and whose agents and waits
+    are columns of a trace (Trace): the trace holds for one of the numbers at most.
+
+    >>> from mpsim.planner.anew import varied
+    >>> from mpsim.planner.traces import Trace
+    >>> models = [f"model 2\\nsource door\\ndelay desk_queue desk_wait from door\\ntrunk desk {agents} talk from desk_queue\\n" for agents in (1, 2)]
+    >>> trace = Trace("t.csv", ["source", "time", "talk", "desk_agent", "desk_wait"], [])
+    >>> varied(models, trace), varied(models[:1], trace)
+    (['desk'], [])
+    """
+    numbers = {}
+    for text in texts:
+        for pool in pools_in(text, trace):
+            numbers.setdefault(pool.name, set()).add(pool.agents)
+    return [name for name, counts in numbers.items() if len(counts) > 1]
+
+
 def anew(trace, pools):
-    """The trace (Trace) in whose columns who serves and the waits at pools (a list of Standing, as `standing` gives it) are those of its own records,
-    in a network that is empty at its time 0, whatever stood there. Raises what `mpsim.run` does, and ValueError where a job comes to a pool more than
-    once.
+    """Returns the trace (Trace) with the agents and waits at `pools` (list of Standing, from `standing`) recomputed from its own records, in a
+    network that is empty at time 0. Raises what `mpsim.run` does, and ValueError if a job visits a pool more than once.
 
     >>> from mpsim.planner.anew import anew, standing
     >>> from mpsim.planner.pool import Queue
@@ -78,7 +113,7 @@ def anew(trace, pools):
     >>> [[row[-1] for row in it.rows] for it in (later, anew(later, standing(model, whole)))]
     [['7', '10'], ['0', '3']]
     """
-    for it in pools:
-        calls = calls_at(run(it.front, trace.lines(), jobs=True), queue_name(it.name), it.name, it.demand, trace)
-        trace = trace.with_values(**columns_of(it.name, it.agents, calls, len(trace.rows)))
+    for pool in pools:
+        calls = calls_at(run(pool.front, trace.lines(), jobs=True), queue_name(pool.name), pool.name, pool.demand, trace)
+        trace = trace.with_values(**columns_of(pool.name, pool.agents, calls, len(trace.rows)))
     return trace

@@ -1,4 +1,4 @@
-"""Ticks, and the days and hours that they are."""
+"""Converts between ticks and the days and hours of a calendar."""
 
 import re
 
@@ -7,84 +7,86 @@ from .zones import Zone
 
 
 def words(parser):
-    """Declares the words that say what a tick is."""
-    parser.add_argument("--tick", metavar="LENGTH", help="1s, 100ms; else what the first lines of --model tell")
-    parser.add_argument("--start", metavar="TIME", help="time 0, as 2026-03-02T08:00; else the same")
-    parser.add_argument("--zone", metavar="NAME", help="the zone whose days and hours count; else the same")
+    """Declares the arguments that define a tick."""
+    parser.add_argument("--tick", metavar="LENGTH", help="length of a tick, e.g. 1s or 100ms; default: from the comments of the model")
+    parser.add_argument("--start", metavar="TIME", help="date and time of time 0, e.g. 2026-03-02T08:00; default: from the comments of the model")
+    says = "time zone whose days and hours count, e.g. Europe/Berlin; default: from the comments of the model"
+    parser.add_argument("--zone", metavar="NAME", help=says)
 
 
-def words_of(asked):
-    """The options (list of str) of those that `words` declares that are given."""
-    return [f"--{name}" for name in ("tick", "start", "zone") if getattr(asked, name) is not None]
+def words_of(args):
+    """Returns those options (list of str) declared by `words` that were given."""
+    return [f"--{name}" for name in ("tick", "start", "zone") if getattr(args, name) is not None]
 
 
-def of(asked, model=None):
-    """The Calendar of a command's words and of a model's text (str or None). Raises ValueError where neither tells how long a tick is."""
-    tick, start, zone = told_in(model or "")
-    if not asked.tick and tick is None:
-        # A report has no model by itself.
-        is_report = "reports" in asked or "report" in asked and asked.trace is None
-        lines = "of a --model" if is_report else "of the model"
-        raise ValueError(f"how long is a tick? --tick and --start say it, or the first lines {lines}, as planner prepare writes them")
-    if asked.start:
-        given("--start", iso, asked.start)
-    return Calendar(given("--tick", tick_of, asked.tick) if asked.tick else tick, asked.start or start, asked.zone or zone)
+def of(args, model=None):
+    """Returns the Calendar defined by a command's arguments and a model's text (str or None). Raises ValueError if neither gives the length of a
+    tick."""
+    tick, start, zone = settings_in(model or "")
+    if not args.tick and tick is None:
+        # A report doesn't contain its model.
+        is_report = "reports" in args or "report" in args and args.trace is None
+        where = "a --model" if is_report else "a model"
+        raise ValueError(f"the length of a tick is unknown: give --tick and --start, or {where} whose first lines mpplan prepare wrote")
+    if args.start:
+        given("--start", iso, args.start)
+    return Calendar(given("--tick", tick_of, args.tick) if args.tick else tick, args.start or start, args.zone or zone)
 
 
 def tick_of(text):
-    """The microseconds of a tick. Raises ValueError where a text is none."""
-    micros = length(text)
-    if micros < 1:
-        raise ValueError("a tick is longer than 0")
-    return micros
+    """Returns the nanoseconds of a tick. Raises ValueError for an invalid text."""
+    nanos = length(text)
+    if nanos < 1:
+        raise ValueError("a tick must be longer than 0")
+    return nanos
 
 
-def length_text(micros):
-    """A length of time as `length` reads it."""
-    per, unit = (SECOND, "s") if micros % SECOND == 0 else (1000, "ms") if micros % 1000 == 0 else (1, "us")
-    return f"{micros // per}{unit}"
+def length_text(nanos):
+    """Returns a length of time in the form that `length` reads."""
+    per, unit = next((per, unit) for per, unit in ((SECOND, "s"), (10**6, "ms"), (1000, "us"), (1, "ns")) if nanos % per == 0)
+    return f"{nanos // per}{unit}"
 
 
 def first_lines(tick, start, zone, columns, sources, more=()):
-    """The lines with which a model begins: the tick (int, microseconds), time 0 (an ISO 8601 text or None), its zone (str or None), the columns that
-    a trace has behind `time`, the sources (lists of str), and before these `more` comments (list of str). `told_in` reads them.
+    """Returns the first lines of a model: the tick (int, nanoseconds), time 0 (ISO 8601 text or None), its zone (str or None), the columns of the
+    trace after `time`, `more` comments, and the sources (lists of str). `settings_in` reads them back.
 
-    >>> print(first_lines(100000, "2026-03-02T08:00:00+01:00", "Europe/Berlin", ["talk"], ["phone"]), end="")
+    >>> print(first_lines(100000000, "2026-03-02T08:00:00+01:00", "Europe/Berlin", ["talk"], ["phone"]), end="")
     model 1
     # a tick is 100ms, time 0 is 2026-03-02T08:00:00+01:00 in Europe/Berlin
     # columns: talk
     source phone
     """
-    lines = ["model 1", _told(tick, start, zone), *([f"# columns: {', '.join(columns)}"] if columns else []), *more]
-    return "".join(f"{line}\n" for line in [*lines, *(f"source {it}" for it in sources)])
+    lines = ["model 1", _settings(tick, start, zone), *([f"# columns: {', '.join(columns)}"] if columns else []), *more]
+    return "".join(f"{line}\n" for line in [*lines, *(f"source {source}" for source in sources)])
 
 
-def _told(tick, start, zone):
+def _settings(tick, start, zone):
     at = f", time 0 is {start}" + (f" in {zone}" if zone else "") if start else ""
     return f"# a tick is {length_text(tick)}{at}"
 
 
-_TOLD = rf"# a tick is (\d+(?:{'|'.join(UNITS)}))(?:, time 0 is (\S+)(?: in (\S+))?)?"
+_SETTINGS = rf"# a tick is (\d+(?:{'|'.join(UNITS)}))(?:, time 0 is (\S+)(?: in (\S+))?)?"
 
 
-def told_in(text):
-    """What the first lines of a model tell: the tick in microseconds, time 0 as an ISO 8601 text, the zone. None each where they don't."""
-    found = re.search(rf"^{_TOLD}\r?$", text, re.M)
+def settings_in(text):
+    """Returns what the first lines of a model say: the tick in nanoseconds, time 0 as an ISO 8601 text, and the zone; each None if missing."""
+    found = re.search(rf"^{_SETTINGS}\r?$", text, re.M)
     return (tick_of(found[1]), found[2], found[3]) if found else (None, None, None)
 
 
-def with_told(text, tick, start, zone):
-    """A model's text whose first lines tell this.
+def with_settings(text, tick, start, zone):
+    """Returns a model's text with these settings in its first lines.
 
-    >>> with_told("model 1\\nsource door\\n", 1000000, None, None)
+    >>> with_settings("model 1\\nsource door\\n", 1000000000, None, None)
     'model 1\\n# a tick is 1s\\nsource door\\n'
     """
-    return with_line(text, _TOLD, _told(tick, start, zone))
+    return with_line(text, _SETTINGS, _settings(tick, start, zone))
 
 
 def with_line(text, pattern, line):
-    """A model's text with a comment in place of the first line that is of a pattern; where there is none, behind the line that has the version and
-    the comments that follow it."""
+    """Returns a model's text with the first line that matches a pattern replaced by a comment. If no line matches, the comment goes after the version
+    line and the comments that follow it."""
     lines = text.split("\n")
     at = next((at for at, it in enumerate(lines) if re.fullmatch(pattern, it.removesuffix("\r"))), None)
     if at is None:
@@ -97,29 +99,30 @@ def with_line(text, pattern, line):
 
 
 class Calendar:
-    """Which day and hour a tick belongs to. `tick` (int) is in microseconds, `start` an ISO 8601 text, `zone` a name. Without a start time 0 is a
-    midnight; days change where the clock of the zone shows midnight. Raises ValueError where one is none, and for a zone without a start."""
+    """The day and hour of each tick. `tick` (int) is in nanoseconds, `start` an ISO 8601 text, `zone` a name. Without a start, time 0 is a midnight.
+    Days change at midnight of the zone. Raises ValueError for an invalid value, and for a zone without a start."""
 
     def __init__(self, tick, start=None, zone=None):
         if tick is None:
-            raise ValueError("how long is a tick? A model whose first lines `planner prepare` wrote tells it")
+            raise ValueError("the length of a tick is unknown; a model whose first lines `mpplan prepare` wrote gives it")
         self.tick, self.place, self.is_dated = tick, Zone(zone), start is not None
         if zone and not self.is_dated:
-            raise ValueError(f"the zone {zone} wants the date of time 0, or nobody knows when its clocks change: --start says it")
+            raise ValueError(f"the zone {zone} needs the date of time 0, on which clock changes depend: give --start")
         wall, offset = given("time 0,", iso, start) if start else (0, None)
-        # An offset without a zone has no days on which clocks change: moments are what its clock shows.
+        # With an offset but no zone there are no clock changes: moments are wall-clock times.
         self.begin = wall - offset if offset is not None and zone else wall if offset is not None or not zone else self.place.first(wall)
 
     def wall(self, tick):
-        """What the clock shows at a tick, in microseconds since 1970."""
+        """Returns the wall-clock time of a tick, in nanoseconds since 1970."""
         return self.place.wall(self.begin + tick * self.tick)
 
     def tick_at(self, value):
-        """The first tick at or behind a moment."""
+        """Returns the first tick at or after a moment."""
         return -((self.begin - value) // self.tick)
 
     def midnights(self, last):
-        """Of the day of tick 0 and each further one up to tick `last`: its number, the moment at which it begins, and that of the next."""
+        """Yields each day from that of tick 0 to that of tick `last`: its number, the moment at which it begins, and the moment at which the next
+        begins."""
         day = self.wall(0) // DAY
         while True:
             begin, end = self.place.first(day * DAY), self.place.first((day + 1) * DAY)
@@ -129,14 +132,14 @@ class Calendar:
             day += 1
 
     def name(self, day):
-        """The date of a day by its number, or how many days it is from time 0 on."""
+        """Returns the date of a day by its number; without dates, its count from time 0."""
         return str(moment(day * DAY).date()) if self.is_dated else f"day {day + 1}"
 
     def parts(self, by, last):
-        """The ticks at which parts begin, rising, and what each is called, up to tick `last`: by "day"; by "each", every hour of every day; by
-        "weekday" or "hour" of the day, whose names come again. Raises ValueError for weekdays without a date."""
+        """Returns the ticks at which parts begin, in rising order, and the names of the parts, up to tick `last`. `by` is "day", "each" (every hour
+        of every day), or "weekday" or "hour" (of day), whose names repeat. Raises ValueError for weekdays without a date."""
         if by == "weekday" and not self.is_dated:
-            raise ValueError("weekdays want the date of time 0: --start says it")
+            raise ValueError("weekdays need the date of time 0: give --start")
         begins, names = [], []
         for day, begin, end in self.midnights(last):
             values = [begin] if by in ("day", "weekday") else list(self._hours(begin, end))
@@ -145,16 +148,16 @@ class Calendar:
         return begins, names
 
     def _named(self, day, values, by):
-        """What the hours of a day are called that begin at these moments (a list): of two that are called alike each has its offset from UTC, but by
-        "hour"."""
-        hours = [f"{self.place.wall(it) % DAY // HOUR:02}:00" for it in values]
+        """Returns the names of the hours of a day that begin at these moments (list). Unless `by` is "hour", two hours of the same name get their
+        offsets from UTC."""
+        hours = [f"{self.place.wall(value) % DAY // HOUR:02}:00" for value in values]
         if by == "hour":
             return hours
         return [f"{self.name(day)} {hour}" + (self.place.offset(it) if hours.count(hour) > 1 else "") for hour, it in zip(hours, values)]
 
     def _hours(self, begin, end):
-        """The moments within a day at which an hour of the clock begins; one that comes twice, or a part of it, begins twice. Clocks change by half
-        an hour as well."""
+        """Yields the moments within a day at which an hour of the clock begins. An hour that occurs twice, even in part, begins twice: some clocks
+        change by half an hour."""
         last = None
         for value in range(begin, end, 15 * MINUTE):
             wall = self.place.wall(value)

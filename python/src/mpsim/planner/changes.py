@@ -1,4 +1,4 @@
-"""Changes of the records of a trace: rows that name columns, or edits as mpedit has them."""
+"""Reads changes to the records of a trace: rows that name columns, or edits for mpedit."""
 
 import codecs
 import csv
@@ -9,15 +9,15 @@ from typing import Dict, NamedTuple, Optional
 from .files import counted
 
 
-EXPECTED = "expected record, with names of columns behind it, or with --model set or add"
-# Names in the header of changes that are none of the trace's; where the trace has a column `empty` that is one.
+EXPECTED = "expected record followed by column names or, with --model, set or add"
+# Names with a meaning of their own in the header of changes; `empty` loses it if the trace has a column of that name.
 WORDS = "record", "out", "empty"
 
 
 class Change(NamedTuple):
-    """A row of changes: where it stands (str), for a refusal; its records (str), as `12` or `100-109`, or None for one more; what is to stand (str)
-    in columns, by their places in the header (int), "" where they are emptied; whether the records are taken out; whether it is an edit of mpedit, in
-    which each value stands as it is; and whether a decimal mark may be a comma."""
+    """A row of changes: its place in the file (str, for messages); its records (str), such as `12` or `100-109`, or None for a new one; the new texts
+    (str) by the index of their column (int), "" to empty a field; whether the records are removed; whether it is an edit for mpedit, whose values are
+    taken literally; and whether a decimal mark may be a comma."""
 
     where: str
     records: Optional[str]
@@ -28,89 +28,91 @@ class Change(NamedTuple):
 
 
 def decoded(path, data):
-    """The text (str) of changes (bytes): UTF-16 by its mark, and else UTF-8, in which other bytes stand as they are (surrogateescape). Raises
-    ValueError where it is no such text."""
+    """Decodes changes (bytes): UTF-16 if they have its byte order mark, else UTF-8, in which invalid bytes are kept (surrogateescape). Raises
+    ValueError if they are neither."""
     is_wide = data.startswith((codecs.BOM_UTF16_LE, codecs.BOM_UTF16_BE))
     try:
         text = data.decode("utf-16" if is_wide else "utf-8-sig", "strict" if is_wide else "surrogateescape")
     except UnicodeDecodeError:
-        raise ValueError(f"{path}: it is no UTF-16, which its mark says") from None
+        raise ValueError(f"{path}: not valid UTF-16, although it has a UTF-16 byte order mark") from None
     if "\0" in text[:2]:
-        raise ValueError(f"{path} row 1: it begins with NUL bytes: is it UTF-16 without a mark? It is read as UTF-8, or as UTF-16 by a mark")
+        raise ValueError(f"{path}: row 1: it begins with NUL bytes: is it UTF-16 without a byte order mark? Without one it is read as UTF-8")
     return text
 
 
 def recoded(path, data):
-    """The text (str) of changes (bytes) that are no UTF-8 though the trace is: Windows-1252, as `prepare` takes an export. Raises ValueError with the
-    line where they are none, or have the mark of UTF-8."""
-    encoding, why = ("utf-8", "no UTF-8, which its mark says") if data.startswith(codecs.BOM_UTF8) else ("cp1252", "neither UTF-8 nor Windows-1252")
+    """Decodes changes (bytes) that aren't UTF-8, although the trace is, as Windows-1252; `prepare` reads exports the same way. Raises ValueError with
+    the line if that fails, or if the file has a UTF-8 byte order mark."""
+    encoding, why = "cp1252", "neither UTF-8 nor Windows-1252"
+    if data.startswith(codecs.BOM_UTF8):
+        encoding, why = "utf-8", "not valid UTF-8, although the file has a UTF-8 byte order mark"
     try:
         return data.decode(encoding)
-    except UnicodeDecodeError as fault:
-        line = data.count(b"\n", 0, fault.start) + 1
-        raise ValueError(f"{path}: line {line}: the byte {data[fault.start]:02x} is {why}") from None
+    except UnicodeDecodeError as error:
+        line = data.count(b"\n", 0, error.start) + 1
+        raise ValueError(f"{path}: line {line}: the byte {data[error.start]:02x} is {why}") from None
 
 
 def _parted(text):
-    """The delimiter of a text of CSV (str), and how many rows stand before its header: a spreadsheet's own `sep=;`, or else what stands behind the
-    word record."""
-    if told := re.match(r"sep=([;\t,|])\r?\n", text):
-        return told[1], 1
+    """Returns the delimiter of a CSV text and the number of rows before its header. The delimiter is taken from a spreadsheet's `sep=;` line, or else
+    from the character after the word record."""
+    if mark := re.match(r"sep=([;\t,|])\r?\n", text):
+        return mark[1], 1
     found = re.match(r'\s*("?) *record *\1 *([;\t,|])', text, re.IGNORECASE)
     return found[2] if found else ",", 0
 
 
 def by_names(path, text, header):
-    """The changes (each a Change) of a text of CSV (str) for a trace with this header. Raises ValueError with the row where it is none."""
+    """Yields the changes (Change) in a CSV text for a trace with this header. Raises ValueError with the row if one is invalid."""
     delimiter, before = _parted(text)
     names, number, reader = None, 0, csv.reader(io.StringIO(text, newline=""), delimiter=delimiter)
     try:
         for number, fields in enumerate(reader, 1):
-            where = f"{path} row {number}"
+            where = f"{path}: row {number}"
             if names is None and fields:
                 names = _judged_names(where, fields, header) if number > before else None
             elif any(fields):
-                # Empty fields at the end may be left off. A row of several lines that ends early rather has a quote that isn't closed.
+                # Empty fields at the end may be omitted. A multi-line row that ends early more likely has an unclosed quote.
                 if any(fields[len(names) :]) or len(fields) < len(names) and re.search(r"[\r\n]", fields[-1]):
-                    raise ValueError(f"{where}: {counted(len(fields), 'field')}, where the header has {len(names)}")
+                    raise ValueError(f"{where}: {counted(len(fields), 'field')}, but the header has {len(names)}")
                 yield _by_names(where, dict(zip(names, fields)), header, delimiter != ",")
-    except csv.Error as fault:
-        raise ValueError(f"{path} row {number + 1}: {fault}") from None
+    except csv.Error as error:
+        raise ValueError(f"{path}: row {number + 1}: {error}") from None
     if names is None:
         raise ValueError(f"{path}: it is empty: {EXPECTED}")
 
 
 def _by_names(where, fields, header, has_commas):
-    """The change of a row whose fields have these names (a dict of str)."""
+    """Returns the change in a row, given its fields by name (dict of str)."""
     record, out, emptied = fields.pop("record"), fields.pop("out", ""), "" if "empty" in header else fields.pop("empty", "")
     given = {name: it for name, it in fields.items() if it}
     if out and out.casefold() != "yes":
         raise ValueError(f'{where}: "out" of record {record}: "{out}" is neither yes nor empty')
     if emptied and emptied in given:
-        raise ValueError(f'{where}: "{emptied}" of record {record}: it is emptied, and takes no value')
+        raise ValueError(f'{where}: "{emptied}" of record {record}: it is both emptied and given a value')
     if emptied:
         _judge_name(f'{where}: "empty" of record {record}', emptied, header)
         given[emptied] = ""
     if out and given:
-        raise ValueError(f'{where}: "{next(iter(given))}" of record {record}: it is taken out, and takes no value')
+        raise ValueError(f'{where}: "{next(iter(given))}" of record {record}: the record is removed, so it takes no value')
     values = {header.index(name): it for name, it in given.items()}
     return Change(where, None if record == "+" and not out else record, values, bool(out), has_commas=has_commas)
 
 
 def _judge_name(where, name, header):
-    """Raises ValueError where a name is that of no column, or of two."""
+    """Raises ValueError unless exactly one column has this name."""
     if name not in header:
-        raise ValueError(f'{where}: "{name}" is no column of the trace; it has {", ".join(header)}')
+        raise ValueError(f'{where}: "{name}" is not a column of the trace; it has {", ".join(header)}')
     if header.count(name) > 1:
-        raise ValueError(f'{where}: "{name}" stands twice in the header of the trace')
+        raise ValueError(f'{where}: "{name}" appears twice in the header of the trace')
 
 
 def _judged_names(where, fields, header):
-    """The names (list of str) in the header of changes, without empty ones at its end where the trace has none; what isn't a name of the trace may
-    have other capitals. Raises ValueError for one that the trace doesn't have, or that may stand for two."""
-    words = [it for it in WORDS if it != "empty" or it not in header]
-    names = [it if it in header else it.strip() for it in fields]
-    names = [it.casefold() if it not in header and it.casefold() in words else it for it in names]
+    """Returns the column names (list of str) in the header of changes. Empty names at its end are dropped unless the trace has one; the case of names
+    that aren't the trace's doesn't matter. Raises ValueError for an unknown or ambiguous name."""
+    words = [word for word in WORDS if word != "empty" or word not in header]
+    names = [field if field in header else field.strip() for field in fields]
+    names = [name.casefold() if name not in header and name.casefold() in words else name for name in names]
     names[0] = names[0].casefold() if names[0].casefold() == "record" else names[0]
     while len(names) > 1 and not names[-1] and "" not in header:
         names.pop()
@@ -118,25 +120,25 @@ def _judged_names(where, fields, header):
         raise ValueError(f'{where}: "{names[0]}": {EXPECTED}')
     for name in names:
         if names.count(name) > 1:
-            raise ValueError(f'{where}: "{name}" stands twice')
+            raise ValueError(f'{where}: "{name}" appears twice')
         if name == "out" and name in header:
-            raise ValueError(f'{where}: "out" takes records out, and the trace has a column of that name: call that otherwise')
+            raise ValueError(f'{where}: "out" removes records, but the trace has a column of that name: rename that column')
         if name not in words:
             _judge_name(where, name, header)
     return names
 
 
 def by_edits(path, text, names, places):
-    """The changes (each a Change) of edits of mpedit (str) for a model that names these columns, which stand at these places behind the source and
-    the time. Raises ValueError with the line where it is none."""
+    """Yields the changes (Change) in edits for mpedit (str), for a model that names these columns; `places` are the indices of the source, the time
+    and these columns. Raises ValueError with the line if one is invalid."""
     for number, line in enumerate(text.split("\n"), 1):
         found = re.findall(r"[^ \t]+", line.removesuffix("\r"))
         if not found:
             continue
-        where, front = f"{path} line {number}", {"set": ["set", "R"], "add": ["add"]}.get(found[0])
+        where, front = f"{path}: line {number}", {"set": ["set", "R"], "add": ["add"]}.get(found[0])
         if front is None:
             raise ValueError(f'{where}: "{found[0]}" is neither set nor add')
         wanted = [*front, "source", "time", *names]
         if len(found) != len(wanted):
-            raise ValueError(f"{where}: {counted(len(found), 'word')}, where {found[0]} has {len(wanted)}: {' '.join(wanted)}")
+            raise ValueError(f"{where}: {counted(len(found), 'word')}, but {found[0]} takes {len(wanted)}: {' '.join(wanted)}")
         yield Change(where, found[1] if front[1:] else None, dict(zip(places, found[len(front) :])), is_edit=True)

@@ -1,4 +1,4 @@
-"""The words of the command `planner`, and how it ends: by a status, and one line where something went wrong."""
+"""Parses the arguments of `mpplan`, runs the command, and turns any error into one line and a status."""
 
 import argparse
 import contextlib
@@ -17,7 +17,7 @@ from .traces import fields_up_to
 
 
 class _Once(argparse._StoreAction):
-    """An option with a value that is given once: of two values the first would be lost."""
+    """An option with a value that may be given only once, so that no value is silently lost."""
 
     is_given = False
 
@@ -29,23 +29,24 @@ class _Once(argparse._StoreAction):
 
 
 class _Parser(argparse.ArgumentParser):
-    """Words that are none are told in one line."""
+    """Reports invalid arguments in one line."""
 
     def __init__(self, *args, **named):
         super().__init__(*args, **named)
         self.register("action", None, _Once)
 
     def error(self, message):
-        self.exit(2, f"planner: {message} ({self.prog} --help tells more)\n")
+        self.exit(2, f"mpplan: {message} (see {self.prog} --help)\n")
 
 
 def _parser(first):
-    """The parser of all words, where the first is this one. The module of that command alone is read: a sweep starts it for each shard."""
-    parser = _Parser(prog="planner", description="From an export to a decision: what a planner does beside mpsim.", allow_abbrev=False)
-    parser.add_argument("--version", action="version", version=f"planner {__version__}")
+    """Returns the argument parser. It loads only the module of the command in `first`, because a sweep starts `mpplan` for each shard."""
+    says = "Prepare traces for mpsim, run it, and tabulate its reports: from an export to a staffing decision."
+    parser = _Parser(prog="mpplan", description=says, allow_abbrev=False)
+    parser.add_argument("--version", action="version", version=f"mpplan {__version__}")
     commands = parser.add_subparsers(dest="command", metavar="COMMAND", required=True)
     for name, says in COMMANDS.items():
-        one = commands.add_parser(name, help=says, description=f"It {says}.", allow_abbrev=False)
+        one = commands.add_parser(name, help=says, description=f"{says[0].upper()}{says[1:]}.", allow_abbrev=False)
         if name == first:
             module = importlib.import_module(f"{__package__}.{name}")
             one.epilog, one.formatter_class = f"example: {module.EXAMPLE}", argparse.RawDescriptionHelpFormatter
@@ -55,14 +56,14 @@ def _parser(first):
 
 
 class _Closed(io.TextIOBase):
-    """In place of an output that was closed before the command began."""
+    """Replaces a standard output that was closed before the command began."""
 
     def write(self, text):
         raise OSError(errno.EBADF, os.strerror(errno.EBADF))
 
 
 def _open_outputs():
-    """Files that are opened later must not take the numbers of the outputs."""
+    """Keeps files that are opened later from taking the descriptors of the standard streams."""
     while os.open(os.devnull, os.O_RDWR) <= 2:
         pass
     sys.stdout = sys.stdout or _Closed()
@@ -70,14 +71,15 @@ def _open_outputs():
 
 @contextlib.contextmanager
 def _ended_by_signals():
-    """Has a signal that ends the command go by the ways on which files are taken away. One that is ignored, as by nohup, stays so."""
+    """Turns signals that would end the command into exceptions, so that temporary files are removed. A signal that is ignored, as under nohup, stays
+    ignored."""
     before = {}
 
     def end(number, _):
         raise SystemExit(128 + number)
 
     with contextlib.suppress(ValueError):
-        # Only the main thread may ask for signals.
+        # Only the main thread may set signal handlers.
         for number in signal.SIGTERM, signal.SIGHUP:
             if signal.getsignal(number) == signal.SIG_DFL:
                 before[number] = signal.signal(number, end)
@@ -88,19 +90,19 @@ def _ended_by_signals():
             signal.signal(number, how)
 
 
-def line_of(fault):
-    """A fault as one line, which can be printed."""
-    if isinstance(fault, Error):
-        text = str(fault).split("\n", 1)[0] + (f": {fault.source}" if fault.source else "")
-    elif isinstance(fault, OSError):
-        text = f"{fault.filename or 'the output'}: {fault.strerror or fault}"
+def line_of(error):
+    """Returns an error as one printable line."""
+    if isinstance(error, Error):
+        text = str(error).split("\n", 1)[0] + (f": {error.source}" if error.source else "")
+    elif isinstance(error, OSError):
+        text = f"{error.filename or 'standard output'}: {error.strerror or error}"
     else:
-        text = str(fault) or type(fault).__name__
-    return "".join(it if it.isprintable() else it.encode("unicode_escape", "surrogatepass").decode() for it in text)
+        text = str(error) or type(error).__name__
+    return "".join(item if item.isprintable() else item.encode("unicode_escape", "surrogatepass").decode() for item in text)
 
 
 def _let_go():
-    """Writes what is left for the output. Where it doesn't take that, it goes nowhere, or the interpreter would try it again at its end."""
+    """Flushes standard output. If that fails, it is redirected to nowhere, so that the interpreter doesn't fail again on exit."""
     try:
         sys.stdout.flush()
     except (OSError, ValueError):
@@ -109,28 +111,28 @@ def _let_go():
 
 
 def ended(argv):
-    """Does what the words ask, and gives the status."""
+    """Runs the command and returns its status."""
     if sys.stdout is None or sys.stderr is None:
         _open_outputs()
     try:
-        asked = _parser(argv[0] if argv else None).parse_args(argv)
+        args = _parser(argv[0] if argv else None).parse_args(argv)
         with _ended_by_signals(), fields_up_to():
-            status = asked.main(asked) or 0
+            status = args.main(args) or 0
             sys.stdout.flush()
             return status
     except BrokenPipeError:
-        # Who reads has enough, and nothing more is said.
+        # The reader has gone; nothing is left to say.
         line, status = None, 128 + signal.SIGPIPE
     except KeyboardInterrupt:
         line, status = "stopped", 128 + signal.SIGINT
-    except (Error, ReportError, OSError, ValueError) as fault:
-        # A fault of a program has its status here too.
-        line, status = line_of(fault), getattr(fault, "status", None)
+    except (Error, ReportError, OSError, ValueError) as error:
+        # An error of a program keeps the program's status.
+        line, status = line_of(error), getattr(error, "status", None)
     except OverflowError:
-        # Of dates: they are of the years 1 to 9999.
+        # Dates are limited to the years 1 to 9999.
         line, status = "a time is before the year 1 or after the year 9999", None
     except MemoryError:
-        line, status = "no memory", None
+        line, status = "out of memory", None
     _let_go()
     if line:
         say(line)

@@ -1,28 +1,30 @@
-"""Runs side by side."""
+"""Compares a figure of each node across reports."""
 
-import csv
 
 from ..errors import Error
 from ..lines import FIGURES
 from ..sweeps import Sweep, load
+from . import sheets
 from .files import say, written
 from .pooled import pool_lines, pools, with_pools
 
-EXAMPLE = """planner compare today.txt tomorrow.txt --figure p90
-         planner compare sweep.txt --figure lost --node desk --csv >lost.csv"""
+EXAMPLE = """mpplan compare today.txt tomorrow.txt --figure p90
+         mpplan compare sweep.txt --figure lost --node desk --csv >lost.csv"""
 
 
 def words(parser):
-    parser.add_argument("reports", nargs="+", metavar="report", help="reports, or sweeps, each scenario of which is one")
-    parser.add_argument("--figure", choices=FIGURES, default="p90", metavar="FIGURE", help=f"one of {', '.join(FIGURES)}")
-    parser.add_argument("--node", action="append", default=[], metavar="NAME", help="this node alone; may be repeated")
-    parser.add_argument("--csv", action="store_true", help="as CSV, differences in columns of their own")
+    parser.add_argument("reports", nargs="+", metavar="report", help="reports or sweeps; each scenario of a sweep counts as a report")
+    says = f"figure to compare: one of {', '.join(FIGURES)}; default: p90"
+    parser.add_argument("--figure", choices=FIGURES, default="p90", metavar="FIGURE", help=says)
+    parser.add_argument("--node", action="append", default=[], metavar="NAME", help="only this node or pool; may be repeated")
+    parser.add_argument("--csv", action="store_true", help="write CSV, with a column per difference; so do --format and --csv-style")
+    sheets.words(parser)
 
 
 def compare(reports, figure="p90", nodes=()):
-    """Pairs of a node's name and its figure in each of some reports (a list of int, float or None, which stands where a report has no such node or
-    figure), for each node of the reports, in the order in which they have them; a pool stands in place of its queue and its trunk group
-    (`pooled.with_pools`). Raises AttributeError for a figure that no node has, ValueError for a node that no report has.
+    """Returns pairs of a node's name and its figure in each report (list of int, float or None if the report lacks the node or the figure), for each
+    node in the order of the reports. A pool replaces its queue and its trunk group (`pooled.with_pools`). Raises AttributeError for an unknown
+    figure, ValueError for a node that no report has.
 
     >>> import mpsim
     >>> from mpsim.planner.compare import compare
@@ -30,21 +32,21 @@ def compare(reports, figure="p90", nodes=()):
     >>> compare(runs, "max", ["desk"])
     [('desk', [3, 2])]
     """
-    held = [with_pools(it) for it in reports]
-    names = list(dict.fromkeys(name for it in held for name in it))
+    held = [with_pools(report) for report in reports]
+    names = list(dict.fromkeys(name for item in held for name in item))
     if nodes:
-        # The queue of a pool can be asked for by its name.
-        held = [{**{it.name: it for it in report.nodes}, **mine} for report, mine in zip(reports, held)]
-        every = list(dict.fromkeys(name for it in held for name in it))
+        # The queue of a pool can be requested by its own name.
+        held = [{**{node.name: node for node in report.nodes}, **mine} for report, mine in zip(reports, held)]
+        every = list(dict.fromkeys(name for item in held for name in item))
         for name in nodes:
             if name not in every:
                 raise ValueError(f"no report has a node {name!r}; they have {', '.join(names)}")
         names = [name for name in every if name in nodes]
-    return [(name, [it[name].figure(figure) if name in it else None for it in held]) for name in names]
+    return [(name, [item[name].figure(figure) if name in item else None for item in held]) for name in names]
 
 
 def _number(value):
-    """A figure as it is shown: of a mean six digits, or all that stand before its point."""
+    """Formats a figure: means with six significant digits, or all digits before the point."""
     if isinstance(value, float):
         return f"{value:.6g}" if abs(value) < 10**6 else f"{value:.0f}"
     return "-" if value is None else str(value)
@@ -57,7 +59,7 @@ def _difference(value, first):
 
 
 def _aligned(labels, found):
-    """The lines of a table to look at: behind each figure but the first its difference to it."""
+    """Yields the lines of an aligned table, in which each figure but the first is followed by its difference from the first."""
     rows = [["", *labels]]
     for name, values in found:
         shown = [_number(values[0])]
@@ -71,39 +73,38 @@ def _aligned(labels, found):
 
 
 def _table(labels, found):
-    """The header and the rows of a table for a spreadsheet."""
-    yield ["node", *labels, *(f"{it} less {labels[0]}" for it in labels[1:])]
+    """Yields the header and the rows of a CSV table."""
+    yield ["node", *labels, *(f"{label} less {labels[0]}" for label in labels[1:])]
     for name, values in found:
-        yield [name, *values, *(_difference(it, values[0]) for it in values[1:])]
+        yield [name, *values, *(_difference(value, values[0]) for value in values[1:])]
 
 
 def _labelled(paths):
-    """Pairs of a label and a report: of a report its path, of the scenarios of one sweep their numbers. Of a scenario that is refused the report is
-    the refusal (an Error)."""
+    """Yields pairs of a label and a report. A report is labelled with its path, the scenarios of a single sweep with their numbers. For a refused
+    scenario the report is its Error."""
     for path in paths:
-        told = load(path)
-        if isinstance(told, Sweep):
-            for label, it in told.items():
+        loaded = load(path)
+        if isinstance(loaded, Sweep):
+            for label, it in loaded.items():
                 yield f"{path} {label}" if len(paths) > 1 else str(label), it.refusal if it.report is None else it.report
         else:
-            yield path, told
+            yield path, loaded
 
 
-def main(asked):
-    labelled = list(_labelled(asked.reports))
+def main(args):
+    labelled = list(_labelled(args.reports))
     refused = [(label, it) for label, it in labelled if isinstance(it, Error)]
     if len(refused) == len(labelled):
-        raise ValueError(f"{asked.reports[0]}: each scenario is refused")
+        raise ValueError(f"{args.reports[0]}: every scenario was refused")
     for label, it in refused:
-        say(f"{label} isn't there, since it is refused: {it.told}")
-    labels, reports = zip(*(it for it in labelled if it not in refused))
-    found = compare(reports, asked.figure, asked.node)
-    for line in pool_lines(reports, asked.node):
+        say(f"{label} is left out, because it was refused: {it.told}")
+    labels, reports = zip(*(item for item in labelled if item not in refused))
+    found = compare(reports, args.figure, args.node)
+    for line in pool_lines(reports, args.node):
         say(line)
-    if asked.figure in ("max", "p50", "p90", "p99") and any(pools(it) and it.visits is None for it in reports):
-        say(f"of a pool {asked.figure} wants the lines of jobs: mpsim writes them with --jobs")
+    if args.figure in ("max", "p50", "p90", "p99") and any(pools(report) and report.visits is None for report in reports):
+        say(f"a pool's {args.figure} needs job lines: run mpsim with --jobs")
+    if args.csv or args.format != "csv" or args.csv_style != "plain":
+        return sheets.write(_table(labels, found), args.format, args.csv_style)
     with written() as file:
-        if asked.csv:
-            csv.writer(file, lineterminator="\n").writerows(_table(labels, found))
-        else:
-            file.writelines(_aligned(labels, found))
+        file.writelines(_aligned(labels, found))

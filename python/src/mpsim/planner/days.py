@@ -1,28 +1,27 @@
-"""Day by day: each a run of its own, so that nights and the days before don't count in it."""
+"""Runs each day of a trace separately, so that nights and earlier days don't count."""
 
-import csv
 from bisect import bisect_right
 from typing import NamedTuple, Tuple
 
 from ..errors import BoundError, VisitsError
 from ..runs import run
 from ..sweeps import Scenario, Sweep
-from . import calendar
+from . import calendar, sheets
 from .anew import anew, standing
-from .files import counted, say, text_of, written
+from .files import counted, say, text_of
 from .hours import days_until
 from .pooled import pool_lines, pools
 from .progress import Progress
 from .table import table
 from .times import DAY, clock
-from .traces import Trace, told_of
+from .traces import Trace, locating_errors
 
-EXAMPLE = "planner days model.txt trace.csv --open 8:00 >days.csv"
+EXAMPLE = "mpplan days model.txt trace.csv --open 8:00 >days.csv"
 
 
 class Day(NamedTuple):
-    """A piece of a trace: its name (str), the tick that is time 0 of its run and the one at which the next piece begins (int), and its records (a
-    tuple of int, from 0)."""
+    """A piece of a trace: its name (str), the tick that is time 0 of its run, the tick at which the next piece begins (int), and its records (tuple
+    of int, from 0)."""
 
     name: str
     zero: int
@@ -31,20 +30,22 @@ class Day(NamedTuple):
 
 
 def words(parser):
-    parser.add_argument("model")
-    parser.add_argument("trace")
-    parser.add_argument("--node", action="append", default=[], metavar="NAME", help="rows of this node, or pool, alone; may be repeated")
-    parser.add_argument("--open", metavar="H:MM", help="time 0 of each day; else it is the first record of the day")
-    closes = "records of this time and later are left out, and counted; where it isn't later than --open, it is that of the next day"
+    parser.add_argument("model", help="a model")
+    parser.add_argument("trace", help="its trace")
+    parser.add_argument("--node", action="append", default=[], metavar="NAME", help="only rows of this node or pool; may be repeated")
+    opens = "time of day that is time 0 of each day; earlier records are left out, and counted; default: the first record of the day"
+    parser.add_argument("--open", metavar="H:MM", help=opens)
+    closes = "ignore (and count) records at or after this time; if it is not later than --open, it means the next day"
     parser.add_argument("--close", metavar="H:MM", help=closes)
-    parser.add_argument("--every", type=int, metavar="TICKS", help="no days, but pieces of so many ticks from time 0 on")
+    parser.add_argument("--every", type=int, metavar="TICKS", help="cut the trace into pieces of this many ticks, from time 0, instead of days")
     calendar.words(parser)
+    sheets.words(parser)
 
 
 def cut(times, begins, names, opens=None, closes=None):
-    """The pieces (a list of Day) of times (a list of int), and how many records are left out. `begins` are the ticks at which pieces begin, rising,
-    and the end of the last one; `names` their names. With `opens` and `closes`, a tick for each piece, what comes earlier, or no earlier, is left
-    out. Without `opens` the time 0 of a piece is its first record. Pieces without a record are left out.
+    """Returns the pieces (list of Day) of times (list of int), and the number of records left out. `begins` are the ticks at which pieces begin, in
+    rising order, followed by the end of the last; `names` are their names. `opens` and `closes` give a tick per piece: records before opening, and at
+    or after closing, are left out. Without `opens`, time 0 of a piece is its first record. Empty pieces are omitted.
 
     >>> from mpsim.planner.days import cut
     >>> cut([5, 12, 99, 13], [0, 10, 20], ["one", "two"])
@@ -57,49 +58,48 @@ def cut(times, begins, names, opens=None, closes=None):
         if is_in:
             found[piece].append(at)
     zeros = [opens[piece] if opens else min((times[at] for at in records), default=0) for piece, records in enumerate(found)]
-    days = [Day(*it[:3], tuple(it[3])) for it in zip(names, zeros, begins[1:], found) if it[3]]
-    return days, len(times) - sum(len(it.records) for it in days)
+    days = [Day(*name[:3], tuple(name[3])) for name in zip(names, zeros, begins[1:], found) if name[3]]
+    return days, len(times) - sum(len(day.records) for day in days)
 
 
 def by_calendar(times, days, opens=None, closes=None):
-    """The pieces of times by the days of a calendar (Calendar), as `cut` gives them. `opens` and `closes` are times of the day (str, as "8:00"). A
-    day that closes before it opens, or then, closes on the next one, and is called as the one on which it opens. Raises ValueError where a time is
-    none.
+    """Returns the pieces of times by the days of a Calendar, as `cut` does. `opens` and `closes` are times of day (str, such as "8:00"). A day that
+    doesn't close after it opens closes on the next day, and is named after the day on which it opens. Raises ValueError for an invalid time.
 
     >>> from mpsim.planner.calendar import Calendar
     >>> from mpsim.planner.days import by_calendar
     >>> at = [hour * 3600 for hour in (3, 12, 19, 29, 43)]
-    >>> days, left = by_calendar(at, Calendar(10**6, "2026-03-02T00:00"), "18:00", "6:00")
+    >>> days, left = by_calendar(at, Calendar(10**9, "2026-03-02T00:00"), "18:00", "6:00")
     >>> [(it.name, it.zero // 3600, it.records) for it in days], left
     ([('2026-03-01', -6, (0,)), ('2026-03-02', 18, (2, 3)), ('2026-03-03', 42, (4,))], 1)
     """
     last = max(times, default=0)
     days_until(days, last)
     found = [day for day, _, _ in days.midnights(last)]
-    clocks = [_clock(it) if it else None for it in (opens, closes)]
+    clocks = [_clock(item) if item else None for item in (opens, closes)]
     if clocks[0] == DAY:
-        raise ValueError(f"--open {opens}: a day is at its end then")
+        raise ValueError(f"--open {opens}: a day ends then")
     if clocks[1] == 0:
-        raise ValueError(f"--close {closes}: the midnight at the end of a day is 24:00")
+        raise ValueError(f"--close {closes}: write 24:00 for the midnight at the end of a day")
     changes = 0
     if None not in clocks and clocks[1] <= clocks[0]:
-        # Such days begin as they open, the first of them on the day before.
+        # These days begin when they open, the first of them on the day before.
         found, changes, clocks[1] = [found[0] - 1, *found] if found else [], clocks[0], clocks[1] + DAY
     tick_of = lambda day, clock: days.tick_at(days.place.first(day * DAY + clock))
-    begins = [tick_of(day, changes) for day in [*found, *(it + 1 for it in found[-1:])]]
-    hours = [None if it is None else [tick_of(day, it) for day in found] for it in clocks]
+    begins = [tick_of(day, changes) for day in [*found, *(item + 1 for item in found[-1:])]]
+    hours = [None if clock is None else [tick_of(day, clock) for day in found] for clock in clocks]
     return cut(times, begins, [days.name(day) for day in found], *hours)
 
 
 def _clock(text):
     try:
         return clock(text)
-    except ValueError as fault:
-        raise ValueError(f"{text!r}: {fault}") from None
+    except ValueError as error:
+        raise ValueError(f"{text!r}: {error}") from None
 
 
 def by_ticks(times, every):
-    """The pieces of times of so many ticks each (int), as `cut` gives them; the time 0 of each is where it begins."""
+    """Returns pieces of `every` ticks (int), as `cut` does; time 0 of each is its beginning."""
     found = {}
     for at, time in enumerate(times):
         found.setdefault(time // every * every, []).append(at)
@@ -107,45 +107,45 @@ def by_ticks(times, every):
 
 
 def days(model, trace, pieces, tell=lambda done: None, path=None):
-    """A Sweep of which each scenario is the run of a piece (Day) of a trace (Trace), by the names of the pieces, in a network that is empty at its
-    time 0; and of how many pieces somebody is still there when the next begins (int), who isn't there in its run. Who serves and waits at a pool is
-    worked out for the records of the piece alone (`anew`). The model is one that `mpsim.run` takes, and is read for each. A piece whose run is
-    refused, for the bound or a node with too many visits, hands over its refusal; for all else what `mpsim.run` raises is raised, with the path of
-    the model where that is given. `tell` is called with how many are done."""
+    """Returns a Sweep with a run of each piece (Day) of a trace (Trace), by the pieces' names, each in a network that is empty at its time 0; and the
+    number of pieces (int) in which jobs are still present when the next begins.
+
+    Agents and waits at a pool are recomputed for the records of the piece (`anew`). The model is any that `mpsim.run` accepts, and is read for each
+    piece. If a run is refused because of the bound or of a node with too many visits, its scenario has that error. Any other error is raised, with
+    the path of the model if given. `tell` is called with the number of pieces done."""
     times, sweep, over, known = trace.times(), Sweep(), 0, standing(model, trace)
     for done, it in enumerate(pieces):
         tell(done)
         piece = Trace(trace.path, trace.header, [[trace.rows[at][0], times[at] - it.zero, *trace.rows[at][2:]] for at in it.records])
         try:
-            with told_of(trace, it.records, path):
+            with locating_errors(trace, it.records, path):
                 piece = anew(piece, known)
                 report = run(model, piece.lines(), jobs=bool(known))
-                # The percentiles of a pool want its visits.
+                # The percentiles of a pool need its visits.
                 report = run(model, piece.lines(), jobs=True) if not known and pools(report) else report
-        except (BoundError, VisitsError) as fault:
-            sweep[it.name] = Scenario(it.name, fault.status, None, fault)
+        except (BoundError, VisitsError) as error:
+            sweep[it.name] = Scenario(it.name, error.status, None, error)
             continue
         sweep[it.name] = Scenario(it.name, 0, report, None)
-        # Who leaves at that very moment leaves before another comes.
+        # A job that leaves at exactly that time leaves before the next arrives.
         over += it.zero + report.span > it.end
     return sweep, over
 
 
-def main(asked):
-    text, trace = text_of(asked.model), Trace.read(asked.trace)
-    if asked.every is not None and (asked.every < 1 or asked.open or asked.close):
-        raise ValueError(f"--every {asked.every}: expected a number of ticks, and neither --open nor --close beside it")
+def main(args):
+    text, trace = text_of(args.model), Trace.read(args.trace)
+    if args.every is not None and (args.every < 1 or args.open or args.close):
+        raise ValueError(f"--every {args.every}: expected a positive number of ticks, without --open and --close")
     times = trace.times()
-    pieces, left = by_ticks(times, asked.every) if asked.every else by_calendar(times, calendar.of(asked, text), asked.open, asked.close)
-    with Progress(len(pieces), "days") as tell:
-        sweep, over = days(text.encode(errors="surrogateescape"), trace, pieces, tell, asked.model)
-    with written() as file:
-        csv.writer(file, lineterminator="\n").writerows(table(sweep, nodes=asked.node, head="day"))
-    for line in pool_lines(sweep.reports().values(), asked.node):
+    pieces, left = by_ticks(times, args.every) if args.every else by_calendar(times, calendar.of(args, text), args.open, args.close)
+    with Progress(len(pieces), "days") as progress:
+        sweep, over = days(text.encode(errors="surrogateescape"), trace, pieces, progress, args.model)
+    sheets.write(table(sweep, nodes=args.node, head="day"), args.format, args.csv_style)
+    for line in pool_lines(sweep.reports().values(), args.node):
         say(line)
     if left:
-        say(f"{counted(left, 'record')} before a day opens or after it closes, left out" + ("" if pieces else ": no day is left"))
+        say(f"{counted(left, 'record')} left out: before a day opens or after it closes" + ("" if pieces else "; no day is left"))
     if over:
-        when = f"in {over} of {len(pieces)} pieces" if asked.every else f"on {over} of {len(pieces)} days"
-        say(f"{when} somebody is still there when the next begins, who isn't there in its run")
-    return 11 if any(it.status for it in sweep.values()) else 0
+        when = f"in {over} of {len(pieces)} pieces" if args.every else f"on {over} of {len(pieces)} days"
+        say(f"{when} jobs are still in the network when the next begins; its run starts without them")
+    return 11 if any(item.status for item in sweep.values()) else 0

@@ -1,4 +1,4 @@
-"""A trace with changes in its records, by the names of its columns, or by edits as mpedit has them."""
+"""Changes the records of a trace, from a table of column names and values or from edits for mpedit."""
 
 import contextlib
 import csv
@@ -12,67 +12,68 @@ from .files import all_written, bytes_of, counted, judge_outputs, say, written
 from .lengths import GREATEST_VALUE
 from .models import in_braces, judged_text
 from .names import is_name
-from .prepare import GREATEST_TIME, RECORDS
+from .arrivals import GREATEST_TIME
+from .rows import RECORDS
 from .progress import uncollected
 from .traces import Trace, fields_up_to, is_utf8, pool_warning
 
-EXAMPLE = "planner edit trace.csv changes.csv --out edited.csv"
-# What mpedit takes of edits.
+EXAMPLE = "mpplan edit trace.csv changes.csv --out edited.csv"
+# The most bytes of edits that mpedit accepts.
 BYTES = 1 << 24
-# What makes a number of the one that is there.
+# A change that computes a number from the old one.
 STEP = re.compile(r"([+-])(\d{1,20})|\*(\d{1,20}(?:[.,]\d{1,20})?)", re.ASCII)
-# So many times, with a fraction in one country and by thousands in another.
+# A factor that is a fraction in one country and thousands in another.
 DOUBTFUL = re.compile(r"\*([1-9]\d{0,2})[.,](\d{3})", re.ASCII)
-# The greatest number of 20 digits, which are the most that a number has.
+# The greatest number of 20 digits, the most that a number may have.
 MOST = 10**20 - 1
 _line_of = row_writer()
 
 
 def words(parser):
-    parser.add_argument("trace")
-    parser.add_argument("changes", help="CSV, whose header is record and names of columns of the trace; or edits of mpedit, with --model")
-    judges = "sources and columns are judged by it, and it by mpsim; of edits of mpedit it has the order of the values"
+    parser.add_argument("trace", help="a trace")
+    parser.add_argument("changes", help="CSV with a header of record and column names of the trace; or, with --model, edits for mpedit")
+    judges = "check the changes against this model, which mpsim checks first; edits for mpedit need it for the order of their values"
     parser.add_argument("--model", metavar="MODEL", help=judges)
-    parser.add_argument("--out", metavar="FILE")
-    parser.add_argument("--edits", metavar="FILE", help="the same changes as edits of mpedit; wants --model")
+    parser.add_argument("--out", metavar="FILE", help="write the edited trace here; default: standard output")
+    parser.add_argument("--edits", metavar="FILE", help="write the same changes as edits for mpedit; requires --model")
 
 
 def _is_number(text):
-    """Whether a text is a number as mpsim reads it."""
+    """Returns whether mpsim would read a text as a number."""
     return text.isdigit() and text.isascii() and len(text) <= 20
 
 
 def _is_code(text):
-    """Whether a number (str) is rather a code or a telephone: of one that is counted nobody writes a 0 in front."""
+    """Returns whether a number (str) is more likely a code or a telephone number: quantities have no leading 0."""
     return text[0] == "0" and len(text) > 1
 
 
 def _parts(sign, by):
-    """The numbers (int) times, more and over of a step, which makes (old * times + more) // over of a number."""
+    """Returns the numbers (int) times, more and over of a step, which turns a number into (old * times + more) // over."""
     if sign == "*":
         whole, _, part = by.replace(",", ".").partition(".")
-        # In units of a half of the last digit.
+        # In units of half of the last digit.
         return 2 * int(whole + part), 10 ** len(part), 2 * 10 ** len(part)
     return 1, int(sign + by), 1
 
 
 def _why_no_number(text, may_step):
-    """Why a text is no number (str), nor one of the forms that make one of another, where those may stand."""
+    """Returns why a text (str) is neither a number nor, if allowed, a form that computes one from another."""
     if re.fullmatch(r"[+*-]?\d*[.,]?\d*", text, re.ASCII) and re.search(r"\d{21}", text, re.ASCII):
         return "has more than 20 digits in a row"
     if may_step and "," in text and STEP.fullmatch(text):
-        return "is no *N: where commas part the fields its mark is a point"
-    return "is no number" + (", +N, -N or *N" if may_step else "")
+        return "is not a valid *N: in a comma-separated file, write a decimal point"
+    return "is not a number" + (", +N, -N or *N" if may_step else "")
 
 
 def _why_doubtful(whole, part):
-    """Why digits (str) before and behind a mark may be two numbers, and how each of them is written without a doubt."""
-    told = f"{whole}.{part}".rstrip("0").rstrip(".")
-    return f"is {told} or {whole}{part}: write *{told}{'0' * (part[-1] != '0')} or *{whole}{part}"
+    """Returns why digits (str) before and after a mark could mean two numbers, and how to write each unambiguously."""
+    fraction = f"{whole}.{part}".rstrip("0").rstrip(".")
+    return f"could mean {fraction} or {whole}{part}: write *{fraction}{'0' * (part[-1] != '0')} or *{whole}{part}"
 
 
 def stepped(old, sign, by):
-    """What a number (int) becomes by `+`, `-` or `*` (str) and a decimal number (str); a product is rounded half up, exactly.
+    """Returns the result (int) of applying `+`, `-` or `*` (str) and a decimal number (str) to a number. Products are exact and rounded half up.
 
     >>> from mpsim.planner.edit import stepped
     >>> stepped(5, "*", "1.1"), stepped(4, "*", "1.1"), stepped(3, "-", "5")
@@ -83,10 +84,12 @@ def stepped(old, sign, by):
 
 
 class Edited:
-    """The trace of a file (a path), on which changes are made, one after another: its `trace` (Trace) as it was, and `rows` (a list of lists of str)
-    as they are. Records keep their numbers, from 1: `changed` has those of the file that are changed (a set of int), `out` those that are taken out,
-    with the row that did it. `told` has what is to be said (a list of str). With a model (a path) values are judged by its sources and columns.
-    Raises what `Trace.read` and `mpsim.run` do, and ValueError where the trace lacks a column of the model."""
+    """The trace in a file (a path), to which changes are applied one after another.
+
+    `trace` (Trace) is the original, `rows` (list of lists of str) the current state. Records keep their numbers, from 1. `changed` (set of int) holds
+    the file's changed records, `out` (dict) the removed ones with the row that removed them, `told` (list of str) what to report. With a model (a
+    path), values are checked against its sources and columns. Raises what `Trace.read` and `mpsim.run` do, and ValueError if the trace lacks a column
+    of the model."""
 
     def __init__(self, path, model=None):
         self._texts = []
@@ -96,22 +99,22 @@ class Edited:
         self.columns, self._braces, header = columns(text), in_braces(text), self.trace.header
         for name in self.columns:
             if name not in header[2:]:
-                raise ValueError(f"{path}: there is no column {name!r}, which {model} names; it has {', '.join(header[2:]) or 'none'}")
-        # Where the source, the time and the values of an edit stand.
+                raise ValueError(f"{path}: no column {name!r}, which {model} names; it has {', '.join(header[2:]) or 'none'}")
+        # The indices of an edit's source, time and values.
         self.places = [0, 1, *(header.index(name, 2) for name in self.columns)]
         self._sources = set(sources(text) if model else self.trace.sources())
         self._limits = {**dict.fromkeys(self.places, GREATEST_VALUE), 0: None, 1: GREATEST_TIME}
-        # The columns of text of which something is said, and those that changes are in.
-        self._is_told, self._changed_places = set(), set()
+        # The text columns already reported, and the columns that have changes.
+        self._is_noted, self._changed_places = set(), set()
 
     def make(self, change):
-        """Makes a change. Raises ValueError with its row, the word and the reason where it isn't allowed."""
+        """Applies a change. Raises ValueError with its row, the text and the reason if it isn't allowed."""
         self._changed_places.update(change.values)
         if change.records is None:
             return self._add(change)
         numbers = self._numbers(change)
         if self.out and (number := next(filter(self.out.__contains__, numbers), None)):
-            raise ValueError(f"{change.where}: record {number} is taken out by {self.out[number]}")
+            raise ValueError(f"{change.where}: record {number} is already removed ({self.out[number]})")
         if change.out:
             self.out.update(dict.fromkeys(numbers, change.where))
             self.changed.difference_update(numbers)
@@ -122,14 +125,14 @@ class Edited:
             self.changed.update(range(numbers.start, min(numbers.stop, len(self._texts))))
 
     def _own(self, numbers):
-        """The rows of records (a list) by their numbers (range), none of which is that of the trace as it was."""
+        """Returns the rows with these numbers (range), copied so that the original trace stays unchanged."""
         rows = self.rows[numbers.start - 1 : numbers.stop - 1]
         if not self.changed.issuperset(numbers):
             rows = self.rows[numbers.start - 1 : numbers.stop - 1] = list(map(list, rows))
         return rows
 
     def _numbers(self, change):
-        """The numbers (range) of the records that a change names."""
+        """Returns the numbers (range) of the records that a change names."""
         found = re.fullmatch(r"(\d{1,20})(?:-(\d{1,20}))?", change.records, re.ASCII)
         first, last = (int(found[1]), int(found[2] or found[1])) if found else (0, 0)
         if not 1 <= first <= last <= len(self.rows) or change.is_edit and found[2]:
@@ -138,17 +141,17 @@ class Edited:
         return range(first, last + 1)
 
     def _add(self, change):
-        """One record more. What a change leaves out is an empty text there."""
+        """Adds a record. Fields that the change leaves out are empty."""
         if len(self.rows) - len(self.out) >= RECORDS:
-            raise ValueError(f"{change.where}: one record more than the {RECORDS} that mpsim takes")
+            raise ValueError(f"{change.where}: one record above the limit of {RECORDS}")
         number, places = len(self.rows) + 1, range(len(self.trace.header))
         self.rows.append([self._judged(change, number, place, change.values.get(place, "")) for place in places])
 
     def _put(self, change, first, rows, place, text):
-        """Puts what this text of a change says into a column of these rows, of which the first has this number."""
+        """Applies one text of a change to a column of `rows`, the first of which has the number `first`."""
         step, limit = None if change.is_edit else STEP.fullmatch(text), self._limit(place)
         if step and limit is None and place:
-            self._tell_text(change, first, rows, place, text)
+            self._note_text(change, first, rows, place, text)
         if not step or limit is None or "," in text and not change.has_commas:
             text = self._judged(change, first, place, text)
             for row in rows:
@@ -160,41 +163,41 @@ class Edited:
         for number, row in enumerate(rows, first):
             old = row[place]
             if not _is_number(old):
-                raise self._refusal(change, number, place, text, f'wants a number in its place, and not "{old}"')
+                raise self._refusal(change, number, place, text, f'needs a number to change, but the record has "{old}"')
             made = (int(old) * times + more) // over
             if not 0 <= made <= limit:
-                why = f"makes {made} of {old}, which is {f'above {limit}' if made > 0 else 'below 0'}"
+                why = f"turns {old} into {made}, which is {f'above {limit}' if made > 0 else 'below 0'}"
                 raise self._refusal(change, number, place, text, why)
             row[place] = str(made)
 
-    def _tell_text(self, change, first, rows, place, text):
-        """Tells, once a column, that a text stands as it is where it could have made a number of another."""
-        if place in self._is_told:
+    def _note_text(self, change, first, rows, place, text):
+        """Reports, once per column, that a value is stored as text where it could have computed a number from another."""
+        if place in self._is_noted:
             return
         number = next((number for number, row in enumerate(rows, first) if row[place].isdigit()), None)
         if number is not None:
-            self._is_told.add(place)
+            self._is_noted.add(place)
             where = f'{change.where}: "{self.trace.header[place]}" of record {number}'
-            self.told.append(f'{where}: "{text}" stands there as a text, since {self._why_text(place)}')
+            self.told.append(f'{where}: "{text}" is stored as text, because {self._why_text(place)}')
 
     def _why_text(self, place):
-        """Why a column is one of texts (str)."""
+        """Returns why a column is text (str)."""
         if self.model:
-            return "the model names no such column"
+            return "the model doesn't name this column"
         fields = [row[place] for row in self.trace.rows]
         if not all(map(_is_number, fields)):
-            return "the trace has more than numbers in this column"
+            return "not all values of this column are numbers"
         code = next(filter(_is_code, fields), None)
-        return f'the trace has "{code}" in this column, which begins with 0' if code else "the trace has no record"
+        return f'this column has "{code}", with a leading 0' if code else "the trace has no records"
 
     def _judged(self, change, number, place, text):
-        """A text of a change (str) that is to stand in a column of a record as it is. Raises ValueError where it can't."""
+        """Returns a text of a change (str) that goes into a record as it is. Raises ValueError if it isn't allowed there."""
         limit = self._limit(place)
         if not text and (limit is not None or not place):
             where = f'{change.where}: "{self.trace.header[place]}" of record {number}'
-            raise ValueError(f"{where} is empty: a record has a source, a time, and a number in each column of numbers")
+            raise ValueError(f"{where} is empty: a record needs a source, a time and a number in each numeric column")
         if not place and text not in self._sources and (self.model or not is_name(text)):
-            raise self._refusal(change, number, place, text, f"is no source of {self.model}" if self.model else "is no name of a source")
+            raise self._refusal(change, number, place, text, f"is not a source of {self.model}" if self.model else "is not a valid name of a source")
         if limit is not None and not _is_number(text):
             raise self._refusal(change, number, place, text, _why_no_number(text, change.records is not None and not change.is_edit))
         if limit is not None and int(text) > limit:
@@ -205,13 +208,12 @@ class Edited:
         return ValueError(f'{change.where}: "{self.trace.header[place]}" of record {number}: "{text}" {why}')
 
     def is_utf8(self):
-        """Whether the trace has no bytes but those of UTF-8."""
+        """Returns whether all bytes of the trace are valid UTF-8."""
         return all(map(is_utf8, self._texts))
 
     def _limit(self, place):
-        """The greatest number of a column of numbers (int), None of one of text. Of numbers are the times, the columns that the model names, and
-        without a model those in which the trace has nothing else, and none as a code has it, which begins with 0; where it has a number there that is
-        too large for any model, that is no limit."""
+        """Returns the greatest number (int) allowed in a numeric column, None for a text column. Numeric columns are the time, those that the model
+        names and, without a model, those that hold only numbers without a leading 0. Numbers too large for any model lift the limit."""
         if place not in self._limits:
             fields = set() if self.model else {row[place] for row in self.trace.rows}
             is_of_numbers = bool(fields) and all(map(_is_number, fields)) and not any(map(_is_code, fields))
@@ -219,64 +221,63 @@ class Edited:
         return self._limits[place]
 
     def lines(self):
-        """The header and the records as texts (str): what wasn't changed as it stands in the file, the rest with the end of line that stood there, or
-        that the header has."""
-        kept = [it for it in range(len(self.rows) + 1) if it not in self.out]
+        """Yields the header and the records (str): unchanged ones as in the file, others with their old end of line or the header's."""
+        kept = [number for number in range(len(self.rows) + 1) if number not in self.out]
         end = _end(self._texts[0]) or "\n"
         for number, behind in zip(kept, [*kept[1:], None]):
             text = self._text(number, end, is_last=behind is None)
             yield text if behind is None or _end(text) else text + end
 
     def _text(self, number, end, is_last):
-        """The text of a record, or of the header, 0. At the end of a file a quote may stay open, in which nothing can stand behind it."""
+        """Returns the text of a record, or of the header (0). A quote may stay open at the end of the file, after which nothing can follow."""
         text = self._texts[number] if number < len(self._texts) else ""
         if text and number not in self.changed and (is_last or number < len(self._texts) - 1 or _is_closed(text)):
             return text
         return _line_of(self.rows[number - 1] if number else self.trace.header) + (_end(text) or end)
 
     def edits(self):
-        """The changes as edits of mpedit (a list of str), one for each record that is changed or added. Raises ValueError where one is taken out, and
-        where one has what mpedit doesn't take, or the model has names in braces, whose values may be columns."""
+        """Returns the changes as edits for mpedit (list of str), one per changed or added record. Raises ValueError if a record is removed, if a
+        value isn't allowed in an edit, or if the model contains names in braces, whose values may be columns."""
         if self._braces:
-            raise ValueError(f"--edits: {self.model} has {self._braces[0]}, and mpedit takes no model with names in braces")
+            raise ValueError(f"--edits: {self.model} contains {self._braces[0]}, but mpedit takes no model with names in braces")
         for number, where in self.out.items():
-            raise ValueError(f"--edits: {where} takes record {number} out, and no edit of mpedit does that")
+            raise ValueError(f"--edits: record {number} is removed ({where}), and mpedit has no edit for that")
         lines, as_edit = [], Change("--edits", None, {}, is_edit=True)
         for number in [*sorted(self.changed), *range(len(self._texts), len(self.rows) + 1)]:
             source, time, *values = [self._judged(as_edit, number, place, self.rows[number - 1][place]) for place in self.places]
             edit = Set(number, source, time, values) if number < len(self._texts) else Add(source, time, values)
             lines.append(f"{edit}\n")
         if (size := sum(map(len, lines))) > BYTES:
-            raise ValueError(f"--edits: {size} bytes, where mpedit takes {BYTES}")
+            raise ValueError(f"--edits: {size} bytes; the limit of mpedit is {BYTES}")
         return lines
 
     def unnamed(self):
-        """The names (list of str, `""` where it is empty) of the columns that changes are in, and that no edit of mpedit has, since the model doesn't
-        name them."""
+        """Returns the names (list of str, `""` for an empty name) of the columns with changes that no edit for mpedit can contain, because the model
+        doesn't name them."""
         return [self.trace.header[place] or '""' for place in sorted(self._changed_places.difference(self.places))]
 
     def counts(self):
-        """How many records there are, and how many of them are changed or added, and how many taken out (str)."""
-        before, now, out = len(self.trace.rows), len(self.rows) - len(self.out), sum(it < len(self._texts) for it in self.out)
-        return f"{counted(now, 'record')} of {before:,}: {len(self.changed):,} changed, {now - before + out:,} added, {out:,} taken out"
+        """Returns the number of records, and of those changed, added and removed (str)."""
+        before, now, out = len(self.trace.rows), len(self.rows) - len(self.out), sum(item < len(self._texts) for item in self.out)
+        return f"{counted(now, 'record')} (from {before:,}): {len(self.changed):,} changed, {now - before + out:,} added, {out:,} removed"
 
 
 def _end(text):
-    """The end of line (str) that a record's text has; at the end of a file it may be empty."""
+    """Returns the end of line (str) of a record's text; it may be empty at the end of the file."""
     if text.endswith("\n"):
         return "\r\n" if text.endswith("\r\n") else "\n"
     return "\r" if text.endswith("\r") else ""
 
 
 def _is_closed(text):
-    """Whether a record that is written behind this text is one of its own."""
+    """Returns whether text written after this one starts a new record."""
     with fields_up_to():
         return len(list(csv.reader(io.StringIO((text if _end(text) else text + "\n") + "x", newline="")))) > 1
 
 
 def edited(path, changes, model=None):
-    """The trace of a file after the changes in another (Edited), both by their paths, as that of the model, whose columns edits of mpedit are of.
-    Raises OSError where a file can't be read, ValueError where one is refused."""
+    """Returns the trace of a file after the changes in another (Edited). All arguments are paths; edits for mpedit use the columns of the model.
+    Raises OSError if a file can't be read, ValueError if one is invalid."""
     made, data = Edited(path, model), bytes_of(changes)
     text = decoded(changes, data)
     if text.split(None, 1)[:1] not in ([], ["set"], ["add"]):
@@ -285,10 +286,10 @@ def edited(path, changes, model=None):
             made.told.append(f"{changes} is read as Windows-1252")
         found = by_names(changes, text, made.trace.header)
     elif model is None:
-        why = "these are edits of mpedit: --model has the order of their values" if text.strip() else f"it is empty: {EXPECTED}"
+        why = "these are edits for mpedit: give --model for the order of their values" if text.strip() else f"it is empty: {EXPECTED}"
         raise ValueError(f"{changes}: {why}")
     elif len(data) > BYTES:
-        raise ValueError(f"{changes}: {len(data)} bytes, where mpedit takes {BYTES}")
+        raise ValueError(f"{changes}: {len(data)} bytes; the limit of mpedit is {BYTES}")
     else:
         found = by_edits(changes, text, made.columns, made.places)
     with fields_up_to():
@@ -297,20 +298,20 @@ def edited(path, changes, model=None):
     return made
 
 
-def main(asked):
-    if asked.edits and not asked.model:
-        raise ValueError("--edits wants --model, which has the order of their values")
-    judge_outputs([asked.out, asked.edits], {"trace": [asked.trace], "file of changes": [asked.changes], "model": [asked.model]})
-    with uncollected(), all_written(asked.edits, asked.out) as (edits, out):
-        made = edited(asked.trace, asked.changes, asked.model)
+def main(args):
+    if args.edits and not args.model:
+        raise ValueError("--edits requires --model, which has the order of their values")
+    judge_outputs([args.out, args.edits], {"trace": [args.trace], "file of changes": [args.changes], "model": [args.model]})
+    with uncollected(), all_written(args.edits, args.out) as (edits, out):
+        made = edited(args.trace, args.changes, args.model)
         if edits:
             edits.writelines(made.edits())
         with contextlib.nullcontext(out) if out else written() as file:
             file.writelines(made.lines())
-    if warning := pool_warning(asked.trace, made.trace.header):
+    if warning := pool_warning(args.trace, made.trace.header):
         say(warning)
     for line in made.told:
         say(line)
-    if asked.edits and (names := made.unnamed()):
-        say(f"{asked.edits} has no change of {', '.join(names)}, which {asked.model} doesn't name")
+    if args.edits and (names := made.unnamed()):
+        say(f"{args.edits} leaves out the changes of {', '.join(names)}, which {args.model} doesn't name")
     say(made.counts())

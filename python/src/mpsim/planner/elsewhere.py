@@ -1,4 +1,4 @@
-"""Shards by GNU parallel and by Slurm: they say where and when, and each shard is a call of this command."""
+"""Runs shards with GNU parallel or Slurm, which decide where and when; each shard is a call of `mpplan`."""
 
 import os
 import re
@@ -6,40 +6,47 @@ import shlex
 import subprocess
 import sys
 
+from .files import written
+
 HERE = os.path.dirname(os.path.abspath(__file__))
+START = "import sys; sys.path.insert(0, sys.argv.pop(1)); from mpsim.planner import main; sys.exit(main(sys.argv[1:]))"
 
 
 def command(folder):
-    """The words that run a shard, but for its number: the same on each machine that sees the folder, the package and the programs."""
+    """Returns the command line that runs a shard, without its number. It works on every machine that has the directory, the package and the programs
+    at the same paths."""
     package = os.path.dirname(os.path.dirname(HERE))
-    settings = [f"PYTHONPATH={package}", *(f"{it}={os.path.abspath(os.environ[it])}" for it in ("MPSIM_PROGRAMS",) if it in os.environ)]
-    return ["env", *settings, sys.executable, "-m", "mpsim.planner", "sweep", "--folder", os.path.abspath(folder.path), "--shard"]
+    settings = [f"{item}={os.path.abspath(os.environ[item])}" for item in ("MPSIM_PROGRAMS",) if item in os.environ]
+    # Isolated: a csv.py in the current directory isn't run.
+    python = [sys.executable, "-I", "-c", START, package]
+    return ["env", *settings, *python, "sweep", "--folder", os.path.abspath(folder.path), "--shard"]
 
 
 def _run(words, what, given=None):
-    """Runs a command to its end, and hands it this text. What it tells goes to the error output. Raises ValueError where it isn't there."""
+    """Runs a command with this input. Its output goes to stderr. Raises ValueError if the command doesn't exist."""
     try:
         process = subprocess.Popen(words, stdin=subprocess.PIPE, stdout=2)
     except FileNotFoundError:
-        raise ValueError(f"there is no command {words[0]} on the path: {what}") from None
+        raise ValueError(f"the command {words[0]} isn't on the PATH: {what}") from None
     try:
         process.communicate(None if given is None else given.encode(errors="surrogateescape"))
     finally:
-        # Where this command is ended, that one begins no further shard.
+        # If `mpplan` is interrupted, the command must start no further shard.
         if process.poll() is None:
             process.terminate()
             process.wait()
 
 
 def by_parallel(folder, shards, options=()):
-    """Runs shards by GNU parallel. Its options may name machines, as --sshlogin a,b, and how many run at a time, as --jobs 4."""
-    # Whole commands are given to it, so that it replaces nothing in them.
-    lines = "".join(f"{shlex.join([*command(folder), str(it)])}\n" for it in shards)
-    _run(["parallel", "--no-notice", "--halt", "never", *options], "--parallel wants GNU parallel", lines)
+    """Runs shards with GNU parallel. Its options may name machines (--sshlogin a,b) and the number of jobs at a time (--jobs 4)."""
+    # It gets whole command lines, in which it replaces nothing.
+    lines = "".join(f"{shlex.join([*command(folder), str(shard)])}\n" for shard in shards)
+    _run(["parallel", "--no-notice", "--halt", "never", *options], "--parallel requires GNU parallel", lines)
 
 
 def array(folder, shards, tasks):
-    """The script of an array, and how many tasks it has: each runs one shard or more, so that there are no more tasks than Slurm takes."""
+    """Returns the script of a job array and its number of tasks. Each task runs one or more shards, so that there are no more tasks than Slurm
+    allows."""
     each = -(-len(shards) // tasks)
     cases = "".join(f"{at // each + 1}) set -- {' '.join(map(str, shards[at : at + each]))} ;;\n" for at in range(0, len(shards), each))
     script = f"""#!/bin/sh
@@ -56,21 +63,21 @@ exit $status
 
 
 def _most_tasks():
-    """How many tasks an array of this Slurm has at most."""
+    """Returns the greatest number of tasks in an array of this Slurm."""
     try:
-        told = subprocess.run(["scontrol", "show", "config"], stdout=subprocess.PIPE, stderr=subprocess.DEVNULL, text=True, check=False).stdout
+        config = subprocess.run(["scontrol", "show", "config"], stdout=subprocess.PIPE, stderr=subprocess.DEVNULL, text=True, check=False).stdout
     except FileNotFoundError:
-        told = ""
-    found = re.search(r"^MaxArraySize\s*= (\d+)", told, flags=re.MULTILINE)
+        config = ""
+    found = re.search(r"^MaxArraySize\s*= (\d+)", config, flags=re.MULTILINE)
     return max(int(found[1]) - 1, 1) if found else 1000
 
 
 def by_slurm(folder, shards, options=()):
-    """Runs shards as an array of Slurm, and waits for its end. What the tasks write is in `slurm.out` of the folder."""
+    """Runs shards as a Slurm array and waits for its end. The output of the tasks goes to `slurm.out` in the directory."""
     script, tasks = array(folder, shards, _most_tasks())
-    path, out = (os.path.join(os.path.abspath(folder.path), it) for it in ("array.sh", "slurm.out"))
-    with open(path, "w", encoding="utf-8", errors="surrogateescape") as file:
+    path, out = (os.path.join(os.path.abspath(folder.path), item) for item in ("array.sh", "slurm.out"))
+    with written(path) as file:
         file.write(script)
-    # A percent sign would be one of Slurm's patterns.
+    # A single percent sign would begin a Slurm pattern.
     settings = ["--job-name=mpsim", f"--array=1-{tasks}", f"--output={out.replace('%', '%%')}", "--open-mode=append"]
-    _run(["sbatch", "--wait", *settings, *options, path], "--slurm wants Slurm")
+    _run(["sbatch", "--wait", *settings, *options, path], "--slurm requires Slurm")

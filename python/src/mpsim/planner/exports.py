@@ -1,68 +1,90 @@
-"""Exports: tables of text with a header, with any delimiter and in any encoding."""
+"""Reads exports: text tables with a header, any delimiter and any encoding."""
 
 import codecs
-import contextlib
 import csv
-import io
 import itertools
 import re
 from collections import Counter
 
-from .files import counted
+from .files import counted, listed, quoted
+from .streams import Stream, judge_text
 
 DELIMITERS = ";\t,|"
-# So many rows are looked at where formats and marks are to be found.
-SAMPLE = 1 << 15
+# The number of rows, and of their characters, examined to detect formats and decimal marks.
+SAMPLE, CHARACTERS = 1 << 15, 1 << 23
+# A field with more lines is reported: an unclosed quote makes one field of the rest.
+LINES = 20
+
+
+# A longer line isn't one of a table.
+LINE = 1 << 24
 
 
 def found_encoding(data):
-    """The encoding (str) of bytes, and what is to be told of it (str or None). Raises ValueError where it has to be said.
+    """Returns the encoding (str) of bytes (or of a Stream) and a note about it (str or None). Raises ValueError if it can't be detected.
 
     >>> found_encoding("Büro\\n".encode("latin-1"))
-    ('cp1252', 'line 1 has the byte fc, which is no UTF-8: all is taken as Windows-1252, which has what Latin-1 has')
+    ('cp1252', "line 1 has the byte fc, which isn't UTF-8: the file is read as Windows-1252, a superset of printable Latin-1")
     """
-    if data[:2] in (codecs.BOM_UTF16_LE, codecs.BOM_UTF16_BE):
+    stream = data if isinstance(data, Stream) else Stream(data)
+    begin = next(stream.pieces(), b"")
+    if begin[:2] in (codecs.BOM_UTF16_LE, codecs.BOM_UTF16_BE):
         return "utf-16", "the encoding is UTF-16"
-    if b"\0" in data[:1024]:
-        raise ValueError("it has NUL bytes: is it UTF-16 without a mark? --encoding says it, as utf-16-le")
-    try:
-        data.decode("utf-8")
-    except UnicodeDecodeError as fault:
-        if data.startswith(codecs.BOM_UTF8):
-            raise _undecoded(data, "UTF-8, which its mark says", fault) from None
-        line = data.count(b"\n", 0, fault.start) + 1
-        what = f"line {line} has the byte {data[fault.start]:02x}, which is no UTF-8"
+    judge_text(begin)
+    has_mark = begin.startswith(codecs.BOM_UTF8)
+    line, byte = _undecodable(stream, "utf-8")
+    if line is None:
+        return "utf-8-sig", "the encoding is UTF-8 with a byte order mark" if has_mark else None
+    if has_mark:
+        raise _undecoded(line, byte, "UTF-8, although the file has a UTF-8 byte order mark")
+    what = f"line {line} has the byte {byte:02x}, which isn't UTF-8"
+    line, byte = _undecodable(stream, "cp1252")
+    if line is not None:
+        raise _undecoded(line, byte, "UTF-8 or Windows-1252")
+    return "cp1252", f"{what}: the file is read as Windows-1252, a superset of printable Latin-1"
+
+
+def _undecodable(stream, encoding):
+    """Returns the line and the first byte (int) that an encoding can't decode; None and None if there is none."""
+    decoder, lines, kept, long = codecs.getincrementaldecoder(encoding)(), 1, b"", 0
+    for piece in itertools.chain(stream.pieces(), [None]):
         try:
-            data.decode("cp1252")
-        except UnicodeDecodeError as other:
-            raise _undecoded(data, "UTF-8 and no Windows-1252", other) from None
-        return "cp1252", f"{what}: all is taken as Windows-1252, which has what Latin-1 has"
-    return "utf-8-sig", "the encoding is UTF-8 with a mark" if data.startswith(codecs.BOM_UTF8) else None
+            decoder.decode(piece or b"", final=piece is None)
+        except UnicodeDecodeError as error:
+            return lines + error.object.count(b"\n", 0, error.start) - kept.count(b"\n"), error.object[error.start]
+        # What the decoder keeps of a character at the end of a piece.
+        kept = decoder.getstate()[0]
+        lines += (piece or b"").count(b"\n")
+        long = 0 if piece is None or b"\n" in piece or b"\r" in piece else long + len(piece)
+        if long > LINE:
+            raise ValueError(f"line {lines} is longer than {LINE:,} bytes")
+    return None, None
 
 
-def _undecoded(data, encoding, fault):
-    line = data.count(b"\n", 0, fault.start) + 1
-    return ValueError(f"line {line}: the byte {data[fault.start]:02x} is no {encoding} (--encoding)")
+def _undecoded(line, byte, encoding):
+    return ValueError(f"line {line}: the byte {byte:02x} isn't valid {encoding} (--encoding)")
 
 
-def _given_encoding(data, name):
-    """An encoding that was given. A mark at the front is none of the text. Raises ValueError where it isn't there, or the bytes aren't of it."""
+def _given_encoding(stream, name):
+    """Returns the codec for an encoding given by name; a byte order mark isn't part of the text. Raises ValueError for an unknown encoding and for
+    bytes that it can't decode."""
     try:
         name = codecs.lookup(name).name
-        data.decode(name)
-    except (LookupError, TypeError):
-        raise ValueError(f"there is no encoding {name!r} (--encoding)") from None
-    except UnicodeDecodeError as fault:
-        raise _undecoded(data, name, fault) from None
+        b"a".decode(name, errors="replace")
+        line, byte = _undecodable(stream, name)
+    except (LookupError, TypeError, UnicodeError):
+        raise ValueError(f"unknown encoding {name!r} (--encoding)") from None
+    if line is not None:
+        raise _undecoded(line, byte, name)
     marks = {"utf-8": codecs.BOM_UTF8, "utf-16-le": codecs.BOM_UTF16_LE, "utf-16-be": codecs.BOM_UTF16_BE}
-    if data.startswith(marks.get(name, b"\n")):
+    if next(stream.pieces(), b"").startswith(marks.get(name, b"\n")):
         return "utf-8-sig" if name == "utf-8" else "utf-16"
     return name
 
 
 def found_delimiter(lines):
-    """The delimiter of lines: of those by which nine rows in ten have as many fields as the header, the one by which it has most. Raises ValueError
-    where two are as good.
+    """Returns the delimiter of lines: among those with which nine rows in ten have as many fields as the header, the one that gives the most fields.
+    Raises ValueError for a tie.
 
     >>> found_delimiter(["a;b;c\\n", "1,0;2,5;x\\n"])
     ';'
@@ -78,66 +100,112 @@ def found_delimiter(lines):
             scores.append((share >= 0.9, counts[0], share, mark))
     scores.sort(reverse=True)
     if len(scores) > 1 and scores[0][:3] == scores[1][:3]:
-        raise ValueError(f"the delimiter may be {scores[0][3]!r} or {scores[1][3]!r} (--delimiter)")
+        raise ValueError(f"the delimiter could be {scores[0][3]!r} or {scores[1][3]!r} (--delimiter)")
     return scores[0][3] if scores else ","
 
 
-class Export:
-    """An export: its `header` (list of str), `rows()` behind it, `sample` of them, and `told`, what was found (lists of str). `data` is its bytes;
-    what isn't given is found. `header` (str) has the names of the columns, parted by commas, where the export has none. Raises ValueError where it is
-    empty or more has to be said."""
+class Table:
+    """What exports of all forms have: a `header` (list of str), `rows()`, a `sample` of them, and `notes` (lists of str)."""
+
+    def __init__(self, skip, header, notes):
+        if skip < 0:
+            raise ValueError(f"--skip {skip}: expected a number of lines, 0 or more")
+        self.notes, self._skip, self._has_header = list(notes), skip, header is None
+
+    def _named(self, first, header):
+        """Returns the names of the columns: those given, separated by commas, or those in the first row."""
+        if header is None and not any(item.strip() for item in first):
+            raise ValueError("it begins with an empty line: give the number of lines before its header with --skip")
+        return [item.strip() for item in (first if header is None else header.split(","))]
+
+    def column(self, name):
+        """Returns the index of a column by its name. Raises ValueError unless exactly one column has it."""
+        numbers = [f"#{at}" for at, item in enumerate(self.header, 1) if item == name]
+        if len(numbers) > 1:
+            raise ValueError(f"two columns are called {name!r}: write {' or '.join(numbers)}")
+        if numbers and name:
+            return self.header.index(name)
+        if re.fullmatch(r"#[1-9]\d{0,4}", name) and int(name[1:]) <= len(self.header):
+            return int(name[1:]) - 1
+        raise ValueError(f"no column {quoted(name)}; it has {listed(self.header)}{self._hint(name)}")
+
+    def _hint(self, name):
+        """Returns a hint (str) at the row that looks like the header, if the first rows are those of a report."""
+        rows, number = self.rows()
+        for at, row in enumerate(itertools.islice(rows, 50), number):
+            if name and name in map(str.strip, row):
+                return f"; row {at} looks like the header: --skip {at - 1}"
+        return ""
+
+    def parse(self, word, has_unit=False):
+        """Splits COLUMN[=NAME][:UNIT] into the column's index, its name in the trace or None, and the unit or None. A column's name may contain these
+        characters too. Raises ValueError as `column` does."""
+        numbers = re.match(r"#[1-9]\d{0,4}", word)
+        for column in [*sorted(self.header, key=len, reverse=True), *([numbers[0]] if numbers else [])]:
+            found = re.fullmatch(r"(?:=(\w+))?" + (r"(?::([\w:@.]+))?" if has_unit else "()"), word[len(column) :])
+            if column and word.startswith(column) and found:
+                return self.column(column), found[1], found[2] or None
+        name = re.split("[=:]", word)[0]
+        raise ValueError(f"no column {quoted(name)}; it has {listed(self.header)}{self._hint(name)}")
+
+
+class Export(Table):
+    """An export: its `header` (list of str), its `rows()`, a `sample` of them, and `notes`, the notes on what was detected (lists of str).
+
+    `data` is the bytes of the file, or a Stream; arguments that aren't given are detected. `header` (str) lists the column names, separated by
+    commas, if the export has none. Raises ValueError if the export is empty or needs another option."""
 
     def __init__(self, data, encoding=None, delimiter=None, skip=0, header=None):
-        self.told, self._data, self._skip, self._has_header = [], data, skip, header is None
+        self._stream = data if isinstance(data, Stream) else Stream(data)
+        super().__init__(skip, header, self._stream.notes)
         if encoding:
-            self._encoding = _given_encoding(data, encoding)
+            self._encoding = _given_encoding(self._stream, encoding)
         else:
-            self._encoding, says = found_encoding(data)
-            self.told += [says] if says else []
+            self._encoding, says = found_encoding(self._stream)
+            self.notes += [says] if says else []
         first = next(self._lines(), "")
         if found := re.fullmatch(r"sep=(.)\r?\n?", first):
-            # So a spreadsheet is told of the delimiter.
+            # A spreadsheet's own line that names its delimiter.
             delimiter, self._skip = delimiter or found[1], self._skip + 1
         self.delimiter = self._found_delimiter() if delimiter is None else delimiter.replace("\\t", "\t")
         if len(self.delimiter) != 1 or self.delimiter in '"\r\n':
-            raise ValueError(f"{delimiter!r} is no delimiter, which is one character (--delimiter)")
+            raise ValueError(f"{delimiter!r} isn't a delimiter, which is one character (--delimiter)")
         self.header = self._header(skip)
         if header is not None:
-            self.header = [it.strip() for it in header.split(",")]
+            self.header = [part.strip() for part in header.split(",")]
         self.sample = self._sample()
 
     def _lines(self, skip=None):
-        """The lines from the header on, or behind so many, as they end."""
-        lines = io.TextIOWrapper(io.BytesIO(self._data), self._encoding, errors="replace", newline="")
-        return itertools.islice(lines, self._skip if skip is None else skip, None)
+        """Returns an iterator over the lines after `skip` lines (by default those before the header), with their line ends."""
+        return itertools.islice(self._stream.text(self._encoding), self._skip if skip is None else skip, None)
 
     def _found_delimiter(self):
         found = found_delimiter(list(itertools.islice(self._lines(), 200)))
-        self.told.append(f"the delimiter is {found!r}")
+        self.notes.append(f"the delimiter is {found!r}")
         return found
 
     def _header(self, skip):
         try:
             header = next(self._reader(self._lines()), [])
-        except csv.Error as fault:
-            raise ValueError(f"row {self._skip + 1}: {fault}: is a quote not closed?") from None
-        if not any(it.strip() for it in header):
+        except csv.Error as error:
+            raise ValueError(f"row {self._skip + 1}: {error}: is a closing quote missing?") from None
+        if not any(item.strip() for item in header):
             raise ValueError(self._no_header(skip))
-        return [it.strip() for it in header]
+        return [item.strip() for item in header]
 
     def _no_header(self, skip):
-        """Why there is none."""
-        if any(it.strip() for it in self._lines()):
-            return "it begins with an empty line: --skip says how many lines stand before its header"
+        """Returns why there is no header."""
+        if any(line.strip() for line in self._lines()):
+            return "it begins with an empty line: give the number of lines before its header with --skip"
         lines = list(self._lines(0))
-        is_empty = skip == 0 or not any(it.strip() for it in lines)
-        return "it is empty" if is_empty else f"--skip {skip}: it has {counted(len(lines), 'line')}, and no header is left"
+        is_empty = skip == 0 or not any(line.strip() for line in lines)
+        return "the file is empty" if is_empty else f"--skip {skip}: the file has {counted(len(lines), 'line')}, so no header is left"
 
     def _reader(self, lines):
         return csv.reader(lines, delimiter=self.delimiter)
 
     def rows(self):
-        """A reader of the rows behind the header, which counts lines, and the number of the first, as a spreadsheet counts them."""
+        """Returns a reader of the rows after the header, which counts lines, and the number of the first row, counted as in a spreadsheet."""
         reader = self._reader(self._lines())
         if self._has_header:
             next(reader)
@@ -145,35 +213,27 @@ class Export:
 
     @property
     def size(self):
-        """About how many rows there are."""
-        return self._data.count(b"\n")
+        """The number of lines."""
+        return sum(piece.count(b"\n") for piece in self._stream.pieces())
 
     def _sample(self):
-        """Rows from the front, and some of the end: days above 12 may come late."""
-        parts, rows = [itertools.islice(self.rows()[0], SAMPLE)], []
-        if len(self._data) > 1 << 20 and not self._encoding.startswith("utf-16"):
-            tail = self._data[-(1 << 16) :].decode(self._encoding, errors="replace")
+        """Returns rows from the beginning and some from the end, since days above 12 may come late."""
+        (reader, first), size = self.rows(), 0
+        parts, rows = [itertools.islice(reader, SAMPLE)], []
+        if not self._encoding.startswith("utf-16"):
+            tail = self._stream.tail(1 << 16).decode(self._encoding, errors="replace")
             parts.append(itertools.islice(self._reader(tail.splitlines(keepends=True)), 1, None))
         for part in parts:
-            # What can't be read is told where all is read.
-            with contextlib.suppress(csv.Error):
+            try:
                 for row in part:
                     rows.append(row)
-        return [it for it in rows if len(it) >= len(self.header)]
-
-    def column(self, name):
-        """The number of a column by its name, from 0. Raises ValueError where there is none, or two."""
-        if self.header.count(name) > 1:
-            raise ValueError(f"two columns are called {name!r}: one has to be renamed")
-        if name not in self.header or not name:
-            raise ValueError(f"there is no column {name!r}; it has {', '.join(map(repr, self.header))}")
-        return self.header.index(name)
-
-    def asked(self, word, has_unit=False):
-        """Of a word COLUMN[=NAME][:UNIT] the column's number, its name in the trace or None, and the unit or None. A column's name may have these
-        marks too. Raises ValueError as `column` does."""
-        for column in sorted(self.header, key=len, reverse=True):
-            found = re.fullmatch(r"(?:=(\w+))?" + (r"(?::([\w:]+))?" if has_unit else "()"), word[len(column) :])
-            if column and word.startswith(column) and found:
-                return self.column(column), found[1], found[2] or None
-        raise ValueError(f"there is no column {re.split('[=:]', word)[0]!r}; it has {', '.join(map(repr, self.header))}")
+                    size += sum(map(len, row))
+                    if size > CHARACTERS:
+                        break
+            except csv.Error as error:
+                if part is parts[0]:
+                    raise ValueError(f"row {first + len(rows)}: {error}: is a closing quote missing?") from None
+        tall = next((at for at, row in enumerate(rows) if any(item.count("\n") > LINES for item in row)), None)
+        if tall is not None and len(rows[tall]) < len(self.header):
+            raise ValueError(f"row {first + tall}: a field has more than {LINES} lines: is a closing quote missing?")
+        return [row for row in rows if len(row) >= len(self.header)]

@@ -1,21 +1,23 @@
-"""The formats of times: which one texts have, where that can be known, and what whole numbers look like that are taken as ticks."""
+"""The formats of times: detects them where possible, and recognises times among numbers that are read as ticks."""
 
 import re
 from datetime import datetime, timezone
 
+from . import months
+from .files import quoted
 from .times import CLOCK, ISO_DAY, ISO_REST, RFC_DAY, RFC_REST
 
-# Numbers don't tell what they are.
+# Plain numbers don't show what they mean.
 NUMBERS = "ticks", "unix", "unixms", "hmm", "hmmss", "excel"
-NAMES = "iso", "rfc", "clock", *NUMBERS
-# Behind a date: what it looks like, and its directives.
+NAMES = "iso", "rfc", "months", "clock", "gtfs", *NUMBERS
+# What may follow a date: its pattern and its directives.
 _CLOCKS = {
     r"": "",
     r"\s\d{1,2}:\d\d": " %H:%M",
     r"\s\d{1,2}:\d\d:\d\d": " %H:%M:%S",
     r"\s\d{1,2}:\d\d:\d\d\.\d{1,6}": " %H:%M:%S.%f",
-    r"\s\d{1,2}:\d\d\s[AaPp][Mm]": " %I:%M %p",
-    r"\s\d{1,2}:\d\d:\d\d\s[AaPp][Mm]": " %I:%M:%S %p",
+    r"\s\d{1,2}:\d\d\s?[AaPp]\.?\s?[Mm]\.?": " %I:%M %p",
+    r"\s\d{1,2}:\d\d:\d\d\s?[AaPp]\.?\s?[Mm]\.?": " %I:%M:%S %p",
 }
 _DATE = r"(?:19|20)\d\d(?:0[1-9]|1[0-2])(?:0[1-9]|[12]\d|3[01])"
 _HOUR = r"(?:[01]\d|2[0-3])[0-5]\d"
@@ -27,7 +29,7 @@ _PLAIN = {
 }
 
 
-# Of dates with a mark: the mark, what stands behind, and its directives.
+# Dates with a separator: the separator, the pattern of what follows, and its directives.
 _DATES = {
     rf"\d+{re.escape(mark)}\d+{re.escape(mark)}\d+{comma}{pattern}": (mark, comma + pattern, comma + clock)
     for mark in "./-"
@@ -38,96 +40,114 @@ _DATES = {
 
 
 def _matches(pattern, texts):
-    """The matches of a pattern, where no more than a tenth of the texts has none; else an empty list."""
-    found = [it for it in map(re.compile(pattern, re.ASCII).fullmatch, texts) if it]
+    """Returns the matches of a pattern if at least nine in ten texts match, else an empty list."""
+    found = [text for text in map(re.compile(pattern, re.ASCII).fullmatch, texts) if text]
     return found if 10 * len(found) >= 9 * len(texts) else []
 
 
 def found_format(texts):
-    """The format of texts of times: a name of NAMES, or one as strptime has it. Raises ValueError where it has to be said.
+    """Returns the format of texts of times: a name from NAMES or a strptime format. Raises ValueError if it can't be detected.
 
     >>> found_format(["02.03.2026 08:00:17", "02.03.2026 08:00:05"])
     '%d.%m.%Y %H:%M:%S'
     """
-    texts = [it.strip() for it in texts if it.strip()]
+    texts = [text.strip().replace("\u202f", " ").replace("\u00a0", " ") for text in texts if text.strip()]
     if not texts:
-        raise ValueError("no time to find the format by")
+        raise ValueError("there is no time from which to detect the format")
     some = texts[:1000]
     for pattern, form in _PACKED.items():
         if _matches(pattern, some):
             return form
     if _matches(r"\d+(?:[.,]\d+)?", some):
-        raise ValueError(f"{texts[0]!r} is a number: the format is one of {', '.join(NUMBERS)}, or as strptime has it, as %H.%M")
+        raise ValueError(f"{quoted(texts[0])} is a number: the format is one of {', '.join(NUMBERS)}, or a strptime format such as %H.%M")
     for form, pattern in _PLAIN.items():
         if _matches(pattern, some):
+            late = next((text for text in texts if re.match(r"(?:2[5-9]|3\d):[0-5]\d", text)), None) if form == "clock" else None
+            if late:
+                raise ValueError(f"{quoted(late)} has an hour above 24: the format is gtfs, if hours go on after midnight, or clock")
             return form
     for pattern, (mark, rest, clock) in _DATES.items():
         if _matches(pattern, some):
             return _found_date(texts, mark, rest, clock)
+    if 10 * sum(map(months.is_one, some)) >= 9 * len(some):
+        return "months"
     for pattern in (*_PACKED, *_PLAIN.values(), *_DATES):
-        are = [bool(re.fullmatch(pattern, it, re.ASCII)) for it in some]
+        are = [bool(re.fullmatch(pattern, item, re.ASCII)) for item in some]
         if 2 * sum(are) > len(are):
             odd, like = some[are.index(False)], some[are.index(True)]
-            raise ValueError(f"{odd!r} isn't written as {like!r} is; where a format is given such rows are left out")
-    raise ValueError(f"{texts[0]!r} is of no format that is found by itself")
+            raise ValueError(f"{quoted(odd)} isn't written like {quoted(like)}; if you give a format, such rows are left out")
+    raise ValueError(f"the format of {quoted(texts[0])} can't be detected")
 
 
 def _found_date(texts, mark, rest, clock):
-    """The format of dates with this mark, where something of this pattern stands behind, which has this format."""
+    """Returns the format of dates with this separator, followed by this pattern, whose format is `clock`."""
     two, four = rf"(\d{{1,2}}){re.escape(mark)}(\d{{1,2}}){re.escape(mark)}", r"(\d{4})"
     if _matches(rf"\d{{4}}{re.escape(mark)}\d{{1,2}}{re.escape(mark)}\d{{1,2}}{rest}", texts):
         return f"%Y{mark}%m{mark}%d{clock}"
     if not (found := _matches(two + four + rest, texts)):
-        raise ValueError(f"{texts[0]!r} has a year of two digits: the format may be {f'%d{mark}%m{mark}%y{clock}'!r}")
-    day, month = f"%d{mark}%m{mark}%Y{clock}", f"%m{mark}%d{mark}%Y{clock}"
-    first, second = max(int(it[1]) for it in found), max(int(it[2]) for it in found)
+        short = _matches(rf"{two}(\d\d){rest}", texts)
+        like = " or ".join(map(repr, _orders(short, mark, "%y", clock) if short else [f"%d{mark}%m{mark}%y{clock}"]))
+        raise ValueError(f"{quoted(texts[0])} has a two-digit year: the format may be {like}")
+    like = _orders(found, mark, "%Y", clock)
+    if len(like) == 1:
+        return like[0]
+    raise ValueError(f"{quoted(texts[0])} could begin with the day or with the month: the format is {' or '.join(map(repr, like))}")
+
+
+def _orders(found, mark, year, clock):
+    """Returns the formats (list of str) that dates may have whose first two numbers were found: with the day first, the month first, or, if both are
+    above 12 and the year has two digits, the year."""
+    day, month = f"%d{mark}%m{mark}{year}{clock}", f"%m{mark}%d{mark}{year}{clock}"
+    first, second = max(int(item[1]) for item in found), max(int(item[2]) for item in found)
     if second <= 12 and (first > 12 or mark == "."):
-        return day
+        return [day]
     if first <= 12 < second:
-        return month
-    raise ValueError(f"{texts[0]!r} may begin with the day or with the month: the format is {day!r} or {month!r}")
+        return [month]
+    if year == "%y" and min(first, second) > 12:
+        return [f"%y{mark}%m{mark}%d{clock}"]
+    return [day, month]
 
 
 def judged_format(form):
-    """A format that was given. Raises ValueError where it is none, or says a day without a year."""
+    """Returns a format that was given. Raises ValueError if it is invalid, or has a day but no year."""
     if form in NAMES:
         return form
     if "%" not in form:
-        raise ValueError(f"{form!r} is no format: it is one of {', '.join(NAMES)}, or as strptime has it, as %d.%m.%Y %H:%M")
-    # Later Pythons warn of such a format where it is tried.
+        raise ValueError(f"{form!r} isn't a format: it is one of {', '.join(NAMES)}, or a strptime format such as %d.%m.%Y %H:%M")
+    # Recent versions of Python warn when such a format is used.
     if re.search(r"%[djUWbBm]", form) and not re.search(r"%[YyGcx]", form):
-        raise ValueError(f"the format {form!r} has a day and no year")
+        raise ValueError(f"the format {form!r} has a day but no year")
     try:
         text = datetime(2026, 3, 2, 13, 5, 9, tzinfo=timezone.utc).strftime(form)
         datetime.strptime(text, form)
-    except ValueError as fault:
-        raise ValueError(f"{form!r} is no format of strptime: {fault}") from None
+    except ValueError as error:
+        raise ValueError(f"{form!r} isn't a valid strptime format: {error}") from None
     return form
 
 
 def is_of_day(form):
-    """Whether a format says the time of a day alone."""
-    return form in ("clock", "hmm", "hmmss") or "%" in form and not re.search("%[YyjdcxGDF]", form)
+    """Returns whether a format contains only a time of day."""
+    return form in ("clock", "gtfs", "hmm", "hmmss") or "%" in form and not re.search("%[YyjdcxGDF]", form)
 
 
 def looks_like_clocks(values):
-    """What whole numbers look like that are to be ticks (str), or None: they go up to what a calendar or a clock has, and no further.
+    """Returns what whole numbers that are to be ticks look like (str), or None: their values stay within what a calendar or a clock shows.
 
     >>> looks_like_clocks([20260302080017, 20260302080018])
-    'dates with a time, as 20260302080017'
+    'dates with a time, such as 20260302080017'
     """
     values = list(values)
     if not values:
         return None
-    if all(re.fullmatch(rf"{_DATE}{_HOUR}(?:[0-5]\d)?", str(it)) for it in values):
-        return f"dates with a time, as {values[0]}"
+    if all(re.fullmatch(rf"{_DATE}{_HOUR}(?:[0-5]\d)?", str(value)) for value in values):
+        return f"dates with a time, such as {values[0]}"
     for least, greatest, what in (10**9, 4 * 10**9, "seconds"), (10**12, 4 * 10**12, "milliseconds"):
-        if all(least <= it < greatest for it in values):
-            return f"{what} since 1970, as {values[0]}"
-    # Of twenty numbers at random hardly once all have no more than 59 minutes.
-    if len(values) >= 20 and len({it % 100 for it in values}) > 5 and all(it % 100 < 60 for it in values):
+        if all(least <= value < greatest for value in values):
+            return f"{what} since 1970, such as {values[0]}"
+    # Twenty random numbers hardly ever all end in at most 59.
+    if len(values) >= 20 and len({value % 100 for value in values}) > 5 and all(value % 100 < 60 for value in values):
         if 99 < max(values) < 2400:
-            return f"times of the day, as {max(values)}"
-        if 59999 < max(values) < 240000 and all(it // 100 % 100 < 60 for it in values):
-            return f"times of the day with seconds, as {max(values)}"
+            return f"times of day, such as {max(values)}"
+        if 59999 < max(values) < 240000 and all(value // 100 % 100 < 60 for value in values):
+            return f"times of day with seconds, such as {max(values)}"
     return None

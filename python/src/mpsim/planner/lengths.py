@@ -1,18 +1,21 @@
-"""Columns of lengths of time: numbers of a unit with either decimal mark, and h:mm:ss."""
+"""Reads columns of lengths of time: numbers in a unit, with either decimal mark, and h:mm:ss."""
 
 import re
+from fractions import Fraction
 
-from .times import HOUR, MINUTE, SECOND, UNITS, Asks, Cache, Unread, excel
+from .durations import duration
+from .files import quoted
+from .times import HOUR, MINUTE, SECOND, UNITS, Asks, Cache, Unread, excel, there
 
-# Of a trace.
+# The limit of a trace.
 GREATEST_VALUE = 1 << 36
 SPAN = re.compile(r"(\d+):(\d\d)(?::(\d\d)(?:[.,](\d{1,9}))?)?", re.ASCII)
-# What sets thousands off, besides the mark that isn't the decimal one.
+# Separators of thousands, besides the mark that isn't the decimal one.
 _GAPS = "\\s\u00a0\u202f'\u2019"
 
 
 def found_decimal(texts):
-    """The decimal mark of texts of numbers, "." or ","; None where none has a mark. Raises ValueError where it has to be said.
+    """Returns the decimal mark of numbers as text, "." or ","; None if none of them has a mark. Raises ValueError if it can't be detected.
 
     >>> found_decimal(["3,5", "1.210,0"])
     ','
@@ -32,31 +35,50 @@ def found_decimal(texts):
         else:
             marks.add("," if commas else ".")
     if len(marks) > 1:
-        raise ValueError("its numbers have both decimal commas and decimal points")
+        raise ValueError("its numbers use both decimal commas and decimal points")
     if not marks and doubtful is not None:
-        raise ValueError(f"{doubtful!r} may be thousands or a fraction")
+        raise ValueError(f"{quoted(doubtful)} could be thousands or a decimal fraction")
     return marks.pop() if marks else None
 
 
+# As a spreadsheet shows a number in a narrow column.
+_POWER = re.compile(r"\d(?:[.,]\d{1,15})?[Ee]\+\d{1,2}", re.ASCII)
+# Data sent at a rate, such as bytes@10Gbps.
+_RATE = re.compile(r"(bits|bytes)@(\d{1,6}(?:\.\d{1,3})?)([kMGT]?)bps", re.ASCII)
+
+
+def _bits_per_second(unit):
+    """Returns how many bits there are in a piece of data of a unit such as bytes@10Gbps, and how many are sent per second; None for another unit."""
+    found = _RATE.fullmatch(unit)
+    rate = found and Fraction(found[2]) * 1000 ** " kMGT".index(found[3] or " ")
+    return (8 if found[1] == "bytes" else 1, rate) if rate else None
+
+
 class Lengths:
-    """A column of lengths of time in a unit, with a decimal mark ("." or ",", None where it isn't known). `ticks[text]` is a length in ticks (int),
-    to the nearest; Unread is raised where a text is none, and Asks where more has to be said. `rounded` counts the different texts that are no whole
-    number of ticks. Raises ValueError for a unit that is none."""
+    """A column of lengths of time in a unit, with a decimal mark ("." or ",", None if unknown).
+
+    `ticks[text]` is a length rounded to whole ticks (int). It raises Unread for an invalid text, and Asks if an option is needed. `rounded` counts
+    the distinct texts that aren't whole ticks. Raises ValueError for an unknown unit."""
 
     NAMES = *UNITS, "ticks", "h:mm", "m:ss", "h:mm:ss", "excel"
 
     def __init__(self, unit, decimal, tick):
-        if unit not in self.NAMES:
-            raise ValueError(f"there is no unit {unit!r}: it is one of {', '.join(self.NAMES)}")
+        rate = _bits_per_second(unit)
+        if unit not in self.NAMES and not rate:
+            raise ValueError(f"unknown unit {unit!r}: it is one of {', '.join(self.NAMES)}, or data at a rate such as bytes@10Gbps")
         self.unit, self.decimal, self.tick, self.rounded = unit, decimal, tick, 0
         self.per = tick if unit == "ticks" else UNITS.get(unit, SECOND)
-        # Thousands are set off by threes, or a point that was a decimal one would be lost in silence.
+        # The lengths of data are fractions of a nanosecond.
+        self.parts = 1
+        if rate:
+            self.per, self.parts = (rate[0] * SECOND / rate[1]).as_integer_ratio()
+        # Thousands come in groups of three, so that a decimal point can't be mistaken for a separator.
         gaps = _GAPS + {".": ",", ",": "."}.get(decimal, "")
         self._number = re.compile(rf"([0-9]+|[0-9]{{1,3}}(?:[{gaps}][0-9]{{3}})+)(?:{re.escape(decimal or '.')}([0-9]+))?")
         self.ticks = Cache(self._work)
 
     def _work(self, text):
-        length, tick = self._length(text)
+        length, tick = self.length(text)
         ticks, left = divmod(length, tick)
         ticks += 2 * left >= tick
         if ticks > GREATEST_VALUE:
@@ -64,31 +86,35 @@ class Lengths:
         self.rounded += left > 0
         return ticks
 
-    def _length(self, text):
-        """A length and a tick (int), both in such parts of a microsecond that they are whole."""
-        text = text.strip()
-        if not text:
-            raise Unread("empty")
-        if text[0] in "-\u2212":
+    def length(self, text):
+        """Returns a length and a tick (int), both in a fraction of a nanosecond in which they are whole. Raises Unread and Asks."""
+        text = there(text)
+        if text[0] in "-\u2212" or text[-1] in "-\u2212":
             raise Unread("below 0")
+        if not text[0].isdigit() or not text[-1].isdigit() or "day" in text:
+            if (found := duration(text)) is not None:
+                return found.numerator, found.denominator * self.tick
+        if found := _POWER.fullmatch(text):
+            value = Fraction(text.replace(",", ".")) * self.per / self.parts
+            return value.numerator, value.denominator * self.tick
         if ":" in text or self.unit == "h:mm:ss":
             return self._of_span(text)
         if self.unit == "excel":
             return excel(text), self.tick
         if self.decimal is None and re.search("[.,]", text):
-            raise Asks("a number with a mark, which may be a decimal one: --decimal says it")
+            raise Asks("the mark could be a decimal one: give --decimal")
         found = self._number.fullmatch(text)
         if not found:
-            raise Unread(f"no number with a decimal {'comma' if self.decimal == ',' else 'point'}")
+            raise Unread(f"not a number with a decimal {'comma' if self.decimal == ',' else 'point'}")
         rest = found[2] or ""
-        return int(re.sub(r"\D", "", found[1]) + rest) * self.per, 10 ** len(rest) * self.tick
+        return int(re.sub(r"\D", "", found[1]) + rest) * self.per, 10 ** len(rest) * self.tick * self.parts
 
     def _of_span(self, text):
         found = SPAN.fullmatch(text)
         if not found or int(found[2]) > 59 or int(found[3] or 0) > 59:
-            raise Unread("no h:mm:ss")
+            raise Unread("not h:mm:ss")
         if found[3] is None and self.unit not in ("h:mm", "m:ss"):
-            raise Asks("h:mm or m:ss: the unit says which")
+            raise Asks("this could be h:mm or m:ss: give the unit")
         first, second = (MINUTE, SECOND) if found[3] is None and self.unit == "m:ss" else (HOUR, MINUTE)
         whole = int(found[1]) * first + int(found[2]) * second + int(found[3] or 0) * SECOND
-        return 1000 * whole + int((found[4] or "0").ljust(9, "0")), 1000 * self.tick
+        return whole + int((found[4] or "0").ljust(9, "0")), self.tick

@@ -1,4 +1,4 @@
-"""A model that a command reads and doesn't run."""
+"""Reads models that a command doesn't run."""
 
 import os
 import re
@@ -10,28 +10,29 @@ from .files import text_of
 
 
 def lines_of(text):
-    """The lines (list of str) of a model's text that are no comments."""
-    return [it for it in text.removeprefix("\ufeff").split("\n") if not it.lstrip(" \t").startswith("#")]
+    """Returns the lines (list of str) of a model that aren't comments."""
+    return [part for part in text.removeprefix("\ufeff").split("\n") if not part.lstrip(" \t").startswith("#")]
 
 
 def in_braces(text):
-    """The first name in braces (a match, with the name as its group) of a model's text, as `{agents}` or `{agents:d}`, which sweeps fill; or None."""
+    """Returns the first name in braces (a match, with the name as its group) in a model, such as `{agents}` or `{agents:d}`, which sweeps fill in; or
+    None."""
     return re.search(r"\{([A-Za-z_]\w*)[^{}]*\}", "\n".join(lines_of(text)), re.ASCII)
 
 
-def judged_text(path, tell):
-    """The text (str) of the model in a file, which mpsim has judged, over a trace without a record. Where it can't, since there is no such program or
-    the model has names in braces, `tell` is called with a line that says so. Raises what `text_of` does, and what `mpsim.run` does, with the path."""
+def judged_text(path, warn):
+    """Returns the text (str) of a model that mpsim has checked by running it without records. If the program is missing or the model has names in
+    braces, it isn't checked, and `warn` is called with that. Raises what `text_of` does, and what `mpsim.run` does, with the path."""
     text = text_of(path)
     if found := in_braces(text):
-        tell(f"warning: {path} isn't judged: {found[0]} gets its values by planner sweep --set")
+        warn(f"warning: {path} isn't checked: {found[0]} gets its values from mpplan sweep --set")
         return text
     try:
         programs.find("mpsim")
         run(text.encode(errors="surrogateescape"), [])
-    except ProgramError as fault:
-        tell(f"warning: {path} isn't judged: {fault.why}")
-    except Error as fault:
-        fault.file = os.fsdecode(path)
+    except ProgramError as error:
+        warn(f"warning: {path} isn't checked: {error.why}")
+    except Error as error:
+        error.file = os.fsdecode(path)
         raise
     return text

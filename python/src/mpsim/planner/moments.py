@@ -1,25 +1,26 @@
-"""Columns of times: texts of one format, and how a million of them are read."""
+"""Reads columns of times in one format, fast enough for a million rows."""
 
 import re
 from datetime import datetime
 from operator import add, methodcaller
 
+from . import months
 from .formats import is_of_day
-from .times import DAY, HOUR, SECOND, SPREADSHEET, Asks, Cache, Unread, at_utc, clock, excel, hmm, hmmss, iso_day, iso_rest, micros, rfc_day, rfc_rest
+from .times import DAY, HOUR, SECOND, SPREADSHEET, Asks, Cache, Unread, at_utc, clock, excel, gtfs, hmm, hmmss
+from .times import iso_day, iso_rest, nanos, rfc_day, rfc_rest, there
 
-_MIDNIGHT = micros(datetime(1900, 1, 1))
-# What clock() reads as strptime would, in a twelfth of the time.
+_MIDNIGHT = nanos(datetime(1900, 1, 1))
+# Formats that clock() reads like strptime, in a twelfth of the time.
 _PLAIN_CLOCKS = "%H:%M", "%H:%M:%S", "%H:%M:%S.%f", "%I:%M %p", "%I:%M:%S %p"
 
 
 def _width_of(form):
-    """How many digits a text has of a format of nothing but numbers, as %H%M; None of another format. strptime takes fewer too: of 135 it makes five
-    past one in the afternoon."""
-    return sum({"Y": 4, "j": 3}.get(it, 2) for it in form[1::2]) if re.fullmatch("(?:%[YyjmdHIMS]){2,}", form) else None
+    """Returns the number of digits of a purely numeric format such as %H%M, None for another. strptime accepts fewer: it would read 135 as 13:05."""
+    return sum({"Y": 4, "j": 3}.get(item, 2) for item in form[1::2]) if re.fullmatch("(?:%[YyjmdHIMS]){2,}", form) else None
 
 
 def _read_as(form):
-    """Reads a text of a format of strptime as a datetime."""
+    """Returns a function that reads a text in a strptime format as a datetime."""
     width = _width_of(form)
 
     def read(text):
@@ -35,19 +36,19 @@ def _read_as(form):
 
 def _day_as(form):
     read = _read_as(form)
-    return lambda text: micros(read(text))
+    return lambda text: nanos(read(text))
 
 
 def _half_day(text):
-    """The microseconds since midnight of a text that says which half of the day it is of, as `1:30 pm`. Raises Unread."""
-    if not re.search("[AaPp]\\.?[Mm]", text):
+    """Returns the nanoseconds since midnight of a time with AM or PM, such as `1:30 pm`. Raises Unread."""
+    if not re.search("[AaPp]\\.?\\s?[Mm]", text):
         raise Unread("a time without AM or PM")
     return clock(text)
 
 
 def _clock_as(form):
-    as_told = _read_as(form)
-    read = (_half_day if "%p" in form else clock) if form in _PLAIN_CLOCKS else lambda text: micros(as_told(text)) - _MIDNIGHT
+    as_given = _read_as(form)
+    read = (_half_day if "%p" in form else clock) if form in _PLAIN_CLOCKS else lambda text: nanos(as_given(text)) - _MIDNIGHT
     return lambda text: (read(text), None)
 
 
@@ -68,30 +69,34 @@ def _packed_parts(text):
 
 
 def _parts_of(form):
-    """How a text is cut into a day and what is behind it, each of which comes again and again, and how these are read; None where it can't be cut.
-    Cutting may give one part, or none."""
+    """Returns how to split a text into a day and the rest, and how to read each; None if it can't be split. Both parts repeat often, so they are
+    cached. Splitting may give fewer than two parts."""
     if form == "iso":
         return _iso_parts, iso_day, iso_rest
     if form == "rfc":
         return _rfc_parts, rfc_day, rfc_rest
+    if form == "months":
+        return months.parts, months.day, lambda rest: (clock(rest) if rest else 0, None)
     if form == "%Y%m%d%H%M%S":
         return _packed_parts, _day_as("%Y%m%d"), _clock_as("%H%M%S")
     day, _, rest = form.partition(" ")
-    if not rest or is_of_day(day) or not is_of_day(rest) or any(it in form for it in ("%z", "%Z")) or re.search("%[HIMSfp]", day):
+    if not rest or is_of_day(day) or not is_of_day(rest) or any(item in form for item in ("%z", "%Z")) or re.search("%[HIMSfp]", day):
         return None
     return methodcaller("split", None, 1), _day_as(day), _clock_as(rest)
 
 
 class Moments:
-    """A column of times of one format, in a Zone. `of(text, than)` is the moment of a text (int, microseconds since 1970; without a zone or an offset
-    what the clock shows), where `than` is a moment before which it isn't, or None. Where the format has the time of a day alone (`is_of_day`) it is
-    microseconds since midnight; of the format ticks it is a number of ticks. Raises Unread for a text that is none, and Asks. `has_offsets` and
-    `has_none` tell what was met; of the format clock `halves` has True for a time with AM or PM, and False for one that may lack it."""
+    """A column of times in one format, in a Zone.
+
+    `of(text, than, until)` returns the moment of a text (int, nanoseconds since 1970; wall-clock time without a zone or an offset), which isn't
+    before `than` nor after `until`, unless they are None. If the format has only a time of day (`is_of_day`), it is nanoseconds since midnight; for
+    the format ticks it is a number of ticks. It raises Unread for an invalid text, and Asks. `has_offsets` and `has_none` record what was met;
+    for the format clock, `halves` has True for times with AM or PM and False for times that may lack it."""
 
     def __init__(self, form, zone):
         self.form, self.zone, self.is_of_day = form, zone, is_of_day(form)
         self.has_offsets, self.has_none, self.halves = form in ("unix", "unixms"), False, set()
-        self._unit = {"ticks": 1, "unix": SECOND, "unixms": 1000}.get(form)
+        self._unit = {"ticks": 1, "unix": SECOND, "unixms": SECOND // 1000}.get(form)
         self._seen, self._parts = {}, _parts_of(form)
         if self._parts:
             self._walls, self._rests = Cache(self._parts[1]), Cache(self._met)
@@ -110,15 +115,15 @@ class Moments:
             self.of = self._of_parts if self._parts else self._of_whole
 
     def make_of_day(self):
-        """Has numbers of a spreadsheet be parts of a day, as they are where the day stands in a column of its own."""
+        """Reads spreadsheet numbers as fractions of a day, for times whose day is in another column."""
         self.is_of_day = True
-        named = {"clock": self._clock, "hmm": hmm, "hmmss": hmmss, "excel": self._part_of_day}
+        named = {"clock": self._clock, "gtfs": gtfs, "hmm": hmm, "hmmss": hmmss, "excel": self._part_of_day}
         read = (lambda text: (named[self.form](text), None)) if self.form in named else _clock_as(self.form)
-        cache = Cache(lambda text: read(_there(text))[0])
-        self.of = lambda text, than=None: cache[text]
+        cache = Cache(lambda text: read(there(text))[0])
+        self.of = lambda text, than=None, until=None: cache[text]
 
     def is_one(self, text):
-        """Whether a text is of the format."""
+        """Returns whether a text has the format."""
         try:
             self.of(text)
             return True
@@ -134,41 +139,43 @@ class Moments:
     def _part_of_day(self, text):
         value = excel(text)
         if value >= DAY:
-            raise Unread("more than the part of a day")
+            raise Unread("not a fraction of a day")
         return value
 
-    def _of_number(self, text, than=None):
-        text = _there(text)
+    def _of_number(self, text, than=None, until=None):
+        text = there(text)
         if text.isdigit() and text.isascii():
             return int(text) * self._unit
+        if "E+" in text.upper():
+            raise Unread("a rounded number: export the column with all its digits")
         whole, _, rest = text.partition(".")
         if self.form == "ticks" or not (whole.isdigit() and rest.isdigit() and text.isascii()):
-            raise Unread("no whole number" if self.form == "ticks" else "no number")
+            raise Unread("not a whole number" if self.form == "ticks" else "not a number")
         return int(whole) * self._unit + int(rest) * self._unit // 10 ** len(rest)
 
-    def _of_spreadsheet(self, text, than=None):
+    def _of_spreadsheet(self, text, than=None, until=None):
         self.has_none = True
-        return self.zone.utc(excel(_there(text)) + SPREADSHEET, self._seen, than)
+        return self.zone.utc(excel(there(text)) + SPREADSHEET, self._seen, than, until)
 
     def _met(self, rest):
-        """Of what stands behind a day a pair, of which it is noted whether it has an offset."""
+        """Reads what follows the day, and records whether it has an offset."""
         since, offset = self._parts[2](rest)
         self.has_none |= offset is None
         self.has_offsets |= offset is not None
         return since, offset
 
-    def _of_parts(self, text, than=None):
-        text = _there(text)
+    def _of_parts(self, text, than=None, until=None):
+        text = there(text)
         try:
             day, rest = self._parts[0](text)
         except ValueError:
             raise Unread(f"not of the format {self.form}") from None
         since, offset = self._rests[rest]
-        return self.zone.utc(self._walls[day] + since, self._seen, than) if offset is None else self._walls[day] + since - offset
+        return self.zone.utc(self._walls[day] + since, self._seen, than, until) if offset is None else self._walls[day] + since - offset
 
     def many(self, texts):
-        """The moments (list of int) of texts of which none wants a look by itself; raises Unread where one may. Each part of a text comes again and
-        again, and all that a text takes are two look-ups and a sum."""
+        """Returns the moments (list of int) of texts that need no individual treatment; raises Unread if one may. Each text takes two cache look-ups
+        and a sum."""
         parts = list(map(self._parts[0], texts)) if self._parts and not self.is_of_day else []
         if set(map(len, parts)) != {2}:
             raise Unread("one by one")
@@ -177,47 +184,39 @@ class Moments:
         return list(map(add, map(days_of.__getitem__, days), map(rest_of.__getitem__, rests)))
 
     def _begin_of(self, day):
-        """The moment at which a day begins; Unread on one on which clocks change."""
+        """Returns the moment at which a day begins; raises Unread if clocks change on it."""
         begin = self.zone.whole_day(self._walls[day])
         if begin is None:
             raise Unread("one by one")
         return begin
 
     def _rest_of(self, rest, has_offset):
-        """What is to be added to the midnight of a day; Unread where it has an offset and others have none, or the other way round."""
+        """Returns what to add to the midnight of a day; raises Unread if only some texts have an offset."""
         since, offset = self._rests[rest]
         if (offset is not None) != has_offset:
             raise Unread("one by one")
         return since - (offset or 0)
 
-    def _of_whole(self, text, than=None):
-        told = _read_as(self.form)(_there(text))
-        if told.tzinfo is not None:
+    def _of_whole(self, text, than=None, until=None):
+        found = _read_as(self.form)(there(text))
+        if found.tzinfo is not None:
             self.has_offsets = True
-            return at_utc(told)
+            return at_utc(found)
         self.has_none = True
-        return self.zone.utc(micros(told), self._seen, than)
+        return self.zone.utc(nanos(found), self._seen, than, until)
 
     def _date(self, text):
-        """Of a column of dates, what the clock shows at midnight."""
-        text = _there(text)
+        """Returns the wall-clock midnight of a date."""
+        text = there(text)
         if self.form == "excel":
             value = excel(text) + SPREADSHEET
         elif self.is_of_day or self._unit:
-            raise Asks(f"of the format {self.form}, which has no day: --date-format says another")
+            raise Asks(f"the format {self.form} has no day: give another --date-format")
         elif self._parts:
             day, *rest = self._parts[0](text)
-            value = self._parts[1](day) + sum(self._parts[2](it)[0] for it in rest)
+            value = self._parts[1](day) + sum(self._parts[2](item)[0] for item in rest)
         else:
-            value = micros(_read_as(self.form)(text).replace(tzinfo=None))
+            value = nanos(_read_as(self.form)(text).replace(tzinfo=None))
         if value % DAY:
             raise Unread("a date with a time")
         return value
-
-
-def _there(text):
-    """The text without blanks around it. Raises Unread where nothing is left."""
-    text = text.strip()
-    if not text:
-        raise Unread("empty")
-    return text

@@ -1,4 +1,4 @@
-"""The command `planner page`: a page of reports that are there."""
+"""The command `mpplan page`: makes an HTML page from existing reports."""
 
 from .. import page
 from ..model import nodes_of
@@ -10,82 +10,84 @@ from .scenarios import labels_of
 from .service import ticks
 from .times import SECOND, moment
 
-EXAMPLE = "planner page jobs.txt --model model.txt --out run.html"
+EXAMPLE = "mpplan page jobs.txt --model model.txt --out run.html"
 
 
 def words(parser):
-    parser.add_argument("reports", metavar="REPORT", nargs="+", help="what mpsim or mpsweep wrote; with lines of jobs (--jobs) there are waits")
-    parser.add_argument("--model", action="append", default=[], metavar="FILE", help="the model of all reports, or one for each, for the network")
-    parser.add_argument("--out", metavar="FILE", required=True, help="the page; with a name that ends in .svg the network of the first report")
-    parser.add_argument("--title", metavar="TEXT", help="its title; else the name of the report")
-    parser.add_argument("--within", type=ticks, metavar="TICKS", help="the share served within so many ticks is a figure as well")
+    says = "a report of mpsim or a sweep of mpsweep; with job lines (--jobs) the page has waits"
+    parser.add_argument("reports", metavar="REPORT", nargs="+", help=says)
+    says = "the model, to draw the network: one for all reports, or one per report"
+    parser.add_argument("--model", action="append", default=[], metavar="FILE", help=says)
+    parser.add_argument("--out", metavar="FILE", required=True, help="the page; if the name ends in .svg, a drawing of the first report's network")
+    parser.add_argument("--title", metavar="TEXT", help="title of the page; default: the name of the report")
+    parser.add_argument("--within", type=ticks, metavar="TICKS", help="also show the share served within this many ticks")
     calendar.words(parser)
 
 
-def axes(asked, text):
-    """The options of a page that come of a command's words and of a model's text (str or None): how many seconds a tick has, and what a clock shows
-    at time 0. None of them where nobody says how long a tick is, unless other words want it."""
-    tick, start, _ = calendar.told_in(text or "")
-    if not (tick or calendar.words_of(asked)):
+def axes(args, text):
+    """Returns the options of a page given by a command's arguments and a model's text (str or None): the seconds per tick, and the wall-clock time of
+    time 0. Empty if nothing gives the length of a tick and no argument needs it."""
+    tick, start, _ = calendar.settings_in(text or "")
+    if not (tick or calendar.words_of(args)):
         return {}
-    days = calendar.of(asked, text)
-    return {"tick": days.tick / SECOND, "start": moment(days.wall(0)) if asked.start or start else None}
+    days = calendar.of(args, text)
+    return {"tick": days.tick / SECOND, "start": moment(days.wall(0)) if args.start or start else None}
 
 
 def _labelled(path, name):
-    """Pairs of a label and a report, of a file that is called so: its name, and behind it the numbers of the scenarios of a sweep."""
-    told = load(path)
-    return [(f"{name} {label}", it) for label, it in told.reports().items()] if isinstance(told, Sweep) else [(name, told)]
+    """Yields pairs of a label and a report in a file: the label is the file's name, followed in a sweep by the number of the scenario."""
+    loaded = load(path)
+    return [(f"{name} {label}", it) for label, it in loaded.reports().items()] if isinstance(loaded, Sweep) else [(name, loaded)]
 
 
-def _models(asked):
-    """The text of the model (str or None) of each report's file. Raises ValueError where they are more than one, and not one for each."""
-    texts = [text_of(it) for it in asked.model] or [None]
-    if len(texts) not in (1, len(asked.reports)):
-        raise ValueError(f"{len(texts)} models for {counted(len(asked.reports), 'report')}: --model is given once, or once for each")
-    return texts * len(asked.reports) if len(texts) == 1 else texts
+def _models(args):
+    """Returns the model's text (str or None) for each report file. Raises ValueError unless there is one model, or one per report."""
+    texts = [text_of(item) for item in args.model] or [None]
+    if len(texts) not in (1, len(args.reports)):
+        raise ValueError(f"{len(texts)} models for {counted(len(args.reports), 'report')}: give --model once, or once per report")
+    return texts * len(args.reports) if len(texts) == 1 else texts
 
 
 def _servers(node):
-    """How many servers a node of a model (ModelNode) has, or None where it has none, or a name in braces stands for the number."""
-    asked = node.asked.split()
-    count = {"server": 1, "loss": 1, "tandem": 1 + asked.count("/"), "forkjoin": len(asked) - asked.count("|")}
-    return int(asked[0]) if node.kind == "trunk" and asked[0].isdecimal() else count.get(node.kind)
+    """Returns the number of servers of a model's node (ModelNode), or None if it has none or the number is a name in braces."""
+    arguments = node.arguments.split()
+    count = {"server": 1, "loss": 1, "tandem": 1 + arguments.count("/"), "forkjoin": len(arguments) - arguments.count("|")}
+    return int(arguments[0]) if node.kind == "trunk" and arguments[0].isdecimal() else count.get(node.kind)
 
 
 def _unlike(report):
-    """The name of the first node of a report that hasn't as many servers as its model says, by what its utilisation tells; or None."""
-    for it in nodes_of(report.model) if report.span else ():
-        count = _servers(it)
-        if count and round(10**4 * report[it.name].util) != 10**4 * report[it.name].busy // (count * report.span):
-            return it.name
+    """Returns the name of the first node whose utilisation doesn't fit the number of servers in the model, or None."""
+    for node in nodes_of(report.model) if report.span else ():
+        count = _servers(node)
+        if count and round(10**4 * report[node.name].util) != 10**4 * report[node.name].busy // (count * report.span):
+            return node.name
 
 
-def tell_pools(reports):
-    """Says which nodes of reports a page has as pools."""
+def print_pools(reports):
+    """Prints which nodes of reports the page shows as pools."""
     for line in pool_lines(reports, lacks=True):
         say(line)
 
 
-def main(asked):
-    judge_outputs([asked.out], {"report": asked.reports, "model": asked.model})
-    texts, labelled = _models(asked), []
-    for at, (path, name) in enumerate(zip(asked.reports, labels_of(asked.reports))):
+def main(args):
+    judge_outputs([args.out], {"report": args.reports, "model": args.model})
+    texts, labelled = _models(args), []
+    for at, (path, name) in enumerate(zip(args.reports, labels_of(args.reports))):
         for label, report in _labelled(path, name):
             try:
                 report.model = texts[at]
-            except ValueError as fault:
-                raise ValueError(f"{asked.model[min(at, len(asked.model) - 1)]}: {fault}") from None
+            except ValueError as error:
+                raise ValueError(f"{args.model[min(at, len(args.model) - 1)]}: {error}") from None
             if texts[at] is not None and (other := _unlike(report)):
-                words = "whose words stand in its box; --model is given for each"
-                say(f"warning: {other} of {label} has another number of servers than the model says, {words}")
+                words = "and its box shows the text of the model; give --model once per report"
+                say(f"warning: {other} of {label} doesn't have the number of servers of the model, {words}")
             labelled.append((label, report))
-    times = axes(asked, texts[0])
-    if asked.out.endswith(".svg"):
-        with written(asked.out) as file:
+    times = axes(args, texts[0])
+    if args.out.endswith(".svg"):
+        with written(args.out) as file:
             file.write(page.drawing(labelled[0][1]))
         return
     labels = [label for label, _ in labelled]
-    title = asked.title or (labels[0] if len(labels) == 1 else None)
-    page.save(asked.out, [it for _, it in labelled], labels, title, within=asked.within, **times)
-    tell_pools([it for _, it in labelled])
+    title = args.title or (labels[0] if len(labels) == 1 else None)
+    page.save(args.out, [it for _, it in labelled], labels, title, within=args.within, **times)
+    print_pools([it for _, it in labelled])

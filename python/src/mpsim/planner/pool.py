@@ -1,8 +1,9 @@
-"""Agents who share one queue. No node is one: which agent is free first is a minimum over them. So who serves, and for how long each call waits, is
-worked out here, and goes into the trace; the model has a pool in place of a server, and the proved program runs it. It would lose a call at the trunk
-group where more were served at once than there are agents. That nobody waits while an agent is free is tested, and nothing of it is proved."""
+"""Agents who share one queue.
 
-import csv
+No node of a model is such a queue: which agent is free first is a minimum over the agents. This module works out which agent serves each call and how
+long the call waits, and writes both into the trace. The model gets a pool in place of a server, and the proved program runs it. Its trunk group would
+lose a call if more calls were served at once than there are agents. That no call waits while an agent is free is tested; none of this is proved."""
+
 import os
 import re
 from array import array
@@ -14,36 +15,42 @@ from ..model import nodes_of
 from ..node_visits import NodeVisits
 from ..report import Report
 from ..runs import run
-from .files import all_written, counted, judge_outputs, written
+from . import rostered, sheets
+from .files import all_written, counted, judge_outputs
 from .lengths import GREATEST_VALUE
 from .pooled import INPUTS, agent_name, end_names, pooled, queue_name
 from .progress import Progress
 from .service import PERCENTS, figure_words, figures, heads
-from .traces import Trace, told_of
+from .traces import Trace, locating_errors
 
-EXAMPLE = """planner pool model.txt trace.csv --node desk --agents 8..15 --within 20
-         planner pool model.txt trace.csv --node desk --agents 12 --out pooled.csv --out-model pooled.txt
-         planner pool --report jobs.txt --node desk --within 20"""
-# What a model may have: servers of a trunk group, nodes, outputs of a split (each of which an agent may stand at).
+EXAMPLE = """mpplan pool model.txt trace.csv --node desk --agents 8..15 --within 20
+         mpplan pool model.txt trace.csv --node desk --agents 12 --out pooled.csv --out-model pooled.txt
+         mpplan pool model.txt trace.csv --node desk --roster roster.csv --patience exp:240s --seed 7 --first service
+         mpplan pool --report jobs.txt --node desk --within 20"""
+# The limits of a model: servers of a trunk group, nodes, and outputs of a split, each of which may lead to an agent.
 TRUNK, NODES, OUTPUTS = 255, 64, 8
 
 
 def words(parser):
-    parser.add_argument("model", nargs="?", help="a model in which the pool is a server")
+    parser.add_argument("model", nargs="?", help="a model with a server in the place of the pool")
     parser.add_argument("trace", nargs="?", help="its trace")
-    parser.add_argument("--node", required=True, metavar="NAME", help="the server in whose place the pool stands")
-    parser.add_argument("--agents", metavar="C", help="how many share the queue: 12, or 8..15 for a row each")
-    parser.add_argument("--by", choices=["trunk", "agents"], default="trunk", help="its nodes: a delay and a trunk group, or a server for each agent")
-    parser.add_argument("--out", metavar="FILE", help="the trace with who serves and the waits, as columns")
-    parser.add_argument("--out-model", metavar="FILE", help="the model with the pool")
-    parser.add_argument("--report", metavar="FILE", help="in place of a model and a trace: a report of a pool, with the lines of jobs")
+    parser.add_argument("--node", required=True, metavar="NAME", help="the server to replace by the pool; with --report, the pool")
+    says = "number of agents who share the queue: 12, or 8..15 for a row each, or by the time of day: 8:00=3,10:00=5,18:00=0"
+    parser.add_argument("--agents", metavar="C", help=says)
+    rostered.words(parser)
+    says = "nodes of the pool: a delay and a trunk group (trunk, the default), or a server per agent (agents)"
+    parser.add_argument("--by", choices=["trunk", "agents"], default="trunk", help=says)
+    parser.add_argument("--out", metavar="FILE", help="write the trace, with the agent and the wait of each call as columns")
+    parser.add_argument("--out-model", metavar="FILE", help="write the model with the pool")
+    parser.add_argument("--report", metavar="FILE", help="read this report of a pool, written with --jobs, instead of running a model and a trace")
     figure_words(parser)
+    sheets.words(parser)
 
 
 def pool(arrivals, demands, agents):
-    """Who serves each call (an array of int, from 1), and for how long it waits (an array of int), of arrivals and demands (sequences of int, in
-    ticks) and a number of agents (int). Calls are served in the order of their arrivals, and at one time in the order in which they stand; each gets
-    the agent who is free first, and of several the one with the lowest number. Raises ValueError where there is no agent.
+    """Returns the agent of each call (array of int, from 1) and its wait (array of int), for arrivals and service times (sequences of int, in ticks)
+    and a number of agents (int). Calls are served in order of arrival, at equal times in their given order. Each gets the agent who is free first, or
+    the one with the lowest number among several. Raises ValueError if there is no agent.
 
     >>> from mpsim.planner.pool import pool
     >>> who, waits = pool([0, 1, 2, 3], [6, 1, 1, 1], 2)
@@ -51,9 +58,9 @@ def pool(arrivals, demands, agents):
     ([1, 2, 2, 2], [0, 0, 0, 0])
     """
     if agents < 1:
-        raise ValueError(f"a pool has one agent or more, and not {agents}")
+        raise ValueError(f"a pool has one agent or more, not {agents}")
     who, waits = array("i", bytes(4 * len(arrivals))), array("q", bytes(8 * len(arrivals)))
-    free = [(0, it) for it in range(1, agents + 1)]
+    free = [(0, number) for number in range(1, agents + 1)]
     for at in sorted(range(len(arrivals)), key=arrivals.__getitem__):
         begin = arrivals[at]
         moment, who[at] = free[0]
@@ -64,8 +71,8 @@ def pool(arrivals, demands, agents):
 
 
 class Queue:
-    """The queue at a server of a model, over a trace (Trace), at which pools of any number of agents may stand. The model is a Model, a text or a
-    path. Raises what `mpsim.run` does, and ValueError where the node is none or no server, or a job comes there more than once.
+    """The queue at a server of a model, over a trace (Trace), where pools with any number of agents can be tried. The model is a Model, a text or a
+    path. Raises what `mpsim.run` does, and ValueError if the node isn't a server, or if a job visits it more than once.
 
     >>> from mpsim.planner.pool import Queue
     >>> from mpsim.planner.traces import Trace
@@ -80,79 +87,79 @@ class Queue:
         self.path = model if isinstance(model, os.PathLike) or isinstance(model, str) and "\n" not in model else None
         report = self._with_one()
         self.nodes = nodes_of(self.text)
-        found = [it for it in self.nodes if it.name == node]
+        found = [item for item in self.nodes if item.name == node]
         if not found or found[0].kind != "server":
-            servers = ", ".join(it.name for it in self.nodes if it.kind == "server") or "none"
-            raise ValueError(f"{node} is no server of the model, in whose place a pool can stand; it has {servers}")
+            servers = ", ".join(node.name for node in self.nodes if node.kind == "server") or "none"
+            raise ValueError(f"{node} isn't a server of the model, so no pool can replace it; its servers: {servers}")
         self._judge_order()
-        self.demand = found[0].asked
+        self.demand = found[0].arguments
         self.jobs, self.arrivals, self.demands = calls_at(report, node, node, self.demand, trace)
 
     def _judge_order(self):
-        """Raises ValueError where a pool stands behind this one already: when calls come to it hangs on who serves here."""
-        nodes = {it.name: it for it in self.nodes}
-        for it in self.nodes:
-            name, asked = it.name.removesuffix(queue_name("")), it.asked.split()
-            is_pool = it.kind == "delay" and asked == [f"{name}_wait"] or it.kind == "split" and asked[:2] == ["cut", f"{name}_agent"]
-            if is_pool and self.node in in_front(nodes, [it.name]):
-                why = f"make that at {self.node} first, which says when calls come to {name}"
-                raise ValueError(f"the pool at {name} stands behind {self.node}: {why}")
+        """Raises ValueError if a pool is already downstream: the arrivals there depend on who serves here."""
+        nodes = {node.name: node for node in self.nodes}
+        for item in self.nodes:
+            name, arguments = item.name.removesuffix(queue_name("")), item.arguments.split()
+            is_pool = item.kind == "delay" and arguments == [f"{name}_wait"] or item.kind == "split" and arguments[:2] == ["cut", f"{name}_agent"]
+            if is_pool and self.node in in_front(nodes, [item.name]):
+                why = f"make the pool at {self.node} first, since it decides when calls arrive at {name}"
+                raise ValueError(f"the pool at {name} is downstream of {self.node}: {why}")
 
     def _with_one(self):
-        """The report of the model as it is, of which the arrivals are wanted: they are the same whoever serves. Where one server is late for the
-        bound of the model, it is that of `front`: lateness is judged when the pool runs."""
-        with told_of(self.trace, model=self.path):
+        """Returns the report of the model as it is, for the arrivals at the server, which don't depend on who serves. If a single server exceeds the
+        bound of the model, it runs `front` instead; the bound is checked when the pool runs."""
+        with locating_errors(self.trace, model=self.path):
             try:
                 return run(self.text.encode(errors="surrogateescape"), self.trace.lines(), jobs=True)
             except BoundError:
                 return run(front(self.text, [self.node]), self.trace.lines(), jobs=True)
 
     def with_pool(self, agents, by="trunk"):
-        """The model (str) and the trace (Trace) with a pool of so many agents (int) in place of the server. The trace has two columns more,
-        NODE_agent and NODE_wait: who serves the call of this record, from 1, and for how long it waits; both are 0 for one that doesn't come there.
-        `by` is "trunk" (up to 255 agents) or "agents", a server for each (as many as the nodes of a model allow). Raises ValueError where a model
-        can't have so many, or has these names already."""
+        """Returns the model (str) and the trace (Trace) with a pool of this many agents (int) in place of the server. The trace gets two columns,
+        NODE_agent and NODE_wait: the agent of each record's call, from 1, and its wait; both are 0 if it has no call there. `by` is "trunk" (up to
+        255 agents) or "agents", a server per agent (up to the model's limit of nodes). Raises ValueError for too many agents, and for names that the
+        model already has."""
         model = self._model_of(agents, by)
         calls = self.jobs, self.arrivals, self.demands
         return model, self.trace.with_columns(**columns_of(self.node, agents, calls, len(self.trace.rows)))
 
     def run(self, agents, by="trunk"):
-        """The report (Report) of a pool of so many agents (int), with visits."""
+        """Returns the report (Report), with visits, of a pool of this many agents (int)."""
         model, trace = self.with_pool(agents, by)
-        with told_of(trace, model=self.path):
+        with locating_errors(trace, model=self.path):
             return run(model, trace.lines(), jobs=True)
 
     def visits(self, agents, by="trunk"):
-        """The visits (NodeVisits) of a pool of so many agents (int)."""
+        """Returns the visits (NodeVisits) of a pool of this many agents (int)."""
         return pooled(self.run(agents, by), self.node)
 
     def _model_of(self, agents, by):
-        this = next(it for it in self.nodes if it.name == self.node)
+        this = next(node for node in self.nodes if node.name == self.node)
         inputs = inputs_of(this)
-        is_read = any(name == self.node for it in self.nodes for name, _ in it.inputs)
+        is_read = any(name == self.node for node in self.nodes for name, _ in node.inputs)
         lines = trunk_lines(self.node, agents, self.demand, inputs) if by == "trunk" else agent_lines(self.node, agents, self.demand, inputs, is_read)
         self._judge(lines, None if by == "trunk" else agent_name(self.node, agents + 1))
         return "".join(self._with_lines(lines, version=2 if by == "trunk" else 1))
 
     def _judge(self, lines, one_more):
-        """Looks at the names of lines that are to be in the model; and at a server named as one agent more, who would be taken for one of them."""
-        there = {it.name for it in self.nodes} - {self.node}
+        """Checks the names of lines to be added to the model, and that no server has the name of a further agent, as which it would be counted."""
+        there = {node.name for node in self.nodes} - {self.node}
         made = [line.split()[1] for line in lines]
-        for name in (*made, queue_name(self.node), *(it.name for it in self.nodes if it.name == one_more and it.kind == "server")):
+        for name in (*made, queue_name(self.node), *(node.name for node in self.nodes if node.name == one_more and node.kind == "server")):
             if name in there:
-                raise ValueError(f"the model has a node {name!r} already, which the pool at {self.node} wants for itself")
+                raise ValueError(f"the model already has a node {name!r}, a name that the pool at {self.node} needs")
         for name in made:
             if len(name) > 32:
-                raise ValueError(f"{name!r} would be a node of the pool, and is longer than 32 letters: give {self.node} a shorter name")
+                raise ValueError(f"the pool needs a node {name!r}, which is longer than 32 characters: give {self.node} a shorter name")
         if len(there) + len(made) > NODES:
-            raise ValueError(f"the model would have {len(there) + len(made)} nodes, where {NODES} are the most: --by trunk takes two for a pool")
+            raise ValueError(f"the model would have {len(there) + len(made)} nodes; the limit is {NODES}: with --by trunk a pool takes two")
 
     def _with_lines(self, lines, version):
         is_begun = False
         for line in self.text.split("\n"):
             words = line.split()
             if words[:2] == ["server", self.node]:
-                yield from (f"{it}\n" for it in lines)
+                yield from (f"{line}\n" for line in lines)
                 continue
             if not is_begun and words[:1] == ["model"]:
                 is_begun, line = True, f"model {max(int(words[1]), version)}"
@@ -161,46 +168,46 @@ class Queue:
 
 
 def calls_at(report, node, pool, demand, trace):
-    """The calls of a pool (str) that come to a node (str) in a report with visits: their records, from 1, their arrivals, and their demands by the
-    trace (Trace) of the run (lists of int). Raises ValueError where a job comes there more than once."""
-    # Where nobody is in the network there are no lines of jobs.
+    """Returns the calls of a pool (str) that arrive at a node (str), from a report with visits: their records (from 1), their arrivals, and their
+    service times in the trace (Trace) of the run (lists of int). Raises ValueError if a job arrives there more than once."""
+    # A network without jobs has no job lines.
     visits = report.visits[node] if report.visits else NodeVisits(node)
     jobs = list(visits.job)
     if len(set(jobs)) < len(jobs):
-        raise ValueError(f"a job comes to {pool} more than once, and its record has room for one wait")
+        raise ValueError(f"a job visits {pool} more than once, but its record has room for only one wait")
     values = [int(demand[1:])] * len(trace.rows) if demand.startswith("=") else trace.numbers(demand)
     return jobs, list(visits.arrive), [values[job - 1] for job in jobs]
 
 
 def columns_of(node, agents, calls, records):
-    """The columns of a pool (a dict of str to lists of int): who serves the call of each of so many records, and for how long it waits, both 0 for
-    one that doesn't come there. The calls are as `calls_at` gives them. Raises ValueError where one waits for longer than a column may say."""
+    """Returns the columns of a pool (dict of str to lists of int) for this many records: the agent of each record's call, and its wait; both are 0 if
+    it has no call there. `calls` is what `calls_at` returns. Raises ValueError if a wait exceeds the limit of a column."""
     jobs, arrivals, demands = calls
     served, waited = [0] * records, [0] * records
     for job, agent, wait in zip(jobs, *pool(arrivals, demands, agents)):
         served[job - 1], waited[job - 1] = agent, wait
     if (longest := max(waited, default=0)) > GREATEST_VALUE:
-        why = f"a call waits for {longest} ticks, where a column has at most {GREATEST_VALUE}"
+        why = f"a call waits {longest} ticks; the limit of a column is {GREATEST_VALUE}"
         raise ValueError(f"with {counted(agents, 'agent')} at {node} {why}")
     return {f"{node}_agent": served, f"{node}_wait": waited}
 
 
 def inputs_of(node):
-    """The words behind `from` of a node (ModelNode)."""
+    """Returns the inputs of a node (ModelNode) as text."""
     return " ".join(name + (f".{output}" if output else "") for name, output in node.inputs)
 
 
 def front(text, names):
-    """The model (str) of nodes of these names, of all that stand in front of them and of the sources, without a bound: when jobs come there is the
-    same in it, and nobody is late. Lines keep their numbers."""
-    kept = in_front({it.name: it for it in nodes_of(text)}, names)
+    """Returns the model (str) of the nodes with these names, everything upstream of them, and the sources, without a bound. Jobs arrive at the same
+    times in it, and none is late. Lines keep their numbers."""
+    kept = in_front({node.name: node for node in nodes_of(text)}, names)
     lines = [(line, line.split()) for line in text.split("\n")]
     return "\n".join(line if words[:1] in (["model"], ["source"]) or kept.intersection(words[1:2]) else "" for line, words in lines)
 
 
 def in_front(nodes, names):
-    """The names (set of str) of nodes and of all that stand in front of them; `nodes` are those of the model by their names (dict of ModelNode)."""
-    found, left = set(), [it for it in names if it in nodes]
+    """Returns the names (set of str) of nodes and of everything upstream of them; `nodes` are those of the model by name (dict of ModelNode)."""
+    found, left = set(), [name for name in names if name in nodes]
     while left:
         name = left.pop()
         if name not in found:
@@ -210,18 +217,18 @@ def in_front(nodes, names):
 
 
 def trunk_lines(node, agents, demand, inputs):
-    """The lines of a pool (list of str) as a delay, in which calls wait, and a trunk group, of which each then finds a server free."""
+    """Returns the lines of a pool (list of str) as a delay, in which calls wait, and a trunk group, where each call then finds a free server."""
     if not 1 <= agents <= TRUNK:
-        raise ValueError(f"a pool as a trunk group has 1 to {TRUNK} agents, and not {agents}")
+        raise ValueError(f"a pool as a trunk group has 1 to {TRUNK} agents, not {agents}")
     return [f"delay {queue_name(node)} {node}_wait from {inputs}", f"trunk {node} {agents} {demand} from {queue_name(node)}"]
 
 
 def agent_lines(node, agents, demand, inputs, is_read):
-    """The lines of a pool (list of str) with a server for each agent, behind one split, or two where there are more than 8; where the pool's output
-    is read, what the agents let out is gathered by delays of 0, the last of which has the pool's name."""
+    """Returns the lines of a pool (list of str) with a server per agent, after one split, or two levels of splits for more than 8. If the pool's
+    output is read, delays of 0 gather the agents' outputs; the last of them has the pool's name."""
     if not 1 <= agents <= OUTPUTS * OUTPUTS:
-        raise ValueError(f"a pool of an agent a node has 1 to {OUTPUTS * OUTPUTS} agents, and not {agents}")
-    names = [agent_name(node, it) for it in range(1, agents + 1)]
+        raise ValueError(f"a pool with a server per agent has 1 to {OUTPUTS * OUTPUTS} agents, not {agents}")
+    names = [agent_name(node, number) for number in range(1, agents + 1)]
     if agents == 1:
         lines, ends = [], {names[0]: inputs}
     else:
@@ -231,11 +238,11 @@ def agent_lines(node, agents, demand, inputs, is_read):
 
 
 def _splits(node, names, inputs):
-    """The splits by the column of agents, and for each agent the output at which it stands. As few outputs of the first as can be lead on to more."""
+    """Returns the splits by the column of agents, and each agent's input. As few outputs of the first split as possible lead to further splits."""
     outputs = min(len(names), OUTPUTS)
     teams, left = [], list(names)
     for at in range(outputs):
-        # Behind it each further output wants one agent at least.
+        # Each output after this one needs at least one agent.
         size = min(OUTPUTS, len(left) - (outputs - 1 - at))
         teams.append(left[:size])
         del left[:size]
@@ -266,61 +273,62 @@ def _gathered(node, names):
 
 
 def numbers_of(text):
-    """The numbers (range) of `12` or `8..15`. Raises ValueError for another text."""
+    """Returns the numbers (range) in `12` or `8..15`. Raises ValueError for another text."""
     found = re.fullmatch(r"([1-9]\d{0,5})(?:\.\.([1-9]\d{0,5}))?", text)
     if not found or int(found[2] or found[1]) < int(found[1]):
-        raise ValueError(f"--agents {text}: expected a number as 12, or rising ones as 8..15")
+        raise ValueError(f"--agents {text}: expected a number such as 12, or a rising range such as 8..15")
     return range(int(found[1]), int(found[2] or found[1]) + 1)
 
 
 def staffing(queue, agents, within=(20,), percents=PERCENTS, by="trunk"):
-    """The header and the rows (lists) of a table of pools at a queue (Queue), a row for each number of agents (an iterable of int): the
-    share of the span for which they worked, and what `service.figures` gives."""
+    """Yields the header and the rows (lists) of a table of pools at a Queue, a row per number of agents (iterable of int): the share of the span
+    during which they worked, and the `service.figures`."""
     yield ["agents", "util", *heads(within, percents)]
     for count in agents:
         report = queue.run(count, by)
         visits = pooled(report, queue.node)
         worked = sum(visits.depart) - sum(visits.arrive) - sum(visits.wait)
-        # Cut off behind four digits, as in a report.
+        # Truncated to four digits, as in a report.
         util = 10**4 * worked // (count * report.span) if report.span else 0
         yield [count, f"{util / 10**4:.4f}", *figures(visits.wait, within, percents)]
 
 
-def main(asked):
-    within, percents = asked.within or (20,), asked.percentile or PERCENTS
-    if asked.report:
-        rows = _of_report(asked, within, percents)
+def main(args):
+    within, percents = args.within or (20,), args.percentile or PERCENTS
+    if rostered.is_asked(args):
+        rows = rostered.rows(args)
+    elif args.report:
+        rows = _of_report(args, within, percents)
     else:
-        rows = _of_agents(asked, within, percents)
-    with written() as file:
-        csv.writer(file, lineterminator="\n").writerows(rows)
+        rows = _of_agents(args, within, percents)
+    sheets.write(rows, args.format, args.csv_style)
 
 
-def _of_report(asked, within, percents):
-    if asked.model or asked.agents or asked.out or asked.out_model:
-        raise ValueError("--report tells of a pool that has run: a model, a trace, --agents and --out stand without it")
-    report = Report.read(asked.report)
+def _of_report(args, within, percents):
+    if args.model or args.agents or args.out or args.out_model:
+        raise ValueError("--report reads a pool that has been run: give no model, trace, --agents, --out or --out-model with it")
+    report = Report.read(args.report)
     if report.visits is None:
-        raise ValueError(f"{asked.report}: it has no lines of jobs: mpsim writes them with --jobs")
-    return [["node", *heads(within, percents)], [asked.node, *figures(pooled(report, asked.node).wait, within, percents)]]
+        raise ValueError(f"{args.report}: the report has no job lines: run mpsim with --jobs")
+    return [["node", *heads(within, percents)], [args.node, *figures(pooled(report, args.node).wait, within, percents)]]
 
 
-def _of_agents(asked, within, percents):
-    if not asked.model or not asked.trace or not asked.agents:
-        raise ValueError("a pool wants a model, a trace and --agents; or --report")
-    agents = numbers_of(asked.agents)
-    if (asked.out or asked.out_model) and len(agents) > 1:
-        raise ValueError(f"--agents {asked.agents}: a trace and a model are those of one number of agents")
-    judge_outputs([asked.out, asked.out_model], {"model": [asked.model], "trace": [asked.trace]})
-    queue = Queue(asked.model, Trace.read(asked.trace), asked.node)
+def _of_agents(args, within, percents):
+    if not args.model or not args.trace or not args.agents:
+        raise ValueError("give a model, a trace and --agents, or --report")
+    agents = numbers_of(args.agents)
+    if (args.out or args.out_model) and len(agents) > 1:
+        raise ValueError(f"--agents {args.agents}: --out and --out-model need one number of agents")
+    judge_outputs([args.out, args.out_model], {"model": [args.model], "trace": [args.trace]})
+    queue = Queue(args.model, Trace.read(args.trace), args.node)
     rows = []
-    with Progress(len(agents) + 1, "runs") as tell:
-        for row in staffing(queue, agents, within, percents, asked.by):
+    with Progress(len(agents) + 1, "runs") as progress:
+        for row in staffing(queue, agents, within, percents, args.by):
             rows.append(row)
-            tell(len(rows))
-    if asked.out or asked.out_model:
-        model, trace = queue.with_pool(agents[0], asked.by)
-        with all_written(asked.out, asked.out_model) as (out, out_model):
+            progress(len(rows))
+    if args.out or args.out_model:
+        model, trace = queue.with_pool(agents[0], args.by)
+        with all_written(args.out, args.out_model) as (out, out_model):
             if out:
                 out.writelines(trace.texts())
             if out_model:

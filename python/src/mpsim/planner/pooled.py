@@ -1,35 +1,50 @@
-"""The visits of a pool: all agents who share one queue, together. `planner pool` makes the model of one, and the names of its nodes are these."""
+"""Finds pools in reports and models by the names that `mpplan pool` gives their nodes, and treats all agents of a pool together."""
 
 import contextlib
 from array import array
 
 from ..lines import Node
 from ..model import nodes_of
-from ..node_visits import NodeVisits, percentile_of
+from ..node_visits import LOST, NodeVisits, percentile_of
 
-# A node has so many inputs at most.
+# The most inputs of a node.
 INPUTS = 8
 
 
 def queue_name(pool):
-    """The node at which the calls of a pool come, where they wait, or are told apart."""
+    """Returns the node where the calls of a pool arrive: they wait there, or are divided among the agents."""
     return f"{pool}_queue"
 
 
 def agent_name(pool, number):
-    """The node of an agent, from 1."""
+    """Returns the node of an agent, from 1."""
     return f"{pool}_{number}"
 
 
+def left_name(pool):
+    """Returns the split that sends callers who leave before their call begins to `gone_name`, the delay in which they wait until they leave."""
+    return f"{pool}_left"
+
+
+def gone_name(pool):
+    return f"{pool}_gone"
+
+
+def _loses(report, pool):
+    """Returns whether callers may leave the queue of a pool, in a report or among a model's nodes."""
+    return _kind(report, left_name(pool)) == "split" and _kind(report, gone_name(pool)) == "delay"
+
+
 def end_names(pool, agents):
-    """The delays of 0 (a list of str) that gather what so many agents let out, eight at a time, before the one that has the name of the pool."""
-    return [f"{pool}_end{it}" for it in range(1, -(-max(agents - INPUTS, 0) // (INPUTS - 1)) + 1)]
+    """Returns the delays of 0 (list of str) that gather the outputs of this many agents, eight at a time, before the delay that has the pool's
+    name."""
+    return [f"{pool}_end{number}" for number in range(1, -(-max(agents - INPUTS, 0) // (INPUTS - 1)) + 1)]
 
 
 def pooled(report, pool):
-    """The visits of a pool (NodeVisits) in a report (Report) with visits: of each call when it came to the queue, for how long it waited, and when
-    its service ended. Raises ValueError where the report has no such pool, or where more calls were served at once than the pool has agents: then the
-    trace was made for another one.
+    """Returns the visits of a pool (NodeVisits) from a report (Report) with visits: for each call its arrival at the queue, its wait and the end of
+    its service. Raises ValueError if the report has no such pool, or if more calls were served at once than it has agents: the trace was then made
+    for another number.
 
     >>> import mpsim
     >>> from mpsim.planner.pooled import pooled
@@ -40,14 +55,14 @@ def pooled(report, pool):
     """
     if _kind(report, pool) == "trunk" and _kind(report, queue_name(pool)) == "delay":
         return _of_trunk_group(report, pool)
-    agents = [report.visits[it] for it in agents_of(report, pool)]
+    agents = [report.visits[agent] for agent in agents_of(report, pool)]
     if not agents:
-        names = ", ".join(it.name for it in report.nodes)
-        raise ValueError(f"the report has no pool {pool!r}, neither by a trunk group nor agent by agent; its nodes are {names}")
+        names = ", ".join(node.name for node in report.nodes)
+        raise ValueError(f"the report has no pool {pool!r}, neither as a trunk group nor as a server per agent; its nodes are {names}")
     if len(agents) > 1 and queue_name(pool) not in report:
-        more = f"which planner pool would have put in front of the servers {agent_name(pool, 1)} to {agent_name(pool, len(agents))}"
-        raise ValueError(f"the report has no pool {pool!r}: it has no node {queue_name(pool)}, {more}")
-    # One agent has no split.
+        more = f"which mpplan pool would have put upstream of the servers {agent_name(pool, 1)} to {agent_name(pool, len(agents))}"
+        raise ValueError(f"the report has no pool {pool!r}: it lacks the node {queue_name(pool)}, {more}")
+    # A pool of one agent has no split.
     return _of_agents(pool, report.visits.get(queue_name(pool), agents[0]), agents)
 
 
@@ -56,8 +71,7 @@ def _kind(report, name):
 
 
 def agents_of(report, pool):
-    """The names of the servers (list of str) of a pool that has one for each agent, in a report, or among nodes of a model by their names (a dict of
-    ModelNode)."""
+    """Returns the servers (list of str) of a pool with a server per agent, from a report or from a model's nodes (dict of ModelNode by name)."""
     agents = []
     while _kind(report, agent_name(pool, len(agents) + 1)) == "server":
         agents.append(agent_name(pool, len(agents) + 1))
@@ -65,28 +79,28 @@ def agents_of(report, pool):
 
 
 def _named_as_pools(report):
-    """The names that a queue makes those of a pool: what comes there goes on to a trunk group, or to servers. Where the model is known the delay of
-    a trunk group has the column of waits."""
-    for it in report.nodes:
-        if not it.name.endswith(queue_name("")):
+    """Yields the names that a queue shows to be pools: its output goes to a trunk group or to servers. If the model is known, the delay before a
+    trunk group must use the column of waits."""
+    for item in report.nodes:
+        if not item.name.endswith(queue_name("")):
             continue
-        pool = it.name.removesuffix(queue_name(""))
-        if it.kind == "delay" and _kind(report, pool) == "trunk":
-            asked = [node.asked for node in nodes_of(report.model) if node.name == it.name] if report.model else []
-            if asked not in ([], [f"{pool}_wait"]):
+        pool = item.name.removesuffix(queue_name(""))
+        if item.kind == "delay" and _kind(report, pool) == "trunk":
+            arguments = [node.arguments for node in nodes_of(report.model) if node.name == item.name] if report.model else []
+            if arguments not in ([], [f"{pool}_wait"]):
                 continue
             agents = [pool]
-        elif it.kind == "split":
+        elif item.kind == "split":
             agents = agents_of(report, pool)
         else:
             continue
-        if agents and it.out == sum(report[name].in_ for name in agents):
+        if agents and item.out == sum(report[name].in_ for name in agents):
             yield pool
 
 
 def pools(report):
-    """The names of the pools of a report (list of str), in the order of its nodes, found by the names that `planner pool` gives: a trunk group
-    behind a delay, or servers behind a split. One that loses a call is none: its trace was made for another number of agents.
+    """Returns the pools of a report (list of str), in the order of its nodes, found by the names that `mpplan pool` gives: a trunk group after a
+    delay, or servers after a split. A trunk group that loses a call isn't a pool: its trace was made for another number of agents.
 
     >>> import mpsim
     >>> from mpsim.planner.pooled import pools
@@ -94,14 +108,13 @@ def pools(report):
     >>> pools(mpsim.run(model, [("source", "time", "talk", "desk_wait"), ("door", 0, 9, 0), ("door", 2, 4, 7)]))
     ['desk']
     """
-    return [it for it in _named_as_pools(report) if not _lost(report, it)]
+    return [named_as_pool for named_as_pool in _named_as_pools(report) if not _lost(report, named_as_pool)]
 
 
 def know_model(report, text):
-    """Has a report in which something is named as a pool know the text (str) of its model, by which a delay of another length is told from the queue
-    of one."""
+    """Gives a report with names of pools the text (str) of its model, which tells a pool's queue from any other delay."""
     if report.model is None and any(_named_as_pools(report)):
-        # What the reader of models can't take leaves it as it was.
+        # A model that this reader can't parse leaves the report as it was.
         with contextlib.suppress(ValueError):
             report.model = text.removeprefix("\ufeff")
 
@@ -111,13 +124,13 @@ def _lost(report, pool):
 
 
 class PoolLines:
-    """What there is to say of the pools of reports that are seen one by one, of those of some names (of str) alone where any are given."""
+    """Collects what to print about the pools of reports, seen one at a time; only about the pools in `names` if there are any."""
 
     def __init__(self, names=()):
         self._names, self._where, self._lost, self._lacks = names, {}, {}, False
 
     def see(self, report):
-        """Looks at a report (Report), and keeps nothing of it but this."""
+        """Adds a report (Report), without keeping it."""
         for pool in _named_as_pools(report):
             if self._names and pool not in self._names:
                 continue
@@ -128,42 +141,41 @@ class PoolLines:
             self._lacks |= report.visits is None and not _lost(report, pool)
 
     def lines(self):
-        """A line (str) for each pool."""
+        """Yields a line (str) per pool."""
         for pool, where in self._where.items():
             if lost := self._lost[pool]:
-                why = "if it is a pool, its trace was made for another number of agents, and no figure of it holds"
+                why = "if it is a pool, its trace was made for another number of agents, and its figures are invalid"
                 yield f"warning: {pool} loses {lost} calls: {why}"
             else:
                 yield f"{pool} is a pool: its waits are those of {where}"
 
-    def lacks(self, how="mpsim writes them with --jobs"):
-        """Where a pool lacks figures, a line (str) that says why, and how the lines of jobs come to be there; else none."""
+    def lacks(self, how="run mpsim with --jobs"):
+        """Yields a line (str) that says why figures of pools are missing and how to get them, if any are."""
         if self._lacks:
-            yield f"of a pool max, p50, p90 and p99 want the lines of jobs: {how}"
+            yield f"a pool's max, p50, p90 and p99 need job lines: {how}"
 
 
 def pool_lines(reports, names=(), lacks=False):
-    """What there is to say of the pools of reports, of those of some names alone where any are given: a line (str) for each; and one where figures of
-    them lack, if that is to be said (`lacks`, bool)."""
-    told = PoolLines(names)
+    """Yields the lines (str) to print about the pools of reports, only about those in `names` if there are any; with `lacks` (bool), also about
+    missing figures."""
+    found = PoolLines(names)
     for report in reports:
-        told.see(report)
-    yield from told.lines()
+        found.see(report)
+    yield from found.lines()
     if lacks:
-        yield from told.lacks()
+        yield from found.lacks()
 
 
 def parts(report, pool):
-    """The names of the nodes of a pool (list of str) in place of which it stands as a whole: its queue, and its trunk group, or what gathers the
-    calls that its agents let out."""
-    # Where nobody reads what the agents let out, no node has the pool's name.
+    """Returns the nodes (list of str) that a pool replaces: its queue, and its trunk group or the delays that gather its agents' outputs."""
+    # If nothing reads the agents' outputs, no node has the pool's name.
     ends = end_names(pool, len(agents_of(report, pool))) if _kind(report, pool) == "delay" else ()
-    return [queue_name(pool), pool, *ends]
+    return [queue_name(pool), pool, *ends, *((left_name(pool), gone_name(pool)) if _loses(report, pool) else ())]
 
 
 def names_of(report, nodes=()):
-    """The names of the nodes of a report (list of str), in its order, with that of each pool in place of its `parts`; of some names alone where any
-    are given, which may be those of parts too. Raises ValueError for one that isn't there.
+    """Returns the names of the nodes of a report (list of str), in its order, with each pool's name in place of its `parts`; only those in `nodes` if
+    there are any, which may be parts too. Raises ValueError for an unknown name.
 
     >>> import mpsim
     >>> from mpsim.planner.pooled import names_of
@@ -173,67 +185,78 @@ def names_of(report, nodes=()):
     (['door', 'desk'], ['desk_queue'])
     """
     place = {part: pool for pool in pools(report) for part in parts(report, pool)}
-    names = list(dict.fromkeys(place.get(it.name, it.name) for it in report.nodes))
+    names = list(dict.fromkeys(place.get(node.name, node.name) for node in report.nodes))
     if not nodes:
         return names
-    every = dict.fromkeys([*(it.name for it in report.nodes), *names])
+    every = dict.fromkeys([*(node.name for node in report.nodes), *names])
     for name in nodes:
         if name not in every:
-            raise ValueError(f"there is no node {name!r}; the report has {', '.join(it.name for it in report.nodes)}")
+            raise ValueError(f"no node {name!r}; the report has {', '.join(node.name for node in report.nodes)}")
     return [name for name in every if name in nodes]
 
 
 def with_pools(report, nodes=()):
-    """The nodes of a report by their names (a dict of str to Node), those that `names_of` gives, with a Node of the kind "pool" in place of the
-    `parts` of each pool. Without visits it has no percentiles and no `max`, and it never has a `peak`: they are None."""
+    """Returns the nodes of a report that `names_of` gives (dict of str to Node), with a Node of kind "pool" in place of each pool's `parts`. Without
+    visits its percentiles and `max` are None; its `peak` always is."""
     known = pools(report)
     return {name: _node(report, name) if name in known else report[name] for name in names_of(report, nodes)}
 
 
 def beside_pools(report):
-    """All nodes of a report (list of Node), in its order, with each pool as a whole in place of the node of its name, or before its queue where there
-    is none of that name. The other nodes of a pool stay: a network draws them."""
-    made = {it: _node(report, it) for it in pools(report)}
+    """Returns all nodes of a report (list of Node), in its order, with each pool in place of the node of its name, or before its queue if there is
+    none. The pool's other nodes stay, because the network shows them."""
+    made = {pool: _node(report, pool) for pool in pools(report)}
     before = {queue_name(name): it for name, it in made.items() if name not in report}
-    return [node for it in report.nodes for node in (before.get(it.name), made.get(it.name, it)) if node is not None]
+    return [node for item in report.nodes for node in (before.get(item.name), made.get(item.name, item)) if node is not None]
 
 
 def visits_at(report, names):
-    """The visits (a list of NodeVisits) to nodes of a report with visits, or to pools, by their names."""
+    """Returns the visits (list of NodeVisits) to nodes or pools of a report with visits, by name."""
     known = pools(report)
-    return [pooled(report, it) if it in known else report.visits[it] for it in names]
+    return [pooled(report, name) if name in known else report.visits[name] for name in names]
 
 
 def _node(report, pool):
-    """A pool as a node."""
+    """Returns a pool as a Node."""
     queue, is_trunk = report[queue_name(pool)], _kind(report, pool) == "trunk"
-    agents = [report[it] for it in ([pool] if is_trunk else agents_of(report, pool))]
-    # Who is in the delay waits.
-    wait = queue.area if is_trunk else sum(it.wait for it in agents)
-    busy, area = sum(it.busy for it in agents), sum(it.area for it in [queue, *agents])
+    agents = [report[agent] for agent in ([pool] if is_trunk else agents_of(report, pool))]
+    # Jobs in the delay are waiting.
+    wait = queue.area if is_trunk else sum(agent.wait for agent in agents)
+    busy, area = sum(agent.busy for agent in agents), sum(agent.area for agent in [queue, *agents])
     util = agents[0].util if is_trunk else 10**4 * busy // (len(agents) * report.span) / 10**4 if report.span else None
     waits = None if report.visits is None else pooled(report, pool).waits()
-    tail = [None] * 4 if waits is None else [percentile_of(waits, it) for it in (100, 50, 90, 99)]
-    return Node(pool, "pool", queue.in_, sum(it.out for it in agents), 0, agents[0].held, wait, *tail, busy, area, None, util)
+    tail = [None] * 4 if waits is None else [percentile_of(waits, item) for item in (100, 50, 90, 99)]
+    gone = report[gone_name(pool)].in_ if _loses(report, pool) else 0
+    return Node(pool, "pool", queue.in_ + gone, sum(agent.out for agent in agents), gone, agents[0].held, wait, *tail, busy, area, None, util)
 
 
 def _of_trunk_group(report, pool):
     lost = report[pool].lost
     if lost:
-        raise ValueError(f"{lost} calls find no free agent at {pool}: the trace was made for another number of them")
+        raise ValueError(f"{lost} calls find no free agent at {pool}: the trace was made for another number of agents")
     queue, group = report.visits[queue_name(pool)], report.visits[pool]
     waits = map(int.__sub__, queue.depart, queue.arrive)
-    return _together(pool, queue, waits, dict(zip(group.job, group.depart)))
+    found = _together(pool, queue, waits, dict(zip(group.job, group.depart)))
+    return _with_gone(found, report.visits[gone_name(pool)]) if _loses(report, pool) else found
+
+
+def _with_gone(found, gone):
+    """Returns the visits of a pool with those of callers who left, in order of arrival: they count as lost."""
+    rows = [*zip(found.arrive, found.job, found.wait, found.depart), *((arrive, job, LOST, LOST) for arrive, job in zip(gone.arrive, gone.job))]
+    every = NodeVisits(found.node)
+    for name, column in zip(("arrive", "job", "wait", "depart"), zip(*sorted(rows, key=lambda row: row[:2]))):
+        setattr(every, name, array(getattr(found, name).typecode, column))
+    return every
 
 
 def _of_agents(pool, queue, agents):
-    waits = {job: wait for it in agents for job, wait in zip(it.job, it.wait)}
-    ends = {job: depart for it in agents for job, depart in zip(it.job, it.depart)}
+    waits = {job: wait for agent in agents for job, wait in zip(agent.job, agent.wait)}
+    ends = {job: depart for agent in agents for job, depart in zip(agent.job, agent.depart)}
     return _together(pool, queue, map(waits.__getitem__, queue.job), ends)
 
 
 def _together(pool, queue, waits, ends):
-    """The visits of a pool whose calls came to a queue (NodeVisits), with their waits and by their records the ends of their services."""
+    """Returns the visits of a pool from those to its queue (NodeVisits), with their waits and, by record, the ends of their services."""
     found = NodeVisits(pool)
     found.job, found.arrive, found.wait = queue.job, queue.arrive, array("q", waits)
     found.depart = array("q", map(ends.__getitem__, queue.job))

@@ -1,4 +1,4 @@
-"""What long work has: a line on a terminal while it goes on, and nothing elsewhere; and no collector of cycles."""
+"""Helpers for long work: a progress line on a terminal, and a pause of the garbage collector."""
 
 import contextlib
 import gc
@@ -8,7 +8,7 @@ import time
 
 @contextlib.contextmanager
 def uncollected():
-    """A block without the collector of cycles: rows make none, and it goes over them again and again."""
+    """Turns the garbage collector off within the block: rows contain no cycles, and it would scan them again and again."""
     was = gc.isenabled()
     gc.disable()
     try:
@@ -19,12 +19,12 @@ def uncollected():
 
 
 class Progress:
-    """A block whose object is called with how much is done of `whole` (int) `what` (str, in the plural): it writes at most five times a second, and
-    takes its line away behind the block.
+    """Shows progress on a terminal. Call the object with the amount done of `whole` (int) `what` (str, plural). It writes at most five times a
+    second, and clears its line at the end.
 
-    >>> with Progress(1000, "rows") as tell:
+    >>> with Progress(1000, "rows") as progress:
     ...     for done in range(1000):
-    ...         tell(done)
+    ...         progress(done)
     """
 
     def __init__(self, whole, what, stream=None):
@@ -45,7 +45,7 @@ class Progress:
         if self.shows and now - self.begun > 0.5 and now - self.last > 0.2:
             self.last = now
             left = (now - self.begun) * (self.whole - done) / done if done else 0
-            line = f"{100 * done // max(self.whole, 1)} % of {self.whole:,} {self.what}, some {left:.0f} s to go"
+            line = f"{100 * done // max(self.whole, 1)} % of {self.whole:,} {self.what}, about {left:.0f} s left"
             self._write(line.ljust(self.wide))
             self.wide = len(line)
 

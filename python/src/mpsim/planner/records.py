@@ -1,32 +1,33 @@
-"""How a row of an export becomes a record of a trace."""
+"""Turns rows of an export into records of a trace."""
 
 import re
 
-from .lengths import GREATEST_VALUE
 from .names import name_for
 from .times import DAY, Asks, Cache, Unread, day_of
 
-# Moments are kept as numbers of 64 bits.
-MOST = 1 << 62
+# Moments are stored as 64-bit integers, which reach from 1684 to 2255.
+MOST = 9 * 10**18
+# The most sources of a model.
+SOURCES = 63
 
 
 class Dates:
-    """A column of dates: `column` (int) and `how` it is read (Moments)."""
+    """A column of dates: its index (`column`) and `how` to read it (Moments)."""
 
     def __init__(self, column, how):
         self.column, self.how = column, how
 
     def midnight(self, row):
-        """What the clock shows at the midnight of a row's day (int, microseconds since 1970). Raises Unread and Asks with the `column`."""
+        """Returns the wall-clock midnight of a row's day (int, nanoseconds since 1970). Raises Unread or Asks, with the `column`."""
         try:
             return self.how.dates[row[self.column]]
-        except ValueError as fault:
-            fault.column = self.column
+        except ValueError as error:
+            error.column = self.column
             raise
 
 
 class Numbers:
-    """Three columns of numbers that make a day: `columns` (int) of its year, its month and its day.
+    """Three columns of numbers that give a day: the indices (`columns`) of its year, month and day.
 
     >>> from mpsim.planner.records import Numbers
     >>> Numbers([2, 0, 1]).midnight(["3", "02", "1970"]) // DAY
@@ -37,47 +38,47 @@ class Numbers:
         self.columns, self._midnights = tuple(columns), Cache(self._work)
 
     def midnight(self, row):
-        """As that of Dates."""
+        """Does what Dates.midnight does."""
         year, month, day = self.columns
         return self._midnights[row[year], row[month], row[day]]
 
     def _work(self, texts):
-        year = self._number(0, texts, r"[1-9]\d{3}", "no year of four digits")
-        month = self._number(1, texts, r"0?[1-9]|1[0-2]", "no month from 1 to 12")
-        day = self._number(2, texts, r"0?[1-9]|[12]\d|3[01]", "no day from 1 to 31")
+        year = self._number(0, texts, r"[1-9]\d{3}", "not a year of four digits")
+        month = self._number(1, texts, r"0?[1-9]|1[0-2]", "not a month from 1 to 12")
+        day = self._number(2, texts, r"0?[1-9]|[12]\d|3[01]", "not a day from 1 to 31")
         try:
             return day_of(year, month, day)
         except Unread:
-            raise self._fault(2, "no day of its month") from None
+            raise self._error(2, "not a day of its month") from None
 
     def _number(self, at, texts, pattern, why):
         text = texts[at].strip()
         if not re.fullmatch(pattern, text, re.ASCII):
-            raise self._fault(at, why if text else "empty")
+            raise self._error(at, why if text else "empty")
         return int(text)
 
-    def _fault(self, at, why):
-        fault = Unread(why)
-        fault.column = self.columns[at]
-        return fault
+    def _error(self, at, why):
+        error = Unread(why)
+        error.column = self.columns[at]
+        return error
 
 
 class Times:
-    """A column of times: `column` (int) and `how` it is read (Moments), in a Zone; where it has the time of the day alone, `dates` (Dates, Numbers or
-    None) has the day."""
+    """A column of times: its index (`column`) and `how` to read it (Moments), in a Zone; if it has only a time of day, `dates` (Dates, Numbers or
+    None) gives the day."""
 
     def __init__(self, column, how, zone, dates=None):
         self.column, self.how, self.zone, self.dates = column, how, zone, dates
         self._seen = {}
 
-    def first(self, row):
-        """The moment of a row. Without a date it is of day 0."""
+    def first(self, row, until=None):
+        """Returns the moment of a row; if its hour occurs twice, the last that isn't after `until`, if given. Without a date it is on day 0."""
         if self.dates is None:
-            return self.how.of(row[self.column])
-        return self.zone.utc(self.dates.midnight(row) + self.how.of(row[self.column]), self._seen)
+            return self.how.of(row[self.column], None, until)
+        return self.zone.utc(self.dates.midnight(row) + self.how.of(row[self.column]), self._seen, None, until)
 
     def later(self, row, than):
-        """The moment of a row that isn't before another one: a time of the day alone is the next one from that on."""
+        """Returns the moment of a row at or after another one. A time of day is its next occurrence."""
         value = self.how.of(row[self.column], than)
         if not self.how.is_of_day:
             return value
@@ -86,144 +87,43 @@ class Times:
         try:
             moment = self.zone.utc(midnight + value, self._seen, than)
         except Unread:
-            # Skipped before that one, it is of the next day.
+            # It is skipped on this day, before `than`, so it is on the next.
             if midnight + value >= shown:
                 raise
             moment = than - 1
         return moment if moment >= than else self.zone.utc(midnight + DAY + value, self._seen, than)
 
 
-class Demand:
-    """A column of lengths (Lengths); `empty` are the ticks of an empty field, or None where its row is left out."""
-
-    def __init__(self, name, column, how, empty=None):
-        self.name, self.column, self.how, self.empty = name, column, how, empty
-        self.code = None
-
-    def of(self, row, begun):
-        text = row[self.column]
-        return self.empty if self.empty is not None and not text.strip() else self.how.ticks[text]
-
-    def many(self, columns):
-        return list(map(self.how.ticks.__getitem__, columns[self.column]))
-
-    @property
-    def rounded(self):
-        """How many different texts are no whole ticks."""
-        return self.how.rounded
-
-
-class Sum:
-    """Columns of lengths (`parts`, a list of Demand) that have one name, and are added up, each to the nearest tick."""
-
-    def __init__(self, parts):
-        self.parts, self.name, self.column = parts, parts[0].name, parts[0].column
-        self.code = None
-
-    def of(self, row, begun):
-        total = 0
-        for it in self.parts:
-            try:
-                total += it.of(row, begun)
-            except (Unread, Asks) as fault:
-                fault.column = it.column
-                raise
-        if total > GREATEST_VALUE:
-            raise Unread("above 2^36 ticks")
-        return total
-
-    def many(self, columns):
-        totals = list(map(sum, zip(*(it.many(columns) for it in self.parts))))
-        if max(totals) > GREATEST_VALUE:
-            raise Unread("one by one")
-        return totals
-
-    @property
-    def rounded(self):
-        return sum(it.rounded for it in self.parts)
-
-
-class End:
-    """What is from the moment at which a service begins to that of a column (Times), in ticks, to the nearest. `begin` (int) says which moment that
-    is: 0 when the job comes, 1 and so on those of `Records.answered`."""
-
-    def __init__(self, name, times, tick, empty=None, begin=0):
-        self.name, self.column, self.times, self.tick, self.empty, self.begin = name, times.column, times, tick, empty, begin
-        self.code = None
-
-    def of(self, row, begun):
-        if self.empty is not None and not row[self.column].strip():
-            return self.empty
-        begin = begun[self.begin]
-        end = self.times.later(row, begin)
-        if end < begin:
-            raise Unread("before it begins")
-        ticks = (2 * (end - begin) + self.tick) // (2 * self.tick)
-        if ticks > GREATEST_VALUE:
-            raise Unread("above 2^36 ticks")
-        return ticks
-
-    def many(self, columns):
-        raise Unread("one by one")
-
-
-class Constant:
-    """Ticks that all records have."""
-
-    def __init__(self, name, ticks):
-        self.name, self.column, self.ticks = name, None, ticks
-        self.code = None
-
-    def of(self, row, begun):
-        return self.ticks
-
-    def many(self, columns):
-        return [self.ticks] * len(columns[0])
-
-
-class Code:
-    """A column of words as numbers. Those of `known` (a dict, or None) are known; each other one is the next, from 0 or the greatest of these on, in
-    the order in which records that stay have them first."""
-
-    def __init__(self, name, column, known=None):
-        self.name, self.column, self.known, self.codes = name, column, known, dict(known or {})
-        self._next = max(self.codes.values(), default=-1) + 1
-
-    def of(self, row, begun):
-        # The words of a row that is left out get no number: `code` is asked for those of a row that stays.
-        return 0
-
-    def many(self, columns):
-        return []
-
-    def code(self, row):
-        word = row[self.column].strip()
-        number = self.codes.get(word)
-        if number is None:
-            number = self.codes[word] = self._next
-            self._next += 1
-        return number
+class TooManySources(ValueError):
+    """An export has more sources than a model may have."""
 
 
 class Left(ValueError):
-    """A row that is left out: the number of the column that can't be read, None where it is the whole row, and why."""
+    """A row to leave out: the index of the column that can't be read, None for the whole row, and the reason."""
 
     def __init__(self, column, why):
         super().__init__(column, why)
         self.column, self.why = column, why
 
 
+class Unwanted(Exception):
+    """A row that a condition excludes."""
+
+
 class Records:
-    """Makes records of rows. `width` is how many fields the header has, `time` when a job comes (Times), `answered` when services of an `End`
-    begin (a list of Times); `values` are what makes the columns of the trace. `source` is a column, or `only` the name that all have;
-    `renamed` has names that were given, and `known` those that there are, None where any may be."""
+    """Makes records from rows. `width` is the number of fields in the header, `time` the arrival (Times), `answered` the beginnings of services with
+    an `End` (list of Times), `values` the columns of the trace. `source` is a column, or `only` the name that all records get; `renamed` has given
+    names, and `known` the allowed ones (None for any). Rows that don't meet all `conditions` (list of Condition), and those that arrive before
+    `begins` or not before `ends` (moments or None), are excluded. `ended` (Times or None) are ends of services if the rows are in their order, which
+    says which hour is meant if it occurs twice."""
 
     def __init__(self, width, time, answered, values, source=None, only=None, renamed=None, known=None):
         self.width, self.time, self.answered, self.values = width, time, answered, values
         self.source, self.only, self.known = source, only, known
-        self.renamed, self.names = renamed or {}, {}
-        self._taken = set(self.renamed.values())
-        self._named = Cache(self._name_of)
+        self.renamed, self.names, self.conditions, self.begins, self.ends = renamed or {}, {}, [], None, None
+        self.ended = None
+        self._taken, self._used = set(self.renamed.values()), set()
+        self._named, self._numbers = Cache(self._name_of), {}
         self._codes = [at for at, it in enumerate(values) if it.code]
 
     def _name_of(self, text):
@@ -232,55 +132,76 @@ class Records:
             raise Unread("empty")
         if text in self.names:
             return self.names[text]
-        made = self.renamed.get(text) or name_for(text, self._taken)
+        made = self.renamed.get(text) or name_for(text, self._taken, self._numbers)
+        if self.known is None and made not in self._used and len(self._used) >= SOURCES:
+            raise TooManySources(f"more than {SOURCES} sources, the limit of a model: give one name for all, or --rename several to one")
         if self.known is not None and made not in self.known:
             raise Unread(f"the model has no source {made}")
         self.names[text] = made
         self._taken.add(made)
+        self._used.add(made)
         return made
 
     def many(self, rows):
-        """Records of rows of which none wants a look by itself, as columns: sources, moments, and each of the values. Raises ValueError where one
-        may; nothing that tells is changed then."""
-        if self.time.dates or self.answered or set(map(len, rows)) != {self.width}:
+        """Returns records as columns (sources, moments, and each of the values) for rows that need no individual treatment. Raises ValueError if one
+        may; nothing visible has changed then."""
+        if self.time.dates or self.answered or self.ended or set(map(len, rows)) != {self.width}:
+            raise Unread("one by one")
+        if not all(condition.holds(row) for condition in self.conditions for row in rows):
             raise Unread("one by one")
         columns = list(zip(*rows))
         stamps = self.time.how.many(columns[self.time.column])
-        if not -MOST < min(stamps) <= max(stamps) < MOST:
+        first, last = min(stamps), max(stamps)
+        if not -MOST < first <= last < MOST or not self._is_within(first) or not self._is_within(last):
             raise Unread("one by one")
-        values = [it.many(columns) for it in self.values]
+        values = [value.many(columns) for value in self.values]
         named = [self.only] * len(rows) if self.source is None else list(map(self._named.__getitem__, columns[self.source]))
         for at in self._codes:
             values[at] = list(map(self.values[at].code, rows))
         return [named, stamps, *values]
 
+    def _is_within(self, stamp):
+        return (self.begins is None or stamp >= self.begins) and (self.ends is None or stamp < self.ends)
+
     def of(self, row):
-        """A record: a tuple of the source, the moment, and the values. Raises Left where the row can't be read, and Asks with the `column`."""
+        """Returns a record: a list of the source, the moment, and the values. Raises Left if the row can't be read, Unwanted if it is excluded, and
+        Asks, with the `column`."""
         if len(row) != self.width and (len(row) < self.width or any(row[self.width :])):
-            raise Left(None, f"another number of fields than the header's {self.width}")
+            raise Left(None, f"the number of fields isn't the header's {self.width}")
         at = self.time.column
         try:
-            stamp = self.time.first(row)
+            for condition in self.conditions:
+                at = condition.column
+                if not condition.holds(row):
+                    raise Unwanted
+            until = None
+            if self.ended is not None and row[self.ended.column].strip():
+                at = self.ended.column
+                until = self.ended.first(row)
+            at = self.time.column
+            stamp = self.time.first(row, until)
             if not -MOST < stamp < MOST:
                 raise Unread("out of the range of times")
+            if not self._is_within(stamp):
+                raise Unwanted
             begun = [stamp]
-            for it in self.answered:
-                at = it.column
-                begun.append(it.later(row, stamp))
+            for item in self.answered:
+                at = item.column
+                begun.append(item.later(row, stamp))
                 if begun[-1] < stamp:
-                    raise Unread("before the job comes")
+                    raise Unread("before the job arrives")
             made = [None, stamp]
-            for it in self.values:
-                at = it.column
-                made.append(it.of(row, begun))
+            for value in self.values:
+                at = value.column
+                made.append(value.of(row, begun))
             at = self.source
             made[0] = self.only if at is None else self._named[row[at]]
-        except Unread as fault:
-            raise Left(getattr(fault, "column", at), str(fault)) from None
+        except Unread as error:
+            raise Left(getattr(error, "column", at), str(error)) from None
         except OverflowError:
             raise Left(at, "out of the range of dates") from None
-        except Asks as fault:
-            fault.column = getattr(fault, "column", at)
+        except Asks as error:
+            error.column = getattr(error, "column", at)
             raise
         for at in self._codes:
             made[at + 2] = self.values[at].code(row)

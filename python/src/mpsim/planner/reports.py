@@ -1,54 +1,76 @@
-"""The report that a command is asked about: one in a file, or that of a model and a trace, which are run."""
+"""Gets the report that a command needs: from a file, or from a run of a model and a trace."""
 
 from ..node_visits import NodeVisits, Visits
 from ..report import Report
 from ..runs import run
 from .files import say
-from .pooled import names_of, pool_lines, pooled, pools, visits_at
+from .pooled import names_of, pool_lines, pooled, pools, queue_name, visits_at
 
-# At these nobody waits, and nobody is lost.
+# No job waits or is lost at these.
 PASSED = "source", "split", "fork"
 
 
-def words(parser, what="a report with the lines of jobs"):
-    parser.add_argument("report", help=f"{what}; or a model")
-    parser.add_argument("trace", nargs="?", help="behind a model: its trace, which is run")
+class Passing(NodeVisits):
+    """The visits to a node at which no job waits for a server, such as a delay: it has no waits to report."""
+
+    __slots__ = ()
 
 
-def places(parser):
-    parser.add_argument("--node", action="append", default=[], metavar="NAME", help="a node, or a pool by its name; service takes several")
-    parser.add_argument("--pool", action="append", default=[], metavar="NAME", help="a pool that planner pool made: all its agents together")
+def _of_delays(report, found):
+    """Returns visits (list of NodeVisits) with those to delays as Passing."""
+    for at, visits in enumerate(found):
+        if visits.node in report and report[visits.node].kind == "delay":
+            found[at] = Passing(visits.node)
+            found[at].extend(visits)
+    return found
 
 
-def report_of(asked):
-    """The report (Report) of a command's words, with its visits. Raises what `mpsim.run` and `Report.read` do, and ValueError where it has none."""
-    if asked.trace is not None:
-        return run(asked.report, asked.trace, jobs=True)
-    report = Report.read(asked.report)
+def words(parser, what="a report with job lines"):
+    parser.add_argument("report", help=f"{what}, or a model")
+    parser.add_argument("trace", nargs="?", help="after a model: the trace to run through it")
+
+
+def places(parser, several=""):
+    parser.add_argument("--node", action="append", default=[], metavar="NAME", help=f"a node, or a pool by its name{several}")
+    says = f"a pool that mpplan pool made: all its agents together{several}"
+    parser.add_argument("--pool", action="append", default=[], metavar="NAME", help=says)
+
+
+def report_of(args):
+    """Returns the report (Report), with visits, that a command's arguments name. Raises what `mpsim.run` and `Report.read` do, and ValueError if it
+    has no visits."""
+    if args.trace is not None:
+        return run(args.report, args.trace, jobs=True)
+    report = Report.read(args.report)
     if report.visits is None and report.jobs:
-        raise ValueError(f"{asked.report}: it has no lines of jobs: mpsim writes them with --jobs")
+        raise ValueError(f"{args.report}: the report has no job lines: run mpsim with --jobs")
     if report.visits is None:
-        # Nobody came, and so nobody has a line.
-        report.visits = Visits((it.name, NodeVisits(it.name)) for it in report.nodes)
+        # Without jobs there are no job lines.
+        report.visits = Visits((node.name, NodeVisits(node.name)) for node in report.nodes)
     return report
 
 
-def visits_of(report, asked):
-    """The visits (a list of NodeVisits) to the nodes and the pools that a command's words name; a pool that is named as a node is taken as one, and
-    a line says so. Raises ValueError for one that isn't there."""
+def visits_of(report, args):
+    """Returns the visits (list of NodeVisits) to the nodes and pools that a command's arguments name. A pool named as a node counts as a pool, which
+    is printed. Raises ValueError for an unknown name."""
     known = pools(report)
-    for name in asked.node:
+    for name in args.node:
         if name not in report and name not in known:
-            raise ValueError(f"{asked.report}: there is no node {name!r}; it has {', '.join(it.name for it in report.nodes)}")
-    for line in pool_lines([report], asked.node) if asked.node else ():
+            raise ValueError(f"{args.report}: no node {name!r}; it has {', '.join(node.name for node in report.nodes)}")
+    for line in pool_lines([report], args.node) if args.node else ():
         say(line)
-    return visits_at(report, asked.node) + [pooled(report, it) for it in asked.pool]
+    # A delay that holds the waits of a pool is the pool.
+    queues = {queue_name(pool): pool for pool in known}
+    names = [queues.get(name, name) for name in args.node]
+    found = [it for name in names for it in ([pooled(report, name)] if name in known else _of_delays(report, visits_at(report, [name])))]
+    return found + [pooled(report, item) for item in args.pool]
 
 
 def all_visits(report):
-    """The visits (a list of NodeVisits) to all nodes at which somebody may stay, with those to each pool in place of its queue and its trunk group;
-    a line says so."""
+    """Returns the visits (list of NodeVisits) to all nodes where jobs may stay, with each pool in place of its queue and its trunk group, which is
+    printed."""
     known = pools(report)
     for line in pool_lines([report]):
         say(line)
-    return visits_at(report, [it for it in names_of(report) if it in known or report[it].kind not in PASSED])
+    names = [name for name in names_of(report) if name in known or report[name].kind not in PASSED]
+    return [it for name in names for it in ([pooled(report, name)] if name in known else _of_delays(report, visits_at(report, [name])))]

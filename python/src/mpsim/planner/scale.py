@@ -1,48 +1,49 @@
-"""More load, or less, of the same trace."""
+"""Scales the load of a trace up or down."""
 
 import re
 from collections import Counter
 from fractions import Fraction
 
 from .files import counted, judge_outputs, say, written
-from .prepare import GREATEST_TIME, RECORDS
+from .arrivals import GREATEST_TIME
+from .rows import RECORDS
 from .traces import Trace, pool_warning
 
-EXAMPLE = "planner scale trace.csv --by 5/4 --shift 604800 --out more.csv"
+EXAMPLE = "mpplan scale trace.csv --by 5/4 --shift 604800 --out more.csv"
 TIMES = (
-    "each time is {n}/{k} of what it was: the same jobs come {faster}, and demands are as they were. "
-    "A day is {shorter}, and so are its nights and its peaks"
+    "each time is {n}/{k} of its old value: the same jobs arrive {faster}, and their service times don't change. "
+    "Days, nights and peaks are {shorter}"
 )
 TWINS = (
-    "so that twins come at one moment and wait for one another: "
-    "that makes waits longer than a load of this kind would (twice as long in one trial); --shift doesn't"
+    "so twins arrive together and wait for one another: "
+    "that makes waits longer than such a load would (twice as long in one trial); --shift doesn't"
 )
 
 
 def words(parser):
-    parser.add_argument("trace")
-    parser.add_argument("--by", required=True, metavar="K/N", help="how much of the load: 2, 3/2, 9/10")
+    parser.add_argument("trace", help="a trace")
+    parser.add_argument("--by", required=True, metavar="K/N", help="factor for the load: 2, 3/2, 9/10")
     ways = parser.add_mutually_exclusive_group()
-    ways.add_argument("--shift", type=int, metavar="TICKS", help="copies come so many ticks later, a day or a week, and go round at the end")
-    ways.add_argument("--times", action="store_true", help="no copies: times are closer together")
-    ways.add_argument("--twins", action="store_true", help="copies come at the time of their record")
-    parser.add_argument("--source", action="append", default=[], metavar="NAME", help="of this source alone; may be repeated")
-    parser.add_argument("--out", metavar="FILE")
+    says = "shift each copy by this many ticks (a day, a week), wrapping round at the end of the trace"
+    ways.add_argument("--shift", type=int, metavar="TICKS", help=says)
+    ways.add_argument("--times", action="store_true", help="make no copies: move the times closer together, or apart")
+    ways.add_argument("--twins", action="store_true", help="copies arrive at the time of their record")
+    parser.add_argument("--source", action="append", default=[], metavar="NAME", help="scale only this source; may be repeated")
+    parser.add_argument("--out", metavar="FILE", help="write the scaled trace here; default: standard output")
 
 
 def ratio(text):
-    """The numbers (a pair of int) of `2` or `3/2`. Raises ValueError for another text."""
+    """Returns the numbers (pair of int) in `2` or `3/2`. Raises ValueError for another text."""
     found = re.fullmatch(r"([1-9]\d{0,5})(?:/([1-9]\d{0,5}))?", text)
     if not found:
-        # A decimal number can be written so.
+        # Suggest a decimal number as a fraction.
         decimal = re.fullmatch(r"(\d{1,3}[.,]\d{1,5})", text, re.ASCII) and Fraction(text.replace(",", "."))
-        raise ValueError(f"--by {text}: expected K or K/N, whole numbers from 1 on" + (f", as {decimal}" if decimal else ""))
+        raise ValueError(f"--by {text}: expected K or K/N, whole numbers of 1 or more" + (f", e.g. {decimal}" if decimal else ""))
     return int(found[1]), int(found[2] or 1)
 
 
 def closer(times, k, n):
-    """Pairs of a time and the place of the record that it is of (a list), in the order in which the records came: of each time (int, ticks) n/k,
-    rounded down.
+    """Returns pairs (list) of a time and the index of its record, in order of arrival. Each time (int, ticks) is multiplied by n/k and rounded down.
 
     >>> from mpsim.planner.scale import closer
     >>> closer([0, 25, 10, 24], 2, 1)
@@ -52,12 +53,13 @@ def closer(times, k, n):
 
 
 def copies(times, sources, k, n, shift=0, only=()):
-    """Pairs of a time and the place of the record that it is of (a list), in the order of time, and at one time in that of the records: of each n
-    records k, as evenly as can be in each source. The records of a source are counted on from those of the source before it, in the order of the
-    trace, so that few records of many sources come to k/n of all: of the record i, from 0, there are as many as k (i + 1) / n rounded down is more
-    than k i / n. Each copy is `shift` (int, ticks) behind the one before; what would stand behind the last record begins again at the front, at the
-    first time from that of the first record on that is whole shifts away (`around`). With `only` (names of sources) those alone have copies. Raises
-    ValueError where a copy would come round to its own record.
+    """Returns pairs (list) of a time and the index of its record, in order of time, then of records: k for every n records, spread as evenly as
+    possible within each source.
+
+    Record i, counted from 0, appears floor(k (i + 1) / n) - floor(k i / n) times. Counting continues from one source to the next, in the order of the
+    trace, so that few records from many sources also give k/n in all. Each copy is `shift` (int, ticks) after the one before. A copy past the last
+    record wraps round to the first time that is a whole number of shifts away and not before the first record (`around`). With `only` (names of
+    sources), only those are copied. Raises ValueError if a copy would fall on its own record.
 
     >>> from mpsim.planner.scale import copies
     >>> copies([0, 10, 25], ["a", "a", "a"], 2, 1, shift=10)
@@ -65,7 +67,7 @@ def copies(times, sources, k, n, shift=0, only=()):
     """
     ends = min(times, default=0), max(times, default=0)
     seen, before, made = {}, 0, []
-    for source, count in Counter(it for it in sources if not only or it in only).items():
+    for source, count in Counter(source for source in sources if not only or source in only).items():
         seen[source], before = before, before + count
     for at in sorted(range(len(times)), key=times.__getitem__):
         source, count = sources[at], 1
@@ -73,14 +75,14 @@ def copies(times, sources, k, n, shift=0, only=()):
             i = seen[source]
             count, seen[source] = k * (i + 1) // n - k * i // n, i + 1
         made += [(time, at) for time in (around(times[at], count, shift, *ends) if shift else [times[at]] * count)]
-    # At one time copies stand in the order of their records.
+    # Copies at equal times are in the order of their records.
     return sorted(made)
 
 
 def around(time, count, shift, first, last):
-    """The times (list of int) of so many copies of a record (int, the record itself counted), each `shift` behind the one before, from its `time` on
-    and round at the end, between `first` and `last` (int, ticks); where there are too few times up to an eighth of a shift outside, so that a record
-    of an early or late minute has its other days too. Raises ValueError where that isn't enough.
+    """Returns the times (list of int) of this many copies of a record (int, including the record), each `shift` after the one before, starting at its
+    `time` and wrapping round between `first` and `last` (int, ticks). If that gives too few times, they may lie up to an eighth of a shift outside,
+    so that a record from an early or late minute also gets its other days. Raises ValueError if that isn't enough.
 
     >>> from mpsim.planner.scale import around
     >>> around(25, 2, 10, 3, 31), around(9, 3, 10, 0, 28)
@@ -94,16 +96,16 @@ def around(time, count, shift, first, last):
         rounds += 1
     if rounds < count:
         some = f"there are {rounds} times" if rounds > 1 else "there is no other time"
-        raise ValueError(f"--shift {shift}: within the trace {some} whole shifts away from {time}, where {count} records are to stand")
+        raise ValueError(f"--shift {shift}: within the trace {some} whole shifts away from {time}, but {count} records need one")
     return [front + ((time - front) // shift + copy) % rounds * shift for copy in range(count)]
 
 
 def scaled(trace, k, n, way, shift=None, only=()):
-    """The trace (Trace) with k/n of the load of another, in the order of time; `way` is "times", "twins" or "shift"."""
+    """Returns the trace (Trace) with k/n of the load of another, in order of time; `way` is "times", "twins" or "shift"."""
     times = trace.times()
     for name in only:
         if name not in trace.sources():
-            raise ValueError(f"{trace.path}: no record is of the source {name!r}")
+            raise ValueError(f"{trace.path}: no record has the source {name!r}")
     if way == "times":
         made = closer(times, k, n)
     else:
@@ -112,55 +114,55 @@ def scaled(trace, k, n, way, shift=None, only=()):
 
 
 def _count(trace, k, n, way, only):
-    """How many records `scaled` makes: too many are refused before there is any."""
-    taken = 0 if way == "times" else sum(not only or it in only for it in trace.sources())
+    """Returns the number of records that `scaled` would make, to reject too many before making any."""
+    taken = 0 if way == "times" else sum(not only or source in only for source in trace.sources())
     return len(trace.rows) - taken + k * taken // n
 
 
 def means(k, n, way, shift=None, only=()):
-    """What `scaled` does, in words (str).
+    """Returns a description (str) of what `scaled` does.
 
     >>> from mpsim.planner.scale import means
     >>> means(2, 1, "shift", 86400)
-    'each record has one copy, 86400 ticks later; copies past the end begin again at the front'
+    'each record has one copy, 86400 ticks later; copies past the end wrap round to the start'
     """
     of = f" of {' or of '.join(only)}" if only else ""
     if k == n:
-        return "each record stands there, as it was"
+        return "each record is kept as it was"
     if way == "times":
         faster, shorter = ("faster", "shorter") if k > n else ("more slowly", "longer")
         return TIMES.format(k=k, n=n, faster=faster, shorter=shorter)
     if k % n:
-        some = f"of each {n} records{of or ' of a source'} {k} stand there"
+        some = f"every {n} records{of or ' of a source'} become {k}"
         if k < n:
-            return f"{some}, at their own times, as evenly chosen as can be"
-        past = "copies past the end begin again at the front"
-        return f"{some}, each copy {shift} ticks behind the one before; {past}" if way == "shift" else f"{some}, at their own times, {TWINS}"
+            return f"{some}, at their own times, chosen as evenly as possible"
+        past = "copies past the end wrap round to the start"
+        return f"{some}, each copy {shift} ticks after the one before; {past}" if way == "shift" else f"{some}, at their own times, {TWINS}"
     count = k // n - 1
-    copies, has = ("one copy", f"{shift} ticks later") if count == 1 else (f"{count} copies", f"each {shift} ticks behind the one before")
+    copies, has = ("one copy", f"{shift} ticks later") if count == 1 else (f"{count} copies", f"each {shift} ticks after the one before")
     if way == "shift":
-        return f"each record{of} has {copies}, {has}; copies past the end begin again at the front"
+        return f"each record{of} has {copies}, {has}; copies past the end wrap round to the start"
     return f"each record{of} has {copies}, at its own time, {TWINS}"
 
 
-def main(asked):
-    k, n = ratio(asked.by)
-    way = "times" if asked.times else "shift" if asked.shift is not None else "twins"
-    if asked.times and asked.source:
-        raise ValueError("--times and --source: times of one source alone would be those of another day; take --shift")
-    if asked.shift is not None and asked.shift < 1:
-        raise ValueError(f"--shift {asked.shift}: expected a number of ticks, as those of a day or a week")
-    if way == "twins" and not asked.twins and k > n:
-        raise ValueError(f"--by {asked.by}: say how: --shift TICKS (those of a day or a week), --times or --twins")
-    judge_outputs([asked.out], {"trace": [asked.trace]})
-    trace = Trace.read(asked.trace)
-    if (more := _count(trace, k, n, way, asked.source) - RECORDS) > 0:
-        raise ValueError(f"--by {asked.by}: {counted(more, 'record')} more than the {RECORDS} that mpsim takes")
-    made = scaled(trace, k, n, way, asked.shift, asked.source)
+def main(args):
+    k, n = ratio(args.by)
+    way = "times" if args.times else "shift" if args.shift is not None else "twins"
+    if args.times and args.source:
+        raise ValueError("--times and --source: the times of a single source would no longer fit the day of the others; use --shift")
+    if args.shift is not None and args.shift < 1:
+        raise ValueError(f"--shift {args.shift}: expected a positive number of ticks, such as those of a day or a week")
+    if way == "twins" and not args.twins and k > n:
+        raise ValueError(f"--by {args.by}: choose how: --shift TICKS (those of a day or a week), --times or --twins")
+    judge_outputs([args.out], {"trace": [args.trace]})
+    trace = Trace.read(args.trace)
+    if (more := _count(trace, k, n, way, args.source) - RECORDS) > 0:
+        raise ValueError(f"--by {args.by}: {counted(more, 'record')} above the limit of {RECORDS}")
+    made = scaled(trace, k, n, way, args.shift, args.source)
     if made.rows and (last := int(made.rows[-1][1])) > GREATEST_TIME:
-        raise ValueError(f"--by {asked.by}: a time of {last}, which is above {GREATEST_TIME}")
-    with written(asked.out) as file:
+        raise ValueError(f"--by {args.by}: the time {last} is above the limit of {GREATEST_TIME}")
+    with written(args.out) as file:
         file.writelines(made.texts())
-    if warning := pool_warning(asked.trace, trace.header):
+    if warning := pool_warning(args.trace, trace.header):
         say(warning)
-    say(f"{counted(len(made.rows), 'record')} of {len(trace.rows):,}: {means(k, n, way, asked.shift, asked.source)}")
+    say(f"{counted(len(made.rows), 'record')} (from {len(trace.rows):,}): {means(k, n, way, args.shift, args.source)}")

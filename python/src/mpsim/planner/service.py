@@ -1,73 +1,80 @@
-"""The customer's numbers: who was served, how soon, and how long the others waited."""
+"""Reports the service level: how many were served, how soon, and how long the others waited."""
 
 import argparse
-import csv
 from bisect import bisect_right
 
 from ..node_visits import HELD, LOST, percentile_of
-from . import reports
-from .files import written
+from . import reports, sheets
 
-EXAMPLE = "planner service jobs.txt --node desk --within 20 --percentile 95"
+EXAMPLE = "mpplan service jobs.txt --node desk --within 20 --percentile 95"
 PERCENTS = 50, 90, 95, 99
 
 
 def words(parser):
     reports.words(parser)
-    reports.places(parser)
+    reports.places(parser, "; may be repeated")
     figure_words(parser)
+    sheets.words(parser)
 
 
-def figure_words(parser, what="waits", share="the share served within so many ticks (20)"):
+def figure_words(parser, what="waits", share="report the share served within this many ticks (default: 20)"):
     parser.add_argument("--within", type=ticks, action=Once, metavar="TICKS", help=f"{share}; may be repeated")
-    parser.add_argument("--percentile", type=float, action=Once, metavar="P", help=f"of the {what} (50, 90, 95 and 99); may be repeated")
+    says = f"percentile of the {what} to report (default: 50, 90, 95 and 99); may be repeated"
+    parser.add_argument("--percentile", type=float, action=Once, metavar="P", help=says)
 
 
 def ticks(text):
-    """The ticks (int) of a word of --within."""
+    """Returns the ticks (int) in the value of --within."""
     try:
         value = int(text)
     except ValueError:
         value = -1
     if value < 0:
-        raise argparse.ArgumentTypeError(f"{text}: expected a number of ticks, from 0 on")
+        raise argparse.ArgumentTypeError(f"{text}: expected a number of ticks, 0 or more")
     return value
 
 
 class Once(argparse.Action):
-    """An option that may be repeated; a value that stands there already is no further one."""
+    """An option that may be repeated; repeated values count once."""
 
-    def __call__(self, parser, asked, value, option=None):
-        before = getattr(asked, self.dest) or []
-        setattr(asked, self.dest, before if value in before else [*before, value])
+    def __call__(self, parser, args, value, option=None):
+        before = getattr(args, self.dest) or []
+        setattr(args, self.dest, before if value in before else [*before, value])
 
 
 def heads(within=(20,), percents=PERCENTS):
-    """The names of the figures (list of str) that `figures` gives."""
-    shares = [f"within_{it}_of_{whom}" for it in within for whom in ("all", "departed")]
-    return ["came", "departed", "lost", "held", "mean_wait", *(f"p{it:.15g}" for it in percents), "max", *shares]
+    """Returns the names (list of str) of what `figures` returns."""
+    shares = [f"within_{item}_of_{whom}" for item in within for whom in ("all", "departed")]
+    return ["came", "departed", "lost", "held", "mean_wait", *(f"p{percent:.15g}" for percent in percents), "max", *shares]
 
 
 def figures(waits, within=(20,), percents=PERCENTS):
-    """The figures (list of int, float or None) of waits as a NodeVisits has them, lost and held ones with them: how many came, departed, were lost
-    and are held; the mean of the waits of those that departed, to three digits behind the point, their percentiles and the greatest, None where none
-    departed; and for each of `within` the share of all that came, and the share of those that departed, that departed after a wait of at most so many
-    ticks, to six digits, None where there is nobody. Who was lost or is held isn't served.
+    """Returns the figures (list of int, float or None) of waits as in a NodeVisits, including lost and held visits.
+
+    They are the numbers of visits that arrived, departed, were lost and are held; the mean wait of those that departed, to three decimals, their
+    percentiles and the longest, None if none departed; and for each of `within` the visits that departed after a wait of at most this many ticks, as
+    a share of all arrivals and of all departures, to six decimals, None if there are none. Lost and held visits aren't served.
 
     >>> from mpsim.planner.service import figures
     >>> figures([0, 3, -1, 7], within=[3], percents=[50])
     [4, 3, 1, 0, 3.333, 3, 7, 0.5, 0.666667]
     """
-    departed = sorted(it for it in waits if it >= 0)
-    counts = [len(waits), len(departed), sum(it == LOST for it in waits), sum(it == HELD for it in waits)]
-    told = [percentile_of(departed, it) for it in percents] if departed else [None] * len(percents)
+    departed = sorted(wait for wait in waits if wait >= 0)
+    counts = [len(waits), len(departed), sum(wait == LOST for wait in waits), sum(wait == HELD for wait in waits)]
+    found = [percentile_of(departed, percent) for percent in percents] if departed else [None] * len(percents)
     mean, greatest = (round(sum(departed) / len(departed), 3), departed[-1]) if departed else (None, None)
-    shares = [round(bisect_right(departed, it) / count, 6) if count else None for it in within for count in (len(waits), len(departed))]
-    return [*counts, mean, *told, greatest, *shares]
+    shares = [round(bisect_right(departed, item) / count, 6) if count else None for item in within for count in (len(waits), len(departed))]
+    return [*counts, mean, *found, greatest, *shares]
+
+
+def figures_of(visits, waits, within=(20,), percents=PERCENTS):
+    """Returns the `figures` of some waits among visits; of visits to a delay only the counts, since nobody waits there for a server."""
+    found = figures(waits, within, percents)
+    return [*found[:4], *[None] * (len(found) - 4)] if isinstance(visits, reports.Passing) else found
 
 
 def service(visits, within=(20,), percents=PERCENTS):
-    """The header and the rows (lists) of a table of visits (a list of NodeVisits), a row for each, with what `figures` gives.
+    """Yields the header and the rows (lists) of a table of visits (list of NodeVisits), a row each, with what `figures` returns.
 
     >>> import mpsim
     >>> from mpsim.planner.service import service
@@ -79,14 +86,13 @@ def service(visits, within=(20,), percents=PERCENTS):
     ['desk', 3, 2, 1, 0, 2.0, 4, 4, 0.333333, 0.5]
     """
     yield ["node", *heads(within, percents)]
-    for it in visits:
-        yield [it.node, *figures(it.wait, within, percents)]
+    for visit in visits:
+        yield [visit.node, *figures_of(visit, visit.wait, within, percents)]
 
 
-def main(asked):
-    report = reports.report_of(asked)
-    visits = reports.visits_of(report, asked) or reports.all_visits(report)
-    # All is worked out before a row is written.
-    rows = list(service(visits, asked.within or (20,), asked.percentile or PERCENTS))
-    with written() as file:
-        csv.writer(file, lineterminator="\n").writerows(rows)
+def main(args):
+    report = reports.report_of(args)
+    visits = reports.visits_of(report, args) or reports.all_visits(report)
+    # Everything is computed before a row is written.
+    rows = list(service(visits, args.within or (20,), args.percentile or PERCENTS))
+    sheets.write(rows, args.format, args.csv_style)

@@ -1,21 +1,19 @@
-"""How long jobs were in the network: from the source where they came to the node where they left."""
+"""Reports how long jobs were in the network, from the source where they arrived to the node where they left."""
 
-import csv
 from array import array
 from bisect import bisect_right
 from typing import NamedTuple
 
 from ..node_visits import HELD, percentile_of
-from . import reports
-from .files import written
+from . import reports, sheets
 from .service import PERCENTS, figure_words
 
-EXAMPLE = "planner sojourns model.txt trace.csv --by source --within 300"
+EXAMPLE = "mpplan sojourns model.txt trace.csv --by source --within 300"
 
 
 class Sojourn(NamedTuple):
-    """A job's way: its record (int, from 1), its source (str), when it came (int, ticks), the node where it left (str), whether it was lost there,
-    and how long it was in the network (int, ticks)."""
+    """A job's way: its record (int, from 1), its source (str), its arrival (int, ticks), the node where it left (str), whether it was lost there, and
+    its time in the network (int, ticks)."""
 
     job: int
     source: str
@@ -27,14 +25,16 @@ class Sojourn(NamedTuple):
 
 def words(parser):
     reports.words(parser)
-    parser.add_argument("--by", choices=["both", "source", "end", "all"], default="both", help="a row a source, a node where jobs left, or both")
-    figure_words(parser, "sojourns", "the share of sojourns of at most so many ticks")
-    parser.add_argument("--each", action="store_true", help="a row a job in place of the table")
+    says = "one row per source (source), per node where jobs left (end), per pair of both, or for all jobs; default: both"
+    parser.add_argument("--by", choices=["both", "source", "end", "all"], default="both", help=says)
+    figure_words(parser, "sojourns", "report the share of sojourns of at most this many ticks")
+    parser.add_argument("--each", action="store_true", help="write one row per job instead of the table")
+    sheets.words(parser)
 
 
 def sojourns(report):
-    """Each job's way (Sojourn) of a report with visits, by their records. A job with parts is done when its last part has left the network, and of
-    several at that time by the node that stands last in the report; one of which a join holds a part to the end has no sojourn, and is left out.
+    """Yields the way (Sojourn) of each job of a report with visits, in the order of records. A forked job is done when its last part leaves; of
+    several nodes left at that time, the last in the report counts. A job with a part that a join holds to the end has no sojourn and is left out.
 
     >>> import mpsim
     >>> from mpsim.planner.sojourns import sojourns
@@ -49,7 +49,7 @@ def sojourns(report):
     came, source = array("q", [-1]) * count, array("b", [0]) * count
     end, where, lost = array("q", [-1]) * count, array("b", [0]) * count, bytearray(count)
     held = set()
-    # Nodes are in the order of the network: what a job visits later stands behind, and a job leaves at its last visit among those of the latest end.
+    # Nodes are in the order of the network: a job visits later nodes later, and leaves at the last of its visits with the latest end.
     for number, node in enumerate(report.nodes):
         visits = report.visits[node.name]
         if node.kind == "source":
@@ -61,17 +61,17 @@ def sojourns(report):
             gone = arrive if wait < 0 else depart
             if gone >= end[job]:
                 end[job], where[job], lost[job] = gone, number, wait < 0
-    names = [it.name for it in report.nodes]
+    names = [node.name for node in report.nodes]
     for job in range(1, count):
         if job not in held:
             yield Sojourn(job, names[source[job]], came[job], names[where[job]], bool(lost[job]), end[job] - came[job])
 
 
 def table(report, by="both", within=(), percents=PERCENTS):
-    """The header and the rows (lists) of a table of a report with visits, in the order of its nodes: for each source and each node where jobs left
-    (`by` "both"), for each of one of them ("source", "end"), or for all jobs ("all"), how many they were, the mean of their sojourns to three digits,
-    percentiles and the greatest, and the share of them that was in the network for at most so many ticks, to six digits. Who left by being lost is
-    counted apart where rows are by the end.
+    """Yields the header and the rows (lists) of a table of a report with visits, in the order of its nodes. Rows are per source and node where jobs
+    left (`by` "both"), per source ("source"), per node ("end"), or for all jobs ("all"). Each has the number of jobs, the mean of their sojourns to
+    three decimals, percentiles and the longest, and the share of at most each of `within` ticks, to six decimals. Rows by node list lost jobs
+    separately.
 
     >>> import mpsim
     >>> from mpsim.planner.sojourns import table
@@ -84,28 +84,27 @@ def table(report, by="both", within=(), percents=PERCENTS):
     is_by_source, is_by_end = by in ("both", "source"), by in ("both", "end")
     rank = {it.name: at for at, it in enumerate(report.nodes)}
     found = {}
-    for it in sojourns(report):
-        key = (rank[it.source] if is_by_source else -1, rank[it.left_at] if is_by_end else -1, it.lost and is_by_end)
-        found.setdefault(key, array("q")).append(it.sojourn)
+    for sojourn in sojourns(report):
+        key = (rank[sojourn.source] if is_by_source else -1, rank[sojourn.left_at] if is_by_end else -1, sojourn.lost and is_by_end)
+        found.setdefault(key, array("q")).append(sojourn.sojourn)
     heads = ["source"] * is_by_source + ["left_at", "how"] * is_by_end
-    yield [*heads, "jobs", "mean_sojourn", *(f"p{it:.15g}" for it in percents), "max", *(f"within_{it}" for it in within)]
-    names = [it.name for it in report.nodes]
+    yield [*heads, "jobs", "mean_sojourn", *(f"p{percent:.15g}" for percent in percents), "max", *(f"within_{item}" for item in within)]
+    names = [node.name for node in report.nodes]
     for (source, end, is_lost), times in sorted(found.items()):
         times = sorted(times)
         shown = [names[source]] * is_by_source + [names[end], "lost" if is_lost else "left"] * is_by_end
-        shares = [round(bisect_right(times, it) / len(times), 6) for it in within]
-        yield [*shown, len(times), round(sum(times) / len(times), 3), *(percentile_of(times, it) for it in percents), times[-1], *shares]
+        shares = [round(bisect_right(times, item) / len(times), 6) for item in within]
+        yield [*shown, len(times), round(sum(times) / len(times), 3), *(percentile_of(times, percent) for percent in percents), times[-1], *shares]
 
 
 def each(report):
-    """The header and the rows (lists) of a table with a row a job."""
+    """Yields the header and the rows (lists) of a table with a row per job."""
     yield ["job", "source", "came", "left_at", "how", "sojourn"]
-    for it in sojourns(report):
-        yield [it.job, it.source, it.came, it.left_at, "lost" if it.lost else "left", it.sojourn]
+    for sojourn in sojourns(report):
+        yield [sojourn.job, sojourn.source, sojourn.came, sojourn.left_at, "lost" if sojourn.lost else "left", sojourn.sojourn]
 
 
-def main(asked):
-    report = reports.report_of(asked)
-    rows = each(report) if asked.each else list(table(report, asked.by, asked.within or (), asked.percentile or PERCENTS))
-    with written() as file:
-        csv.writer(file, lineterminator="\n").writerows(rows)
+def main(args):
+    report = reports.report_of(args)
+    rows = each(report) if args.each else list(table(report, args.by, args.within or (), args.percentile or PERCENTS))
+    sheets.write(rows, args.format, args.csv_style)

@@ -1,86 +1,109 @@
-"""The command `planner sweep`: many variants of a model, over one trace or several, here or on other machines, in one table."""
+"""The command `mpplan sweep`: runs many variants of a model over one or more traces, here or on other machines, and makes one table."""
 
-import csv
 import os
 import shlex
 
 from ..errors import Error
-from ..runs import scenarios, sweep_text
-from ..sweeps import Sweep, scenarios_of
-from . import shards
+from ..runs import run, scenarios, sweep_text
+from ..sweeps import Scenario, Sweep, scenarios_of
+from . import shards, sheets
+from .anew import anew, pools_in, varied
 from .elsewhere import by_parallel, by_slurm
 from .files import judge_outputs, say, written
 from .pooled import PoolLines, names_of, visits_at
 from .progress import Progress
 from .scenarios import Plan, files_of, sets_of
 from .service import ticks
-from .traces import header_of, pool_warning
+from .traces import Trace, header_of, locating_errors, pool_warning
 
-EXAMPLE = """planner sweep model.txt trace.csv --set agents=20..40 --page sweep.html >table.csv
-         planner sweep model.txt monday.csv --trace tuesday.csv --set agents=20..40 --folder sweep --parallel='--jobs 4' >table.csv
-         planner sweep --folder sweep --resume >table.csv"""
+EXAMPLE = """mpplan sweep model.txt trace.csv --set agents=20..40 --page sweep.html >table.csv
+         mpplan sweep model.txt monday.csv --trace tuesday.csv --set agents=20..40 --folder sweep --parallel='--jobs 4' >table.csv
+         mpplan sweep --folder sweep --resume >table.csv"""
 
 
 def words(parser):
-    parser.add_argument("model", nargs="?", help="a model in which {NAME} stands for a value of --set")
-    parser.add_argument("trace", nargs="?")
-    parser.add_argument("--set", action="append", default=[], metavar="NAME=VALUES", help="20..40, 20..40..5 or 1,2,5; each with each of others")
-    parser.add_argument("--model", dest="models", action="extend", nargs="+", default=[], metavar="FILE", help="further models, or a pattern of them")
-    parser.add_argument("--trace", dest="traces", action="extend", nargs="+", default=[], metavar="FILE", help="further traces, or a pattern of them")
-    alone = "rows of this node, or pool, alone; may be repeated; --folder keeps it"
+    parser.add_argument("model", nargs="?", help="a model in which {NAME} is replaced by a value of --set")
+    parser.add_argument("trace", nargs="?", help="its trace")
+    ranges = "values of NAME: a range (20..40), a range with a step (20..40..5) or a list (1,2,5); several --set run every combination"
+    parser.add_argument("--set", action="append", default=[], metavar="NAME=VALUES", help=ranges)
+    says = "further models, or a pattern such as variants/*.txt"
+    parser.add_argument("--model", dest="models", action="extend", nargs="+", default=[], metavar="FILE", help=says)
+    says = "further traces, or a pattern such as days/*.csv"
+    parser.add_argument("--trace", dest="traces", action="extend", nargs="+", default=[], metavar="FILE", help=says)
+    alone = "only rows of this node or pool; may be repeated; --folder stores it with the sweep"
     parser.add_argument("--node", action="append", default=[], metavar="NAME", help=alone)
-    parser.add_argument("--within", type=ticks, metavar="TICKS", help="with two columns of the share served within so many ticks; takes longer")
-    parser.add_argument("--page", metavar="FILE", help="an HTML file with curves over the values as well")
-    folder = parser.add_argument_group("any number of scenarios, on any machines")
-    folder.add_argument("--folder", metavar="FOLDER", help="keeps the sweep there, cut into shards of up to 64 models")
-    folder.add_argument("--parallel", metavar="OPTIONS", nargs="?", const="", help="by GNU parallel, as --parallel='--sshlogin a,b --jobs 4'")
-    folder.add_argument("--slurm", metavar="OPTIONS", nargs="?", const="", help="as an array of Slurm, with these options of sbatch")
-    folder.add_argument("--resume", action="store_true", help="goes on with the sweep of the folder: runs what isn't done, or is damaged")
-    folder.add_argument("--table", action="store_true", help="runs nothing: the table of what is done")
-    folder.add_argument("--shard", type=int, metavar="N", help="runs one shard, and writes no table")
+    parser.add_argument("--within", type=ticks, metavar="TICKS", help="add two columns with the share served within this many ticks; takes longer")
+    parser.add_argument("--page", metavar="FILE", help="also write an HTML page with curves over the values")
+    sheets.style_words(parser)
+    folder = parser.add_argument_group("sweeps of any size, on any machines")
+    folder.add_argument("--folder", metavar="FOLDER", help="keep the sweep in this directory, cut into shards of up to 64 models")
+    says = "run the shards with GNU parallel, e.g. --parallel='--sshlogin a,b --jobs 4'"
+    folder.add_argument("--parallel", metavar="OPTIONS", nargs="?", const="", help=says)
+    folder.add_argument("--slurm", metavar="OPTIONS", nargs="?", const="", help="run the shards as a Slurm array, with these options of sbatch")
+    folder.add_argument("--resume", action="store_true", help="continue the sweep of --folder: run the shards that are missing or damaged")
+    folder.add_argument("--table", action="store_true", help="run nothing; write the table of the shards that are done")
+    folder.add_argument("--shard", type=int, metavar="N", help="run one shard, and write no table")
 
 
-def _judged(asked):
-    """Raises ValueError where words don't go together."""
-    goes_on = asked.resume or asked.table or asked.shard is not None
-    if asked.folder is None and (goes_on or asked.parallel is not None or asked.slurm is not None):
-        raise ValueError("--parallel, --slurm, --resume, --table and --shard want a --folder")
-    if asked.folder is not None and (asked.page or asked.within is not None):
-        raise ValueError("--page and --within go without --folder: they are made of what memory holds")
-    if goes_on and (asked.model or asked.set or asked.models or asked.traces):
-        raise ValueError(f"{asked.folder} knows its models, values and traces: none is given with --resume, --table or --shard")
-    if asked.parallel is not None and asked.slurm is not None:
-        raise ValueError("--parallel and --slurm are two ways: one of them is given")
+def _judged(args):
+    """Raises ValueError for arguments that exclude each other."""
+    goes_on = args.resume or args.table or args.shard is not None
+    if args.folder is None and (goes_on or args.parallel is not None or args.slurm is not None):
+        raise ValueError("--parallel, --slurm, --resume, --table and --shard require --folder")
+    if args.folder is not None and (args.page or args.within is not None):
+        raise ValueError("--page and --within can't be used with --folder: they are made from what memory holds")
+    if goes_on and (args.model or args.set or args.models or args.traces):
+        raise ValueError(f"{args.folder} already has its models, values and traces: give none with --resume, --table or --shard")
+    if args.parallel is not None and args.slurm is not None:
+        raise ValueError("--parallel and --slurm exclude each other: give one of them")
 
 
-def _plan(asked):
-    models, traces = ([it] if it else [] for it in (asked.model, asked.trace))
-    models, traces = files_of([*models, *asked.models]), files_of([*traces, *asked.traces])
-    judge_outputs([asked.page], {"model": models, "trace": traces})
-    plan = Plan.of(models, sets_of(asked.set), traces, asked.node)
-    for it in plan.traces:
-        if warning := pool_warning(it["path"], header_of(it["path"])):
+def _plan(args):
+    models, traces = ([item] if item else [] for item in (args.model, args.trace))
+    models, traces = files_of([*models, *args.models]), files_of([*traces, *args.traces])
+    judge_outputs([args.page], {"model": models, "trace": traces})
+    plan = Plan.of(models, sets_of(args.set), traces, args.node)
+    for trace in plan.traces:
+        if again := _again(plan, trace):
+            if args.folder is not None:
+                names = " and ".join(again)
+                why = f"{trace['path']} holds the waits at {names} for one number of agents, and the models have several"
+                raise ValueError(f"{why}: without --folder they are worked out again for each")
+            say(f"the waits at {' and '.join(again)} are worked out again for each number of agents")
+        elif warning := pool_warning(trace["path"], header_of(trace["path"])):
             say(warning)
     return plan
 
 
+def _again(plan, trace):
+    """Returns the pools (list of str) whose number of agents varies over the models of a plan, if the trace has their waits."""
+    header = header_of(trace["path"])
+    if pool_warning(trace["path"], header) is None:
+        return []
+    return varied((plan.model(at)[2] for at in range(plan.each)), Trace(trace["path"], header, []))
+
+
 def _shares(report, ticks, nodes):
-    """For each row of a report the two shares that are served within so many ticks."""
-    for it in visits_at(report, names_of(report, nodes)):
-        shares = it.share_within(ticks), it.share_within(ticks, departed=True)
+    """Yields, for each row of a report, the two shares served within this many ticks."""
+    for visit in visits_at(report, names_of(report, nodes)):
+        shares = visit.share_within(ticks), visit.share_within(ticks, departed=True)
         yield [None if share is None else round(share, 6) for share in shares]
 
 
-def _tell_pools(told, how):
-    """Says what was seen of pools (PoolLines), and where figures of them lack how they come to be there."""
-    for line in [*told.lines(), *told.lacks(how)]:
+def _print_pools(pool_notes, how):
+    """Prints what was collected about pools (PoolLines), and how to get their missing figures."""
+    for line in [*pool_notes.lines(), *pool_notes.lacks(how)]:
         say(line)
 
 
-def _scenarios(plan, shard, with_jobs):
-    """The scenarios of a shard, each as it comes, and the numbers of their models."""
+def _scenarios(plan, shard, with_jobs, again):
+    """Yields the scenarios of a shard as they come, with the numbers of their models. `again` has the paths of traces whose pools are worked out
+    again for each model."""
     trace, models = plan.shard(shard)
-    texts = [plan.model(it)[2].encode(errors="surrogateescape") for it in models]
+    if trace["path"] in again:
+        yield from _pooled_again(plan, trace, models, with_jobs)
+        return
+    texts = [plan.model(model)[2].encode(errors="surrogateescape") for model in models]
     if with_jobs:
         yield from zip(models, scenarios(trace["path"], texts, jobs=True))
         return
@@ -88,49 +111,65 @@ def _scenarios(plan, shard, with_jobs):
         yield from zip(models, scenarios_of(stream, range(len(texts))))
 
 
-def _in_memory(asked):
-    """One shard after another; rows are written as they come, and reports kept for a page alone."""
-    plan, kept, refused, told = _plan(asked), Sweep(), False, PoolLines(asked.node)
+def _pooled_again(plan, trace, models, with_jobs):
+    """Yields the scenarios of models with different numbers of agents: each is run with the agents and the waits of its own number."""
+    whole = Trace.read(trace["path"])
+    for at in models:
+        label, _, text = plan.model(at)
+        try:
+            with locating_errors(whole):
+                mine = anew(whole, pools_in(text, whole))
+                report = run(text.encode(errors="surrogateescape"), mine.lines(), jobs=with_jobs)
+        except Error as error:
+            yield at, Scenario(label, error.status, None, error)
+            continue
+        yield at, Scenario(label, 0, report, None)
+
+
+def _in_memory(args):
+    """Runs one shard after another. Rows are written as they come; reports are kept only for a page."""
+    plan, kept, refused, pool_notes = _plan(args), Sweep(), False, PoolLines(args.node)
     head = plan.head()
-    if asked.within is not None:
-        head[-1:-1] = [f"within_{asked.within}_of_all", f"within_{asked.within}_of_departed"]
-    with written() as file, Progress(plan.scenarios, "scenarios") as tell:
-        writer, done = csv.writer(file, lineterminator="\n"), 0
+    if args.within is not None:
+        head[-1:-1] = [f"within_{args.within}_of_all", f"within_{args.within}_of_departed"]
+    with written() as file, Progress(plan.scenarios, "scenarios") as progress:
+        writer, done = sheets.Writer(file, args.csv_style), 0
+        again = {trace["path"] for trace in plan.traces if _again(plan, trace)}
         writer.writerow(head)
         for shard in range(1, plan.shards + 1):
             trace = plan.shard(shard)[0]
-            for at, it in _scenarios(plan, shard, asked.within is not None):
-                found = shards.rows_of(plan, trace, at, it, told, asked.node)
-                if asked.within is not None:
-                    shares = _shares(it.report, asked.within, asked.node) if it.report is not None else [[None, None]]
+            for at, it in _scenarios(plan, shard, args.within is not None, again):
+                found = shards.rows_of(plan, trace, at, it, pool_notes, args.node)
+                if args.within is not None:
+                    shares = _shares(it.report, args.within, args.node) if it.report is not None else [[None, None]]
                     found = [[*row[:-1], *both, row[-1]] for row, both in zip(found, shares)]
                 writer.writerows(found)
                 refused, done = refused or it.status != 0, done + 1
-                if asked.page:
+                if args.page:
                     kept[_label(plan, trace, at)] = it
-                tell(done)
-    _tell_pools(told, "planner sweep has them with --within")
-    if asked.page:
-        kept.save(asked.page, title=" ".join(asked.set) or None, within=asked.within)
+                progress(done)
+    _print_pools(pool_notes, "give mpplan sweep --within")
+    if args.page:
+        kept.save(args.page, title=" ".join(args.set) or None, within=args.within)
     return 11 if refused else 0
 
 
 def _label(plan, trace, at):
-    """What a scenario is called on the page: its values, with the names of its model and its trace where there are several."""
+    """Returns the label of a scenario on the page: its values, with the names of its model and its trace if there are several."""
     label, values, _ = plan.model(at)
-    words = [trace["label"]] * (len(plan.traces) > 1) + [label] * (len(plan.models) > 1 or not values) + [str(it) for it in values.values()]
+    words = [trace["label"]] * (len(plan.traces) > 1) + [label] * (len(plan.models) > 1 or not values) + [str(value) for value in values.values()]
     return ", ".join(words)
 
 
 def _cleared(folder):
-    """Takes away what is damaged, to be run again, and what killed runs of this machine left."""
+    """Removes damaged shards, so that they run again, and what killed runs on this machine left behind."""
     for shard in range(1, folder.plan.shards + 1):
         try:
             folder.text(shard)
         except FileNotFoundError:
             pass
-        except ValueError as fault:
-            say(f"{fault}; it is run again")
+        except ValueError as error:
+            say(f"{error}; it is run again")
             os.unlink(folder.file(shard))
     for path in folder.parts():
         if folder.is_left(path):
@@ -138,46 +177,46 @@ def _cleared(folder):
 
 
 def _here(folder, lacking):
-    """Runs one shard after another. One that fails lets the others run."""
-    with Progress(len(lacking), "shards") as tell:
+    """Runs one shard after another. If one fails, the others still run."""
+    with Progress(len(lacking), "shards") as progress:
         for done, shard in enumerate(lacking):
-            tell(done)
+            progress(done)
             try:
                 shards.run_shard(folder, shard)
-            except (Error, OSError, ValueError) as fault:
-                say(f"shard {shard}: {shards.told_of(fault)}")
+            except (Error, OSError, ValueError) as error:
+                say(f"shard {shard}: {shards.one_line(error)}")
 
 
-def _run(asked, folder):
-    if asked.resume:
+def _run(args, folder):
+    if args.resume:
         _cleared(folder)
     lacking = folder.lacking()
     say(f"{folder.plan.scenarios:,} scenarios in {folder.plan.shards:,} shards, {len(lacking):,} to run")
-    if lacking and asked.parallel is not None:
-        by_parallel(folder, lacking, shlex.split(asked.parallel))
-    elif lacking and asked.slurm is not None:
-        by_slurm(folder, lacking, shlex.split(asked.slurm))
+    if lacking and args.parallel is not None:
+        by_parallel(folder, lacking, shlex.split(args.parallel))
+    elif lacking and args.slurm is not None:
+        by_slurm(folder, lacking, shlex.split(args.slurm))
     else:
         _here(folder, lacking)
 
 
 def ranges(numbers, most=20):
-    """Rising numbers as text, "1-3, 7" of 1, 2, 3 and 7; no more than so many pieces."""
+    """Returns rising numbers as text, such as "1-3, 7" for 1, 2, 3 and 7, in at most this many pieces."""
     pieces = []
-    for it in numbers:
-        if pieces and pieces[-1][1] == it - 1:
-            pieces[-1][1] = it
+    for number in numbers:
+        if pieces and pieces[-1][1] == number - 1:
+            pieces[-1][1] = number
         else:
-            pieces.append([it, it])
+            pieces.append([number, number])
     text = ", ".join(f"{first}-{last}" if first < last else str(first) for first, last in pieces[:most])
     return text + (f" and {len(pieces) - most} more" if len(pieces) > most else "")
 
 
-def _tell_lacking(folder, damaged):
-    """Says which shards aren't in the table, and why. How many they are."""
+def _print_missing(folder, damaged):
+    """Prints which shards are missing from the table, and why. Returns their number."""
     whys = {}
     for shard in sorted({*folder.lacking(), *damaged}):
-        why = damaged.get(shard, "nothing is left: not begun, or killed, or its disk was full, or its machine vanished")
+        why = damaged.get(shard, "it left nothing: not started, or killed, or its disk was full, or its machine disappeared")
         if shard not in damaged and os.path.exists(folder.failure(shard)):
             with open(folder.failure(shard), encoding="utf-8", errors="replace") as file:
                 why = file.read().strip()
@@ -186,43 +225,43 @@ def _tell_lacking(folder, damaged):
         say(f"{'shards' if len(listed) > 1 else 'shard'} {ranges(listed)}: {why}")
     missing = sum(map(len, whys.values()))
     if missing:
-        again = f"planner sweep --folder {shlex.quote(folder.path)} --resume"
-        say(f"{missing:,} of {folder.plan.shards:,} shards aren't in the table: {again} runs them")
+        again = f"mpplan sweep --folder {shlex.quote(folder.path)} --resume"
+        say(f"{missing:,} of {folder.plan.shards:,} shards are missing from the table: {again} runs them")
         parts = len(folder.parts())
         if parts:
-            several = f"{parts:,} files .part are of shards that still run, or were killed"
-            say(several if parts > 1 else "1 file .part is of a shard that still runs, or was killed")
+            several = f"{parts:,} .part files belong to shards that are still running, or were killed"
+            say(several if parts > 1 else "1 .part file belongs to a shard that is still running, or was killed")
     return missing
 
 
-def _in_folder(asked):
-    if asked.resume or asked.table or asked.shard is not None:
-        folder = shards.Folder.read(asked.folder)
+def _in_folder(args):
+    if args.resume or args.table or args.shard is not None:
+        folder = shards.Folder.read(args.folder)
         # A shard has no rows.
-        if asked.shard is None:
-            folder.plan.judge_nodes(asked.node)
+        if args.shard is None:
+            folder.plan.judge_nodes(args.node)
     else:
-        folder = shards.Folder.begun(asked.folder, _plan(asked))
-    if asked.shard is not None:
-        if not 1 <= asked.shard <= folder.plan.shards:
-            raise ValueError(f"--shard {asked.shard}: {asked.folder} has shards 1 to {folder.plan.shards}")
-        # Slurm begins a task again whose machine vanished: what is done stays.
-        if not os.path.exists(folder.file(asked.shard)):
-            shards.run_shard(folder, asked.shard)
+        folder = shards.Folder.begun(args.folder, _plan(args))
+    if args.shard is not None:
+        if not 1 <= args.shard <= folder.plan.shards:
+            raise ValueError(f"--shard {args.shard}: {args.folder} has shards 1 to {folder.plan.shards}")
+        # Slurm restarts a task whose machine disappeared: finished shards stay.
+        if not os.path.exists(folder.file(args.shard)):
+            shards.run_shard(folder, args.shard)
         return 0
-    if not asked.table:
-        _run(asked, folder)
-    nodes = asked.node or folder.plan.nodes
-    damaged, refused, status, told = {}, False, folder.plan.head().index("status"), PoolLines(nodes)
+    if not args.table:
+        _run(args, folder)
+    nodes = args.node or folder.plan.nodes
+    damaged, refused, status, pool_notes = {}, False, folder.plan.head().index("status"), PoolLines(nodes)
     with written() as file:
-        writer = csv.writer(file, lineterminator="\n")
-        for at, row in enumerate(shards.gather(folder, damaged, told, nodes)):
+        writer = sheets.Writer(file, args.csv_style)
+        for at, row in enumerate(shards.gather(folder, damaged, pool_notes, nodes)):
             writer.writerow(row)
             refused = refused or at > 0 and row[status] != 0
-    _tell_pools(told, "planner sweep has them with --within, and without --folder")
-    return 1 if _tell_lacking(folder, damaged) else 11 if refused else 0
+    _print_pools(pool_notes, "give mpplan sweep --within, without --folder")
+    return 1 if _print_missing(folder, damaged) else 11 if refused else 0
 
 
-def main(asked):
-    _judged(asked)
-    return _in_memory(asked) if asked.folder is None else _in_folder(asked)
+def main(args):
+    _judged(args)
+    return _in_memory(args) if args.folder is None else _in_folder(args)

@@ -1,49 +1,50 @@
-"""A report or a sweep as a table, for spreadsheets."""
+"""Makes tables for spreadsheets from a report or a sweep."""
 
-import csv
 
 from ..lines import NUMBERS
 from ..node_visits import Visit
 from ..runs import run
 from ..sweeps import Sweep, load
-from .files import say, written
+from . import sheets
+from .files import say
 from .pooled import names_of, pool_lines, visits_at, with_pools
 
-EXAMPLE = """planner table report.txt >nodes.csv
-         planner table model.txt trace.csv --of visits --node desk >visits.csv
-         mpsweep trace.csv agents-*.txt | planner table /dev/stdin --node desk --labels agents-*.txt >table.csv"""
+EXAMPLE = """mpplan table report.txt >nodes.csv
+         mpplan table model.txt trace.csv --of visits --node desk >visits.csv
+         mpsweep trace.csv agents-*.txt | mpplan table /dev/stdin --node desk --labels agents-*.txt >table.csv"""
 
 
 def words(parser):
-    parser.add_argument("report", help="a report, or a sweep; or a model")
-    parser.add_argument("trace", nargs="?", help="behind a model: its trace, which is run")
-    parser.add_argument("--of", choices=["nodes", "exits", "visits"], default="nodes")
-    parser.add_argument("--node", action="append", default=[], metavar="NAME", help="rows of this node, or pool, alone; may be repeated")
-    parser.add_argument("--labels", nargs="+", metavar="LABEL", help="what the scenarios of a sweep are called, as the names of their models")
+    parser.add_argument("report", help="a report or a sweep, or a model")
+    parser.add_argument("trace", nargs="?", help="after a model: the trace to run through it")
+    parser.add_argument("--of", choices=["nodes", "exits", "visits"], default="nodes", help="one row per node, exit or visit; default: nodes")
+    parser.add_argument("--node", action="append", default=[], metavar="NAME", help="only rows of this node or pool; may be repeated")
+    parser.add_argument("--labels", nargs="+", metavar="LABEL", help="labels for the scenarios of a sweep, e.g. the names of their models")
+    sheets.words(parser)
 
 
 def heads(of="nodes"):
-    """The names of the columns (list of str)."""
+    """Returns the names of the columns (list of str)."""
     return {"nodes": ["node", "kind", *NUMBERS], "exits": ["node", "output", "jobs", "sojourn"], "visits": list(Visit._fields)}[of]
 
 
 def rows(report, of="nodes", nodes=()):
-    """The rows (lists) of a report: of its nodes, its exits or its visits, in the order of its lines, where `nodes` are named of those alone. A pool
-    stands in place of its queue and its trunk group, but for exits (`pooled.with_pools`). A figure that there isn't is None. Raises ValueError for a
-    node that isn't there, and where there are no visits."""
+    """Returns the rows (lists) of a report's nodes, exits or visits, in its order; only those of `nodes` if there are any. A pool replaces its queue
+    and its trunk group, except for exits (`pooled.with_pools`). Missing figures are None. Raises ValueError for an unknown node, and if there are no
+    visits."""
     names = names_of(report, nodes)
     if of == "visits" and report.visits is None and report.jobs:
-        raise ValueError("the report has no lines of jobs: mpsim writes them with --jobs")
+        raise ValueError("the report has no job lines: run mpsim with --jobs")
     if of == "visits":
-        return (list(it) for visits in (visits_at(report, names) if report.visits else ()) for it in visits)
+        return (list(visit) for visits in (visits_at(report, names) if report.visits else ()) for visit in visits)
     if of == "exits":
-        return (list(it) for it in report.exits if not nodes or it.name in nodes)
-    return ([*it[:-1], None if it.util is None else f"{it.util:.4f}"] for it in with_pools(report, nodes).values())
+        return (list(item) for item in report.exits if not nodes or item.name in nodes)
+    return ([*with_pool[:-1], None if with_pool.util is None else f"{with_pool.util:.4f}"] for with_pool in with_pools(report, nodes).values())
 
 
 def table(told, of="nodes", nodes=(), head="scenario"):
-    """The header and the rows (lists) of a report or a sweep. Those of a sweep have in front the label, the status and the span of their scenario,
-    and at the end what is told of one that is refused, which has one row.
+    """Yields the header and the rows (lists) of a report or a sweep. Rows of a sweep begin with the label, the status and the span of their scenario,
+    and end with the error line of a refused one, which has one row.
 
     >>> import mpsim
     >>> from mpsim.planner.table import table
@@ -56,8 +57,8 @@ def table(told, of="nodes", nodes=(), head="scenario"):
     names = heads(of)
     if not isinstance(told, Sweep):
         return _with_head(names, rows(told, of, nodes))
-    # Each scenario is asked before a row is written.
-    found = [(it, rows(it.report, of, nodes) if it.report is not None else None) for it in told.values()]
+    # All scenarios are checked before a row is written.
+    found = [(item, rows(item.report, of, nodes) if item.report is not None else None) for item in told.values()]
     return _with_head([head, "status", "span", *names, "refusal"], _of_scenarios(found, len(names)))
 
 
@@ -74,17 +75,16 @@ def _of_scenarios(found, count):
             yield from ([it.label, it.status, it.report.span, *row, None] for row in mine)
 
 
-def main(asked):
-    if asked.trace is not None:
-        told = run(asked.report, asked.trace, jobs=asked.of == "visits")
+def main(args):
+    if args.trace is not None:
+        content = run(args.report, args.trace, jobs=args.of == "visits")
     else:
-        told = load(asked.report, asked.labels)
-    if asked.labels and not isinstance(told, Sweep):
-        raise ValueError("--labels are those of a sweep, and this is one report")
-    # Each report is asked before a row is written.
-    found = table(told, asked.of, asked.node)
-    reports = list(told.reports().values()) if isinstance(told, Sweep) else [told]
-    for line in pool_lines(reports, asked.node, asked.of == "nodes") if asked.of != "exits" else ():
+        content = load(args.report, args.labels)
+    if args.labels and not isinstance(content, Sweep):
+        raise ValueError("--labels needs a sweep, but this is a single report")
+    # All reports are checked before a row is written.
+    found = table(content, args.of, args.node)
+    reports = list(content.reports().values()) if isinstance(content, Sweep) else [content]
+    for line in pool_lines(reports, args.node, args.of == "nodes") if args.of != "exits" else ():
         say(line)
-    with written() as file:
-        csv.writer(file, lineterminator="\n").writerows(found)
+    sheets.write(found, args.format, args.csv_style)

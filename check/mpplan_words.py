@@ -1,10 +1,10 @@
 #!/usr/bin/env python3
-"""The words of the command `planner`, as its own parsers have them, in the forms of its man page and its completions.
+"""Writes the man page's COMMANDS and the completions of `mpplan` from its argument parsers.
 
-usage: check/planner_words.py     in any folder
+usage: check/mpplan_words.py     in any directory
 
-Writes the section COMMANDS of docs/planner.1, and completions/planner.bash and completions/_planner. `check/run options` compares them with what the
-parsers say, so that a word that is added or changed is followed by a call of this.
+Writes the section COMMANDS of docs/mpplan.1, and completions/mpplan.bash and completions/_mpplan. Run it whenever an argument or a help text
+changes: `check/run options` compares the three files with the parsers.
 """
 import argparse
 import pathlib
@@ -18,15 +18,15 @@ sys.dont_write_bytecode = True
 from mpsim.planner import COMMANDS, command
 from mpsim.planner.service import Once
 
-MANUAL, BASH, ZSH = ROOT / "docs" / "planner.1", ROOT / "completions" / "planner.bash", ROOT / "completions" / "_planner"
-# A value that is named so is a file, and what is asked once has one of these actions.
+MANUAL, BASH, ZSH = ROOT / "docs" / "mpplan.1", ROOT / "completions" / "mpplan.bash", ROOT / "completions" / "_mpplan"
+# Values with these names are files. Options with one of these actions may be repeated.
 FILES, REPEATED = ("FILE", "FOLDER", "MODEL"), (argparse._AppendAction, argparse._ExtendAction, Once)
-# The words of `planner` itself, which have no command in front.
+# Options of `mpplan` itself, without a command.
 OWN = "--help", "--version"
 
-BASH_SCRIPT = """# Completions of planner for bash. Source this file, or put it into the folder of completions under the name planner.
-# check/planner_words.py writes it.
-_planner() {{
+BASH_SCRIPT = """# Bash completions for mpplan. Source this file, or install it as `mpplan` in the directory of completions.
+# Written by check/mpplan_words.py.
+_mpplan() {{
     local word=${{COMP_WORDS[COMP_CWORD]}} i choices='' given=' ' options='' repeated=' ' left=''
     COMPREPLY=()
     if ((COMP_CWORD == 1)); then
@@ -43,7 +43,7 @@ _planner() {{
         return
     fi
     if [[ $word == -* ]]; then
-        # Most options may stand once.
+        # Most options may be given once.
         for ((i = 2; i < COMP_CWORD; i++)); do
             given+="${{COMP_WORDS[i]}} "
         done
@@ -55,10 +55,10 @@ _planner() {{
     fi
     compopt -o default
 }}
-complete -F _planner planner
+complete -F _mpplan mpplan ./mpplan
 """
-ZSH_SCRIPT = """#compdef planner
-# Completions of planner for zsh. Put this file into a folder of fpath. check/planner_words.py writes it.
+ZSH_SCRIPT = """#compdef mpplan
+# Zsh completions for mpplan. Put this file into a directory of fpath. Written by check/mpplan_words.py.
 local -a commands
 commands=(
 {commands})
@@ -76,40 +76,40 @@ case $command in
 
 
 class Word:
-    """A word of a command: `name` (str), `option` (bool), `help` (str), whether it may be `repeated` or has to be there (`required`), and its values:
-    their names (`values`, a list of str), how many they are (`count`, int, or ? or + as argparse has it), those that there are (`choices`, a list of
-    str) and whether they are `files`."""
+    """An argument of a command: its `name` (str), whether it is an `option` (bool), its `help` (str), whether it may be `repeated` and is `required`
+    (bool), the names of its `values` (list of str), their `count` (int, or ? or + as in argparse), its `choices` (list of str), and whether the
+    values are `files` (bool)."""
 
     def __init__(self, action):
         self.option, self.help = bool(action.option_strings), " ".join((action.help or "").split())
         self.name = action.option_strings[-1] if self.option else action.metavar or action.dest
         self.count = 1 if action.nargs is None else action.nargs
-        # A list of figures is told in the help, and has a name.
-        self.choices, names = [str(it) for it in action.choices or ()], action.metavar if self.option else self.name
+        # A long list of choices has a name, and is in the help text.
+        self.choices, names = [str(choice) for choice in action.choices or ()], action.metavar if self.option else self.name
         self.values = [] if self.count == 0 else list(names) if isinstance(names, tuple) else [names or "|".join(self.choices)]
         self.repeated, self.required = isinstance(action, REPEATED), action.required
-        self.files = not self.option or self.values[:1] in [[it] for it in FILES]
+        self.files = not self.option or self.values[:1] in [[file] for file in FILES]
 
 
 def words_of(name):
-    """The words (list of Word) of a command."""
+    """Returns the arguments (list of Word) of a command."""
     own = command._parser(name)._subparsers._group_actions[0].choices[name]
-    return [Word(it) for it in own._actions if it.dest != "help"]
+    return [Word(action) for action in own._actions if action.dest != "help"]
 
 
 def example_of(name):
-    """The lines of a command's example."""
-    return [it.strip() for it in sys.modules[f"mpsim.planner.{name}"].EXAMPLE.splitlines()]
+    """Returns the lines of a command's example."""
+    return [line.strip() for line in sys.modules[f"mpsim.planner.{name}"].EXAMPLE.splitlines()]
 
 
 def roff(text):
-    """A text as a line of a man page has it."""
+    """Returns a text as a line of a man page."""
     text = text.replace("\\", "\\e").replace("--", "\\-\\-")
     return "\\&" + text if text[:1] in (".", "'") else text
 
 
 def term(word):
-    """What stands in front of a word's help."""
+    """Returns the line of a man page that precedes the help of an argument."""
     shown = {"+": f"{word.values[0] if word.values else ''}..", "?": f"[{word.values[0] if word.values else ''}]"}
     value = shown.get(word.count, " ".join(word.values))
     if not word.option:
@@ -119,79 +119,79 @@ def term(word):
 
 
 def manual():
-    """The lines of the section COMMANDS."""
+    """Yields the lines of the section COMMANDS."""
     yield ".SH COMMANDS"
     for name, says in COMMANDS.items():
         words = words_of(name)
-        yield from (f".SS {name}", f"It {roff(says)}.", ".PP", f".B planner {name}")
-        for it in words:
-            if not it.option or it.required:
-                yield term(it)
+        yield from (f".SS {name}", f"{roff(says[0].upper() + says[1:])}.", ".PP", f".B mpplan {name}")
+        for word in words:
+            if not word.option or word.required:
+                yield term(word)
         yield ".RI [ options ]"
-        for it in words:
-            yield from (".TP", term(it), *([roff(it.help)] if it.help else ()))
+        for item in words:
+            yield from (".TP", term(item), *([roff(item.help)] if item.help else ()))
         yield from (".PP", "For example:", ".PP", ".nf", ".RS", *map(roff, example_of(name)), ".RE", ".fi")
 
 
 def wrapped(text, indent, end=""):
-    """A text in lines of up to 140 characters, each but the last with this at its end, and each but the first with so many blanks in front."""
+    """Wraps a text at 140 characters. Each line but the last gets `end`, each but the first an indent of this many spaces."""
     lines = textwrap.wrap(text, 140, subsequent_indent=indent * " ", break_long_words=False, break_on_hyphens=False)
     return f"{end}\n".join(lines) + "\n"
 
 
 def bash():
-    """The completions for bash."""
-    options = {name: [it for it in words_of(name) if it.option] for name in COMMANDS}
+    """Returns the completions for bash."""
+    options = {name: [word for word in words_of(name) if word.option] for name in COMMANDS}
     each, choices, plain, files = "", "", set(), set()
     for name, words in options.items():
-        repeated = "".join(f"{it.name} " for it in words if it.repeated)
-        each += f"        {name})\n" + wrapped(f"            options='{' '.join(it.name for it in words)} --help'", 16)
+        repeated = "".join(f"{word.name} " for word in words if word.repeated)
+        each += f"        {name})\n" + wrapped(f"            options='{' '.join(word.name for word in words)} --help'", 16)
         each += (f"            repeated=' {repeated}'\n" if repeated else "") + "            ;;\n"
-        for it in words:
-            if it.choices:
-                choices += f"        {name}.{it.name}) choices='{' '.join(it.choices)}' ;;\n"
-            elif it.values and it.count != "?":
-                (files if it.files else plain).add(f"*.{it.name}")
-    # One name stands for a file or for something else, whatever the command.
+        for item in words:
+            if item.choices:
+                choices += f"        {name}.{item.name}) choices='{' '.join(item.choices)}' ;;\n"
+            elif item.values and item.count != "?":
+                (files if item.files else plain).add(f"*.{item.name}")
+    # An option takes files in all commands or in none.
     assert not plain & files, plain & files
     values = wrapped("        " + " | ".join(sorted(plain)) + ") return ;;", 12, " \\")
     return BASH_SCRIPT.format(commands=" ".join([*COMMANDS, *OWN]), each=each, choices=choices, values=values)
 
 
 def quoted(text):
-    """A text in quotes of a shell."""
+    """Quotes a text for a shell."""
     return "'" + text.replace("'", "'\\''") + "'"
 
 
 def zsh_word(word, place):
-    """A word as zsh's _arguments has it; `place` is that of one that is no option."""
+    """Returns an argument in the form of zsh's _arguments; `place` is the position of a positional argument."""
     action = f"({' '.join(word.choices)})" if word.choices else "_files" if word.files else " "
-    values = [f"{word.name[2:] if word.choices else it.replace(':', chr(92) + ':')}:{action}" for it in word.values]
+    values = [f"{word.name[2:] if word.choices else value.replace(':', chr(92) + ':')}:{action}" for value in word.values]
     if not word.option:
         return quoted({"+": "*", "?": f"{place}:"}.get(word.count, str(place)) + ":" + values[0])
-    # What stands behind a semicolon is for who reads more, and the choices are shown by themselves.
+    # The completion shows the help up to its first semicolon. Zsh lists the choices itself.
     text = word.help.partition(";")[0].replace(", ".join(word.choices) or "\n", "these")
     text = re.sub(r"([\[\]\\])", r"\\\1", text)
-    shown = {"+": [f":*-*:{it}" for it in values], "?": [f"::{it}" for it in values]}.get(word.count, [f":{it}" for it in values])
+    shown = {"+": [f":*-*:{value}" for value in values], "?": [f"::{value}" for value in values]}.get(word.count, [f":{value}" for value in values])
     return quoted("*" * word.repeated + word.name + "=-" * (word.count == "?") + f"[{text}]" + "".join(shown))
 
 
 def zsh():
-    """The completions for zsh."""
+    """Returns the completions for zsh."""
     each = ""
     for name in COMMANDS:
         words = words_of(name)
-        places = [it.name for it in words if not it.option]
+        places = [word.name for word in words if not word.option]
         each += f"    {name})\n        _arguments \\\n"
-        each += "".join(f"            {zsh_word(it, 0 if it.option else places.index(it.name) + 1)} \\\n" for it in words)
-        each += "            '--help[what the command does, and its words]' ;;\n"
+        each += "".join(f"            {zsh_word(word, 0 if word.option else places.index(word.name) + 1)} \\\n" for word in words)
+        each += "            '--help[show help and exit]' ;;\n"
     commands = "".join(f"    {quoted(f'{name}:{says}')}\n" for name, says in COMMANDS.items())
     return ZSH_SCRIPT.format(commands=commands, own=" ".join(map(quoted, OWN)), each=each)
 
 
 def with_commands(page):
-    """A man page (str) with the section COMMANDS as the parsers have it."""
-    made = "".join(f"{it}\n" for it in manual())
+    """Returns a man page (str) with its section COMMANDS made from the parsers."""
+    made = "".join(f"{item}\n" for item in manual())
     return re.sub(r"^\.SH COMMANDS\n.*?(?=^\.SH )", lambda _: made, page, flags=re.MULTILINE | re.DOTALL)
 
 

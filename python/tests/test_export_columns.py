@@ -1,0 +1,98 @@
+"""The columns of an export: sums and differences under one name, columns by number, and the row that is the header."""
+
+import unittest
+
+from ground import Test
+from test_prepare import prepare, table
+
+from mpsim.planner.exports import Export
+from mpsim.planner.expressions import terms
+
+HEAD = "Begin,Answered,End,Wrap,Hold (min)"
+
+
+class Sums(Test):
+    ROWS = table(
+        "2026-03-02 08:00:00,2026-03-02 08:00:30,2026-03-02 08:02:00,15,1",
+        "2026-03-02 09:00:00,2026-03-02 09:00:01,2026-03-02 09:00:01,0:00:20,0.5",
+        "2026-03-02 10:00:00,,2026-03-02 10:00:09,0,0",
+        "2026-03-02 11:00:00,2026-03-02 11:00:01,2026-03-02 11:00:02,3,1",
+        header=HEAD,
+    )
+
+    def made(self, *demand, **options):
+        made = prepare(self.ROWS, "Begin", demand=demand, decimal=".", **options)
+        return [column.tolist() for column in made.values], made.left
+
+    def test_times_and_lengths(self):
+        """90 seconds of talk and 15 of wrap-up; 0 and 20; and a caller who gave up."""
+        gone = {"Answered is empty": 1}
+        self.assertEqual(self.made("aht=End-Answered+Wrap"), ([[105, 20, 4]], gone))
+        self.assertEqual(self.made("aht=End-Answered+Wrap+Hold (min):min"), ([[165, 50, 64]], gone))
+        self.assertEqual(self.made("aht = End - Answered", "Wrap=aht"), ([[105, 20, 4]], gone))
+        self.assertEqual(self.made("wait=Answered-Begin"), ([[30, 1, 1]], gone))
+        self.assertEqual(self.made("talk=End-Begin-Wrap"), ([[105, 9]], {"End: talk is below 0": 2}))
+
+    def test_ends_and_demands_of_one_name(self):
+        made = prepare(self.ROWS, "Begin", end=["End=aht"], answered=["Answered"], demand=["Wrap=aht"], decimal=".")
+        self.assertEqual((made.header[2:], made.values[0].tolist()), (["aht"], [105, 20, 4]))
+        self.assertIn("aht is the sum of 'Wrap' and 'End'", made.told)
+
+    def test_it_is_rounded_once(self):
+        rows = table("2026-03-02 08:00:00,0.4,0.4", header="at,a,b")
+        self.assertEqual(prepare(rows, "at", demand=["d=a+b"]).values[0].tolist(), [1])
+        self.assertEqual(prepare(rows, "at", demand=["a=d", "b=d"]).values[0].tolist(), [0])
+
+    def test_clocks_need_units(self):
+        """A length in h:mm:ss looks like a time of day."""
+        rows = table("8:00:00,8:01:00,0:00:20", "23:59:50,0:00:20,0:00:20", header="at,end,wrap")
+        with self.assertRaisesRegex(ValueError, r"as many times must be subtracted as are added; a service time may need its unit, e.g. Wrap:s"):
+            prepare(rows, "at", demand=["d=end-at+wrap"])
+        self.assertEqual(sorted(prepare(rows, "at", demand=["d=end-at+wrap:s"]).values[0].tolist()), [50, 80])
+
+    def test_names_with_signs(self):
+        """The longest name counts, as it stands in the header."""
+        export = Export(b"After-call work,After,call work,a+b,a,b\n1,2,3,4,5,6\n")
+        for word, found in (
+            ("x=After-call work", [(1, 0, None)]),
+            ("x=After - call work:min", [(1, 1, None), (-1, 2, "min")]),
+            ("x=a+b-a", [(1, 3, None), (-1, 4, None)]),
+            ("x=a + b", [(1, 4, None), (1, 5, None)]),
+            ("x=#5+#6:h", [(1, 4, None), (1, 5, "h")]),
+        ):
+            self.assertEqual(terms(word, export), ("x", found))
+        for bad in "x", "x=", "x=y", "x=a+", "x=a+y", "X=a+b", "x=a*b", "x=+a":
+            self.assertIsNone(terms(bad, export))
+
+    def test_what_is_wrong(self):
+        for demand, says in (
+            ("x=End-Nothing", "no column 'x'; it has 'Begin'"),
+            ("x=End+Answered", "as many times must be subtracted as are added"),
+            ("time=End-Answered", "the column's name 'time' is reserved"),
+        ):
+            with self.assertRaisesRegex(ValueError, says):
+                self.made(demand)
+
+
+class Columns(Test):
+    def test_by_number(self):
+        rows = table("2026-03-02 08:00,x,5,7", header="when,when,long,long")
+        made = prepare(rows, "#1", demand=["#4=d", "#3=e:min"])
+        self.assertEqual(list(made.rows()), [("jobs", 0, 7, 300)])
+        with self.assertRaisesRegex(ValueError, "two columns are called 'when': write #1 or #2"):
+            prepare(rows, "when")
+        for bad in "#0", "#5", "#x":
+            with self.assertRaisesRegex(ValueError, f"no column '{bad}'"):
+                prepare(rows, bad)
+        # A column of that name comes first.
+        self.assertEqual(list(prepare(table("8:00,8:05", header="#2,b"), "#2", begin="8:00").times), [0])
+
+    def test_the_row_that_is_the_header(self):
+        rows = b"Report;;of March\nPeriod;02.03.2026;\n\nwhen;who;long;note\n02.03.2026 08:00;a;1;\n"
+        with self.assertRaisesRegex(ValueError, "no column 'when'; it has 'Report', '', 'of March'; row 4 looks like the header: --skip 3"):
+            prepare(rows, "when", demand=["long=d"])
+        self.assertEqual(list(prepare(rows, "when", demand=["long=d"], skip=3).rows()), [("jobs", 0, 1)])
+
+
+if __name__ == "__main__":
+    unittest.main()

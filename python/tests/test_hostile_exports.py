@@ -1,0 +1,145 @@
+"""Large, damaged and hostile exports and models: no more memory than their records take, one short line for each error, and nothing that is run."""
+
+import io
+import os
+import subprocess
+import sys
+import unittest
+import unittest.mock
+
+from commands import InFolder, planner
+from ground import ROOT
+from test_prepare import prepare, table
+
+from mpsim.model import nodes_of
+from mpsim.planner import elsewhere
+from mpsim.planner.scenarios import Plan, values_of
+
+# The peak of this process, and not that of the one that started it.
+PEAK = """import re, sys
+from mpsim.planner import main
+status = main(sys.argv[1:])
+print(status, int(re.search(r"VmHWM:\\s*(\\d+)", open("/proc/self/status").read())[1]) // 1024)
+"""
+
+
+def measured(*words, given=None):
+    """Runs `mpplan` in a process of its own. Returns its status, its peak of memory (MB) and its last line on stderr."""
+    settings = {**os.environ, "PYTHONPATH": str(ROOT / "python" / "src")}
+    command = [sys.executable, "-B", "-c", PEAK, *map(str, words)]
+    ran = subprocess.run(command, input=given, capture_output=True, env=settings, timeout=120, check=True)
+    status, peak = ran.stdout.decode().splitlines()[-1].split()
+    return int(status), int(peak), ran.stderr.decode().splitlines()[-1]
+
+
+class Large(InFolder):
+    def test_memory(self):
+        """Text of 60 MB from which a few records come takes no more memory than one of 60 kB, in each encoding and through a pipe."""
+        row = "2026-03-02 08:00:{:02},b,{}\n"
+        for letters, encoding in ("x", "ascii"), ("ě", "utf-8"), ("é", "cp1252"):
+            peaks = []
+            for count in 60, 60000:
+                export = self.folder / "large.csv"
+                with open(export, "w", encoding=encoding) as file:
+                    file.write("when,who,note\n")
+                    file.writelines(row.format(at % 60, letters * 1000).replace(",b,", ",a," if at < 10 else ",b,") for at in range(count))
+                words = "prepare", export, "--time", "when", "--where", "who=a", "--out", self.folder / "trace.csv"
+                status, peak, _ = measured(*words)
+                self.assertEqual((status, (self.folder / "trace.csv").read_text().count("\n")), (0, 11))
+                peaks.append(peak)
+            # The rows from which formats are detected stay in memory.
+            self.assertLess(peaks[1] - peaks[0], 60, (encoding, peaks))
+
+    def test_the_limit_of_records(self):
+        """Reading stops there, even if the pipe goes on."""
+        with unittest.mock.patch("mpsim.planner.rows.RECORDS", 5000), self.assertRaisesRegex(ValueError, "more than 5,000 records"):
+            prepare(table(*["2026-03-02,a,1"] * 20000), "when")
+
+    def test_what_has_no_end(self):
+        status, peak, line = measured("prepare", "/dev/zero", "--time", "when")
+        self.assertEqual((status, line[:44]), (1, "mpplan: /dev/zero: it has NUL bytes: is it U"))
+        self.assertLess(peak, 60)
+
+    def test_a_line_without_end(self):
+        export = self.file("long.csv", "when,who\n8:00," + "x" * (1 << 25) + "\n")
+        status, peak, line = measured("prepare", export, "--time", "when")
+        self.assertEqual((status, line), (1, f"mpplan: {export}: line 2 is longer than 16,777,216 bytes"))
+        self.assertLess(peak, 60)
+
+
+class Fields(InFolder):
+    def test_numbers_of_many_digits(self):
+        """Each is a row that is left out, with its reason."""
+        many = "9" * 5000
+        reason = "longer than 200 characters"
+        for form, time in ("unix", "1772438417"), ("ticks", "5"), ("hmm", "805"), ("excel", "46083.5"), ("clock", "8:00"), ("iso", "2026-03-02"):
+            made = prepare(table(f"{time},a,1", f"{many},a,1", f"{time},a,{many}"), "when", format=form, demand=["long=d"])
+            self.assertEqual((len(made), made.left), (1, {f"when: {reason}": 1, f"long: {reason}": 1}))
+        made = prepare(table("8:00,a,5", f"8:00,a,{many}"), "when", where=["long>3"])
+        self.assertEqual((len(made), made.left), (1, {f"long: {reason}": 1}))
+
+    def test_lines_of_errors(self):
+        """At most 300 characters of a field, whatever is wrong with it."""
+        long = "x" * 100000
+        for data, words in (
+            (table("8:00,a,1", f"8:00,a,{long}"), ["--demand", "long"]),
+            (table(f"{long},a,1"), []),
+            (table("8:00,a,1", header=f"when,who,{long}"), ["--demand", "long"]),
+            (table("8:00,a,1", f"8:00,a,5:{long}"), ["--demand", "long"]),
+            (table("8:00,a,1", header=",".join(["when", *(f"{at}{long[:200]}" for at in range(400))])), ["--demand", "long"]),
+        ):
+            export = self.file("export.csv", data.decode())
+            status, out, err = planner("prepare", export, "--time", "when", *words)
+            self.assertEqual((status in (1, 13), out, err.count("\n")), (True, "", err.count("\nplanner: ") + 1))
+            self.assertLess(max(map(len, err.splitlines())), 2200)
+
+    def test_an_open_quote(self):
+        rest = "\n".join(["8:01,b,2"] * 40)
+        with self.assertRaisesRegex(ValueError, r"row 3: a field has more than 20 lines: is a closing quote missing\?"):
+            prepare(f'when,who,long\n8:00,a,1\n8:00,"a,1\n{rest}\n'.encode(), "when")
+        with self.assertRaisesRegex(ValueError, r"row 3: field larger than field limit \(131072\): is a closing quote missing\?"):
+            prepare(f'when,who,long\n8:00,a,1\n8:00,"a,1\n{rest * 1000}\n'.encode(), "when")
+
+    def test_formulas(self):
+        """The rows that were left out are opened in a spreadsheet, where none of them may be a formula."""
+        out = io.StringIO()
+        rows = '8:00,a,1', '"=HYPERLINK(""http://x"")",b,=1+1', "@SUM(A1),+x,-5", "8:01,-x,y"
+        prepare(table(*rows), "when", format="clock", demand=["long"], left_out=out)
+        cells = [cell for line in out.getvalue().splitlines()[1:] for cell in line.split(",")]
+        self.assertEqual([cell for cell in cells if cell[:1] in ("=", "+", "@")], [])
+        self.assertIn("'=1+1", cells)
+        self.assertEqual([cell for cell in cells if cell[:1] == "-"], ["-5"])
+
+
+class Models(InFolder):
+    def test_splits(self):
+        """A page judges no model: one with a split of many or of invalid outputs is read in little memory."""
+        for outputs in "99999999", "xx", "-1", "9" * 5000:
+            (node,) = nodes_of(f"model 1\nsplit menu {outputs} turn\n")
+            self.assertLess(node.outputs, 1000)
+
+    def test_ranges(self):
+        with self.assertRaisesRegex(ValueError, "--set t=1..9999999999: more than 1,048,576 values"):
+            values_of("t=1..9999999999")
+        self.assertEqual(len(values_of("t=0..1048575")[1]), 1 << 20)
+
+    def test_names_in_comments(self):
+        text = "model 1\n# note {x}, {0}, { and {agents}\nsource door\ntrunk desk {agents} d from door\n"
+        model = self.file("model.txt", text)
+        plan = Plan.of([str(model)], {"agents": [3]}, [str(self.file("trace.csv", "source,time,d\ndoor,0,1\n"))], [])
+        self.assertEqual(plan.model(0)[2], text.replace("{agents}", "3"))
+
+
+class Started(InFolder):
+    def test_a_shard_runs_only_the_package(self):
+        """Not a module of the same name in the current directory."""
+        for name in "csv", "json", "mpsim":
+            self.file(f"{name}.py", "print('hijacked')\n")
+        folder = type("Folder", (), {"path": "sweep"})
+        words = [*elsewhere.command(folder)[:-4], "--version"]
+        ran = subprocess.run(words, cwd=self.folder, capture_output=True, text=True, check=False)
+        self.assertRegex((ran.stdout + ran.stderr), r"\Ampplan \d")
+
+
+if __name__ == "__main__":
+    unittest.main()

@@ -1,0 +1,212 @@
+"""The least number of agents per interval: what is found is judged by whole runs of a roster, written here independently of the search."""
+
+import csv
+import doctest
+import io
+import json
+import random
+import unittest
+from fractions import Fraction
+
+from commands import InFolder
+from ground import EXAMPLES, Test
+
+import mpsim.planner.intervals
+import mpsim.planner.staff
+from mpsim.agents import FIRST, FOREVER, Agent, Call, Group
+from mpsim.planner.calendar import Calendar
+from mpsim.planner.intervals import days_of
+from mpsim.planner.staff import Goal, calls_of, erlang_c, least
+from mpsim.planner.times import HOUR, MINUTE, SECOND
+
+WEEK = EXAMPLES / "week" / "model.txt", EXAMPLES / "week" / "trace.csv"
+
+
+def shares(counts, begins, calls, within):
+    """Returns, per interval of a day, how many calls arrive, how many of them are served in time, and whether somebody waits at some tick of it while
+    it has no agent: for numbers of agents per interval, the ticks at which intervals begin, and calls."""
+    bounds = list(zip(begins, [*begins[1:], FOREVER]))
+    agents = [Agent([it for it, count in zip(bounds, counts) if count >= place and it[0] < it[1]]) for place in range(1, max(counts) + 1)]
+    arrived, hits, alone = [0] * len(counts), [0] * len(counts), [False] * len(counts)
+    waits = [[] for _ in counts]
+    for call, (agent, wait) in zip(calls, Group(agents, choose=FIRST).serve(calls)):
+        at = max(number for number, (begin, end) in enumerate(bounds) if begin <= call.arrive < end)
+        arrived[at] += 1
+        hits[at] += bool(agent) and wait <= within
+        if agent:
+            waits[at].append(wait)
+        until = call.arrive + (FOREVER if wait is None else wait)
+        for number, (begin, end) in enumerate(bounds):
+            # A call that begins at once waits for no tick.
+            alone[number] |= counts[number] == 0 and max(begin, call.arrive) < min(end, until)
+    return arrived, hits, alone, waits
+
+
+def holds(counts, days, goal):
+    every = [shares(counts, begins, calls, goal.within) for begins, calls in days]
+    for number in range(len(counts)):
+        arrived, hits = sum(it[0][number] for it in every), sum(it[1][number] for it in every)
+        if hits < goal.share * arrived or any(it[2][number] for it in every):
+            return False
+    return True
+
+
+def drawn(draw):
+    """Returns a Calendar, days, their calls, and a goal, at random."""
+    tick, count = draw.choice([SECOND, 10 * SECOND]), draw.randrange(1, 4)
+    every = draw.choice([HOUR, 2 * HOUR, 6 * HOUR])
+    end, arrivals, services = count * 24 * HOUR // tick, [], []
+    opening = draw.choice([(0, 24), (8, 12), (9, 10)])
+    for day in range(count):
+        for _ in range(draw.choice([0, 5, 40])):
+            arrivals.append((day * 24 * HOUR + draw.randrange(opening[0] * HOUR, opening[1] * HOUR)) // tick)
+            services.append(draw.randrange(draw.choice([1, 600, 6000])))
+    order = sorted(range(len(arrivals)), key=arrivals.__getitem__)
+    arrivals, services = [arrivals[at] for at in order], [services[at] for at in order]
+    patience = [draw.randrange(900) for _ in arrivals] if draw.random() < 0.3 else None
+    goal = Goal(Fraction(draw.choice([50, 80, 95, 100]), 100), draw.choice([0, 20, 600, 5000]))
+    days = days_of(Calendar(tick), end - 1, every)
+    return days, arrivals, services, patience, goal, every
+
+
+class Least(Test):
+    def test_docstrings(self):
+        for module in mpsim.planner.staff, mpsim.planner.intervals:
+            self.assertEqual(doctest.testmod(module)[0], 0)
+
+    def test_it_reaches_the_goal_and_one_fewer_misses_it(self):
+        """In whole runs, each number lowered by one in turn. The waits are those of the search."""
+        draw, lowered = random.Random(8), 0
+        for _ in range(120):
+            days, arrivals, services, patience, goal, every = drawn(draw)
+            calls = calls_of(every, days, arrivals, services, patience)
+            found = least(list(zip(days, calls)), goal)
+            counts = [it.agents for it in found]
+            mine = []
+            for day in days:
+                here = [at for at, arrive in enumerate(arrivals) if day.begins[0] <= arrive < day.begins[-1]]
+                mine.append((day.begins[:-1], [Call(arrivals[at], services[at], "", patience and patience[at]) for at in here]))
+            if max(counts) == 0:
+                self.assertEqual(arrivals, [])
+                continue
+            self.assertTrue(holds(counts, mine, goal))
+            waits = [sum((shares(counts, *it, goal.within)[3][number] for it in mine), []) for number in range(len(counts))]
+            self.assertEqual([sorted(it.waits) for it in found], list(map(sorted, waits)))
+            for number, count in enumerate(counts):
+                if count:
+                    lowered += 1
+                    fewer = [*counts[:number], count - 1, *counts[number + 1 :]]
+                    self.assertFalse(any(fewer) and holds(fewer, mine, goal), (counts, number, goal))
+        self.assertGreater(lowered, 300)
+
+    def test_a_call_that_waits_over_the_end_of_an_interval(self):
+        """It is served in time only if the next interval, which has no call of its own, has an agent who is free then."""
+        (day,) = days_of(Calendar(SECOND), 0, HOUR)
+        arrivals, services = [3000, 3590, 3595], [700, 60, 60]
+        calls = calls_of(HOUR, [day], arrivals, services, None)
+        self.assertEqual([it.agents for it in least(list(zip([day], calls)), Goal(Fraction(1), 20))][:3], [1, 3, 0])
+        self.assertEqual([it.agents for it in least(list(zip([day], calls)), Goal(Fraction(1), 5))][:3], [2, 3, 0])
+        self.assertEqual([it.agents for it in least(list(zip([day], calls)), Goal(Fraction(1), 0))][:3], [3, 0, 0])
+        self.assertEqual([it.agents for it in least(list(zip([day], calls)), Goal(Fraction(1, 3), 0))][:3], [1, 1, 0])
+
+    def test_patience_that_ends_with_an_interval(self):
+        """A caller whose patience ends as the next interval begins is served by an agent who comes then, and one tick later isn't."""
+        (day,) = days_of(Calendar(SECOND), 0, HOUR)
+        for patience, counts, waits in (5, [1, 2], [0, 5]), (4, [2, 0], [0, 0]):
+            calls = calls_of(HOUR, [day], [3000, 3595], [9000, 60], [900, patience])
+            found = least([(day, calls[0])], Goal(Fraction(1), 5))
+            self.assertEqual(([it.agents for it in found][:2], found[0].waits), (counts, waits))
+
+    def test_occupancy(self):
+        """Two calls of half an hour each in an hour keep one agent busy, and two half of their time; calls that go on count where they do."""
+        (day,) = days_of(Calendar(SECOND), 0, HOUR)
+        calls = calls_of(HOUR, [day], [0, 1800, 7000, 7500], [1800, 1800, 400, 0], None)
+        for most, counts in (100, [1, 1]), (99, [2, 1]), (50, [2, 1]), (49, [3, 1]), (5, [20, 2]):
+            found = least(list(zip([day], calls)), Goal(Fraction(4, 5), 20, Fraction(most, 100)))
+            self.assertEqual([it.agents for it in found][:2], counts)
+            self.assertEqual([it.worked for it in found][:3], [3600, 200, 200])
+            self.assertEqual([it.there for it in found][:2], [3600 * count for count in counts])
+
+    def test_erlang_c(self):
+        """A hundred calls of three minutes in half an hour need 14 agents for 80/20, as in published tables; no calls, none. If nearly any
+        wait will do, one more agent than there is work for."""
+        self.assertEqual([erlang_c(100, 180, 1800, 0.5, within) for within in (10**4, 0)], [11, 12])
+        self.assertEqual([erlang_c(calls, 180, 1800, 0.8, 20) for calls in (100, 10, 1000, 0)], [14, 3, 107, None])
+
+
+class Command(InFolder):
+    def table(self, *words):
+        return list(csv.DictReader(io.StringIO(self.tells("staff", *words))))
+
+    def test_a_week(self):
+        """One day, one weekday and all of them agree; the calls are those of the trace."""
+        words = *WEEK, "--node", "desk"
+        every = self.table(*words)
+        self.assertEqual(list(every[0]), ["weekday", *mpsim.planner.staff.HEADS])
+        monday = self.table(*words, "--weekday", "monday")
+        date = self.table(*words, "--date", "2026-03-23")
+        self.assertEqual([row for row in every if row["weekday"] == "Monday"], monday)
+        self.assertEqual([list(row.values())[1:] for row in monday], [list(row.values())[1:] for row in date])
+        count = len(WEEK[1].read_text().splitlines()) - 1
+        self.assertAlmostEqual(sum(float(row["calls"]) * int(row["days"]) for row in every), count, delta=len(every) / 100)
+        self.assertTrue(all(float(row["within"]) >= 0.8 for row in every if row["calls"] != "0.0"))
+        more = self.table(*words, "--goal", "95/0")
+        self.assertGreater(*[sum(int(row["agents"]) for row in it) for it in (more, every)])
+        shrunk = self.table(*words, "--shrinkage", "30%")
+        self.assertEqual([int(row["rostered"]) for row in shrunk], [-(-10 * int(row["agents"]) // 7) for row in every])
+
+    def test_the_pool_of_these_numbers_gives_these_figures(self):
+        """For one day: the same calls, shares, percentiles and occupancy, from the run of the whole roster."""
+        lines = WEEK[1].read_text().splitlines()
+        monday = self.file("monday.csv", "".join(f"{line}\n" for line in lines[:1] + [it for it in lines[1:] if int(it.split(",")[1]) < 86400]))
+        for more in [], ["--patience", "exp:90s", "--seed", 4]:
+            rows = self.table(WEEK[0], monday, "--node", "desk", *more)
+            counts, steps = {row["from"]: row["agents"] for row in rows}, []
+            for number in range(48):
+                time = mpsim.planner.intervals.label(number, 30 * MINUTE)
+                steps.append(f"{time}={counts.get(time, 0)}")
+            words = "pool", WEEK[0], monday, "--node", "desk", "--agents", ",".join(steps), "--choose", "first", *more
+            pooled = list(csv.DictReader(io.StringIO(self.tells(*words))))
+            names = "from", "within", "p90", "occupancy"
+            self.assertEqual([[row[name] for name in names] for row in pooled], [[row[name] for name in names] for row in rows])
+            self.assertEqual([int(row["offered"]) for row in pooled], [float(row["calls"]) for row in rows])
+
+    def test_forms(self):
+        words = *WEEK, "--node", "desk", "--weekday", "monday"
+        rows, text = self.table(*words), self.tells("staff", *words, "--format", "json")
+        self.assertEqual([{key: "" if value is None else str(value) for key, value in row.items()} for row in json.loads(text)], rows)
+        lines = self.tells("staff", *words, "--format", "md").splitlines()
+        self.assertEqual([line.strip("| ").split(" | ")[0:2] for line in lines[2:]], [[row["weekday"], row["from"]] for row in rows])
+        self.assertEqual(set(lines[1]), set("| -"))
+
+    def test_when_clocks_change(self):
+        """The hour that occurs twice is one interval; all calls are counted, and each interval after it begins by the clock."""
+        model = "model 1\n# a tick is 1s, time 0 is 2026-10-25T00:00:00+02:00 in Europe/Berlin\nsource a\nserver desk d from a\n"
+        # 01:59:59, 02:00 and 02:59 summer time, 02:00 and 02:59 winter time, 03:00, and 23:59:59 by the clock.
+        times = 7199, 7200, 10799, 10800, 14399, 14400, 89999
+        path = self.file("t.csv", "source,time,d\n" + "".join(f"a,{time},0\n" for time in times))
+        rows = self.table(self.file("m.txt", model), path, "--node", "desk", "--every", "1h")
+        self.assertEqual([(row["from"], row["calls"]) for row in rows], [("01:00", "1.0"), ("02:00", "4.0"), ("03:00", "1.0"), ("23:00", "1.0")])
+
+    def test_patience(self):
+        """As a time or a column; callers who leave aren't served in time."""
+        model = self.file("m.txt", "model 1\n# a tick is 1s\nsource a\nserver desk d from a\n")
+        trace = self.file("t.csv", "source,time,d,patient\na,0,100,9\na,1,100,9\na,2,100,500\n")
+        words = model, trace, "--node", "desk", "--every", "1h"
+        by_column, by_time = (["--goal", "60/500", "--patience", it] for it in ("patient", "9s"))
+        for given, agents in (["--goal", "60/120"], "1"), (by_column, "1"), (by_time, "2"):
+            (row,) = self.table(*words, *given)
+            self.assertEqual((row["within"], row["agents"]), ("0.6667", agents))
+
+    def test_what_is_rejected(self):
+        words = "staff", *WEEK, "--node", "desk"
+        self.refuses("--goal 80: expected a percentage and a time, such as 80/20 or 90/1min", *words, "--goal", "80")
+        self.refuses("--goal 180/20: expected a percentage such as 30%", *words, "--goal", "180/20")
+        self.refuses("--every 7min: expected whole intervals in a day, of a minute or more, such as 15min, 30min or 1h", *words, "--every", "7min")
+        self.refuses("--date 2026-01-01: the trace has days from 2026-03-23 to 2026-03-28", *words, "--date", "2026-01-01")
+        self.refuses("--shrinkage 100%: nobody would ever be there", *words, "--shrinkage", "100%")
+        self.refuses("--max-occupancy 0%: nobody would ever work", *words, "--max-occupancy", "0%")
+
+
+if __name__ == "__main__":
+    unittest.main()
