@@ -6,7 +6,7 @@ numbers of workers and block sizes.
 """
 import shlex
 
-from programs import CASES, EXAMPLES, Check, form_of, run
+from programs import CASES, EXAMPLES, Check, executable, form_of, run
 
 # Numbers of workers and of jobs per block.
 SETTINGS = [("1", "5"), ("4", "1"), ("4", "4096"), ("64", "1")]
@@ -23,8 +23,9 @@ class Examples(Check):
         wanted = status, report if report.is_file() else b"", line if line.is_file() else b""
         form = form_of(wanted[1])
         has_words = (folder / "words").is_file()
+        # The script answers --help and --version itself, so calls with other arguments run the program without it.
         for words in (folder / "words").read_text().splitlines() if has_words else ["model.txt trace.csv"]:
-            self.did(run("mpsim", *shlex.split(words), *form, folder=folder), *wanted)
+            self.did(run(executable("mpsim") if has_words else "mpsim", *shlex.split(words), *form, folder=folder), *wanted)
         if jobs.is_file():
             self.writes(jobs, "model.txt", "trace.csv", "--jobs", folder=folder)
         if line.is_file() and has_words:
