@@ -5,9 +5,9 @@ ghost use Rattle.mq_claims.specs.Drawing.{IsDrawn};
 ghost use Rattle.mq_claims.specs.Machine.{IsShown, Name, Worker, Reached, HasEnded, EachHasOne};
 ghost use Rattle.mq_claims.specs.Rule.{right_of, draws_of};
 
-/// Law. The next number and the views show a state that the machine of workers reaches. In it each view
-/// holds the draws of as many workers as it has right, and each recorded index has its piece. This holds
-/// for any pieces of the indices.
+/// Law. The next number and the views show a state that the machine of workers reaches. In it a view
+/// with right r holds the draws of r workers, and each recorded index has its piece. This holds for any
+/// pieces of the indices.
 pub fn views_show_workers<X>()
     ensures { (count seats next : ℕ) (views : List ClaimView) (piece : ℕ → X) → IsDrawn right_of draws_of count seats next views → IsShown right_of draws_of piece count next views }
 {}

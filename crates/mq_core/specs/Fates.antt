@@ -50,7 +50,7 @@ pub record IsEnded (plan : Plan) (rows : Rows) (s : State Local) : Type 0 where
   pub here : (v : ℕ) (node : Node) → slice_get plan.net.nodes v ≡ Some node → standard_jobs plan rows v (s.stations v).visits (s.stations v).local ≡ staying (s.stations v).visits (leaves_with node.kind (s.stations v))
   pub empty : (v : ℕ) → IfSome (slice_get plan.net.nodes v) (λ node. keeps_visits node.kind ≡ false) → standard_jobs plan rows v (s.stations v).visits (s.stations v).local ≡ 0
 
--- at the end of a run all is over
+-- after the steps of a run over rows that are read for the network, the run has ended
 abbrev pub RunEnds : Type 0
 RunEnds = (plan : Plan) (rows : Rows) → IsReadFor plan.net rows → IsEnded plan rows (run_of plan rows)
 

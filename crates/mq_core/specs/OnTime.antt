@@ -35,7 +35,7 @@ kind-late rows ports (Fork outputs) visits local now event = fork-late outputs v
 kind-late rows ports Join visits local now event = join-late ports visits local now event
 kind-late rows ports (Trunk servers demand) visits local now event = trunk-late rows servers demand visits local now event
 
--- nor is anything scheduled if there is no node
+-- if there is no node, nothing is scheduled
 node-late : (rows : Rows) (node : Option Node) (visits : List Visit) (local : Local) (now : ℕ) (event : Event) → Late now (node_on rows node visits local now event).services
 node-late rows None visits local now event = tt
 node-late rows (Some node) visits local now event = kind-late rows (length node.inputs) node.kind visits local now event

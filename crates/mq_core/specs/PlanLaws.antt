@@ -40,7 +40,7 @@ pub record IsRankedBehind (nodes : List Node) (before : List ℕ) (v : ℕ) : Ty
   pub once : has before v ≡ false
   pub reads : (port : ℕ) (i : ℕ × ℕ) → slice_get (inputs_of nodes v) port ≡ Some i → IsTrue (has before i.0)
 
--- the order of a plan contains each node at most once, after all that it reads
+-- the order of a plan contains no node twice, and each node comes after all that it reads
 abbrev pub OrdersRank : Type 0
 OrdersRank =
     (plan : Plan) (rank v : ℕ) → slice_get plan.order rank ≡ Some v → IsRankedBehind plan.net.nodes (take rank plan.order) v

@@ -32,7 +32,7 @@ rows_at node job (source ∷ sources) [] = []
 rows_at node job (source ∷ sources) (time ∷ times) =
     if source == node then (time, job) ∷ rows_at node (suc job) sources times else rows_at node (suc job) sources times
 
--- What a station can compute: arrivals and one demand for each, in their limits.
+-- The load that a station can take: arrivals and one demand for each, in their limits.
 pub record IsSoundLoad (times demands : List ℕ) : Type 0 where
   pub few : length times ≤ 1048576
   pub each : length demands ≡ length times

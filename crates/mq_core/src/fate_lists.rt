@@ -73,8 +73,8 @@ impl Fates {
         }
     }
 
-    /// Replaces all fates from the position `from` on by departures at these times, in ticks, of which there are no more than
-    /// it replaces. Takes no memory.
+    /// Replaces all fates from the position `from` on by departures at these times, in ticks, which are at most as many.
+    /// Takes no memory.
     pub fn put_back(&mut self, alloc: Global, from: usize, times: &[u64])
         requires { from + length times.now ≤ length self.old }
         ensures { self.new ≡ take from self.old ++ map (λ time. Departs time) times.now }
@@ -164,8 +164,7 @@ fn replace_each(
     kept.replace_from(from, fates.as_slice())
 }
 
-// Replaces all fates from a position on by departures at these times, of which there are no more than it replaces. Takes no
-// memory.
+// Replaces all fates from a position on by departures at these times, which are at most as many. Takes no memory.
 fn put_each(alloc: Global, kept: &mut List<Fate>, from: usize, times: &[u64])
     requires { from + length times.now ≤ length kept.old }
     ensures { kept.new ≡ take from kept.old ++ map (λ time. Departs time) times.now }

@@ -29,8 +29,9 @@ pub fn nodes_run_alone<H: Handlers>()
     ensures { NodesRunAlone H.opening H.handle H.jobs H.working }
 {}
 
-/// Law. At the end of a run nothing is pending, and each node contains exactly the visits that haven't
-/// left. If visits don't stay for good at a node, none is left there and each visit has its fate.
+/// Law. At the end of a run nothing is pending, and the number of jobs in each node is that of its
+/// visits that haven't left. At a node where visits don't stay for good, none is left and each visit has
+/// its fate.
 pub fn the_run_ends()
     ensures { RunEnds }
 {}
@@ -101,7 +102,7 @@ pub fn nodes_are_in_limits()
     ensures { NodesAreInLimits }
 {}
 
-/// Law. The order of a plan contains each node once, after all that it reads.
+/// Law. The order of a plan contains no node twice, and each node comes after all that it reads.
 pub fn orders_rank()
     ensures { OrdersRank }
 {}

@@ -187,7 +187,7 @@ matches-late : (visits : List Visit) (job ports : ℕ) (local : Local) (held : L
 matches-late visits job ports local held now true = tt
 matches-late visits job ports local held now false = tt
 
--- nor does a join
+-- a join schedules nothing
 pub join-late : (ports : ℕ) (visits : List Visit) (local : Local) (now : ℕ) (event : Event) → Late now (join_on ports visits local event).services
 join-late ports visits local now (Arrive t n q j) = matches-late visits j ports local (local.held ++ (q, latest visits) ∷ []) now (is_matched visits j ports (local.held ++ (q, latest visits) ∷ []))
 join-late ports visits local now (Finish t n q j) = tt
