@@ -32,10 +32,10 @@ pub trait Files {
     /// Whether a name is sure: a read of it leaves `faults` unchanged.
     ghost is_sure: { Self → List ℕ → Bool };
 
-    /// The number of reads.
+    /// The count of reads.
     ghost reads: { Self → ℕ };
 
-    /// The number of the latest read that failed, or 0.
+    /// The number of the latest read that failed, or where the count began.
     ghost faults: { Self → ℕ };
 
     /// Appends the whole file to `into`, if it has at most `limit` bytes.
@@ -67,10 +67,10 @@ pub trait Sink {
     /// The bytes that were taken, if contracts know them.
     ghost taken: { Self → Option (List ℕ) };
 
-    /// The number of puts that failed.
+    /// The count of puts that failed.
     ghost faults: { Self → ℕ };
 
-    /// A number of further bytes that are taken without a fault.
+    /// A number of further bytes that are sure: they are taken without a fault.
     ghost sure: { Self → ℕ };
 
     /// Takes a first part of these bytes, at least one byte unless there are none, and returns how many it took.
