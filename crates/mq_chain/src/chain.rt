@@ -214,8 +214,8 @@ impl Chain {
     }
 
     /// Draws the next block, which no other seat draws, and returns it. It is greater than all that
-    /// the seat drew before, which must be blocks of the table, and is appended to them. It may be past
-    /// the table's last block.
+    /// the seat drew before, which must be blocks of the table, and is appended to them. It may be
+    /// past the table's last block.
     pub fn draw(&self, seat: &mut ChainSeat) -> u64
         requires own { IsSeatOf self.now seat.old }
         requires early { All (λ d. d < self.now.blocks) seat.old.draws }
@@ -241,8 +241,8 @@ impl Chain {
         if found == 0 { None } else { Some(found - 1) }
     }
 
-    /// Stores the sum and then the best of a block that the seat drew. Both are below 2^63, and each is
-    /// stored once.
+    /// Stores the sum and then the best of a block that the seat drew. Both are below 2^63, and each
+    /// is stored once.
     pub fn put_summary(&self, seat: &mut ChainSeat, b: u32, summary: Affine)
         requires own { IsSeatOf self.now seat.old }
         requires inside { b < self.now.blocks }
