@@ -43,7 +43,7 @@ fn cut_lines<'a>(alloc: Global, text: &'a [u8], count: u32) -> Result<Vec<&'a [u
     Ok(pieces)
 }
 
-// Whether a piece ends outside quotes, given whether it begins outside them and where it ends in that case.
+// Whether a piece ends outside quotes, given whether it begins outside them, and `end`, the answer if it does.
 fn ends_from(piece: &[u8], outside: bool, end: bool) -> bool
     requires { end ≡ is_closed true piece.now }
     ensures { result ≡ is_closed outside piece.now }
