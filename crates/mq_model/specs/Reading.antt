@@ -21,8 +21,8 @@ form_of first.Split = split_kind
 form_of first.Fork = fork_kind
 form_of first.Trunk = trunk_kind
 
--- The value and the words left are what the form gives; an error leaves the words from the first that doesn't fit, unless memory ran
--- out.
+-- The value and the words left are what the form gives. Unless memory ran out, an error leaves the words from the first that doesn't
+-- fit.
 abbrev pub Reads : {X : Type 0} → Result X Stop → List Word → Result (X × List Word) (List Word) → Type 0
 Reads (Ok x) left said = said ≡ Ok (x, left)
 Reads (Err why.Word) left said = said ≡ Err left
