@@ -30,8 +30,7 @@ pub record AreParts (route : Route) (stream : Stream) (values : List ℕ) (strea
   pub count : length streams ≡ outputs_by route
   pub parts : (out : ℕ) → out < outputs_by route → slice_get streams out ≡ Some (picked_stream (outs_from route 0 values) stream out)
 
--- Pieces. The items of a stream at these indices that go to an output, given the values of these
--- items.
+-- Pieces. The items of a stream at these indices that go to an output, given these items' values.
 abbrev pub part_between : Route → Stream → List ℕ → ℕ → ℕ → ℕ → Stream
 part_between route stream values from to out =
     picked_stream (outs_from route from values) (record { job = between from to stream.job; time = between from to stream.time }) out
