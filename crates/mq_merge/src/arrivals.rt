@@ -7,8 +7,7 @@ use mq_core::Stream;
 /// The jobs that came to a node and when, in order of time.
 #[derive(Drop)]
 pub enum Arrivals<'a> {
-    /// The rows of a source, or the merged streams that several ports read; empty if a node has no
-    /// port.
+    /// The rows of a source, or the merged streams that several ports read; empty without a port.
     Merged(Stream),
     /// The stream that the node's only port reads.
     Read(&'a Stream),
