@@ -17,8 +17,7 @@ use std::thread::Threads;
 
 /// Returns when each job leaves a server, as `mq_server::departures` does. Workers draw blocks of jobs
 /// from a table, publish the last departure of each block there, and continue from the one that was
-/// published for the block before. Blocks for which a worker found no carry are left, and done at the
-/// end.
+/// published for the block before. If a worker finds no carry, the block is left, and done at the end.
 ///
 /// There are 1 to 64 workers, at most as many as blocks, and at most 16,384 blocks of at least one job.
 /// If there are two or more blocks, the gate is entered with each block that is drawn, and with each
