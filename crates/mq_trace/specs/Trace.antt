@@ -89,7 +89,7 @@ rows_in net text = rows_of net (header_of (text_records text)) (data_of (text_re
 abbrev pub Tells : TraceFault → Option TraceFault → Type 0
 Tells e fault = e ≢ Memory → fault ≡ Some e
 
--- Unless memory ran out, an error is this fault; otherwise there is no fault, and the result is these rows.
+-- Unless memory ran out, an error is this one; without an error there is none, and the result is these rows.
 abbrev pub Answers : {A : Type 0} → Result A TraceFault → Option TraceFault → A → Type 0
 Answers (Ok x) fault rows = (fault ≡ None) × (x ≡ rows)
 Answers (Err e) fault rows = Tells e fault

@@ -57,7 +57,7 @@ fn has_field(row: &ByteRecord, index: usize, name: &[u8]) -> bool
     }
 }
 
-// The column at an index of a header, which follows the columns `before`, or the error in its name.
+// The column at an index of a header, which follows the columns `before`, or its error.
 fn column_name<'a>(
     row: &'a ByteRecord,
     index: usize,
