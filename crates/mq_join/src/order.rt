@@ -36,7 +36,7 @@ fn numbered(alloc: Global, times: &List<u64>, first: usize) -> Result<Stream, Ou
 }
 
 // Returns the indices of the items of two lists, one list after the other, sorted by these times; those
-// of one time keep their order.
+// with equal times keep their order.
 pub fn indices_by_time(
     alloc: Global,
     first: &List<u64>,
