@@ -21,8 +21,8 @@ pub trait Judge {
 
     /// Makes the round over the arrivals from `from` up to `to`, all guessed admitted. Appends what it
     /// settles to the settled arrivals, and the departures of the admitted to theirs. Times are in
-    /// ticks and demands in ticks of service, one per item of the stream. Takes no memory and has no
-    /// errors.
+    /// ticks and demands in ticks of service, one per item of the stream. Takes no memory and can't
+    /// fail.
     fn judge_window<L: Ledger>(
         &mut self,
         stream: &Stream,
