@@ -33,8 +33,8 @@ pub fn busy_among(latest: &[u64], now: u64) -> usize
     low
 }
 
-// At most how many of these departures, the latest first, come after this time, as exactly as a judgement
-// needs it: all, or one fewer if the earliest doesn't.
+// An upper bound on how many of these departures, the latest first, come after this time, which is enough
+// for a judgement: all of them, or one fewer if the earliest doesn't.
 pub fn busy_at_most(latest: &[u64], now: u64) -> usize
     requires { IsFalling latest.now }
     ensures within { result ≤ length latest.now }

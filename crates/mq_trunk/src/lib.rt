@@ -2,8 +2,8 @@
 //! lost. Rounds of guesses settle which arrivals are admitted (Greenberg, Lubachevsky and Mitrani
 //! 1991): each round judges every arrival by the departures that a guess gives.
 //!
-//! Of the departures only the latest are kept, one per server, the latest first. In a window, one
-//! comparison with the earliest of them judges an arrival. An admitted one finds its place among them
+//! Only the latest departures are kept, one per server, the latest first. In a window, an arrival is
+//! judged by one comparison with the earliest of them. The departure of an admitted one finds its place
 //! by halving, and at most as many move as there are servers. A window judges no arrival after the
 //! first that its round changes, so each arrival is judged once.
 #![tactic(auto)]
