@@ -44,7 +44,7 @@ module _ {X : Type 0} where
     pub made_are : flat_map (λ w. w.done) workers ≡ made
     pub each : AllByRecursion (HasWorked count) workers
 
-  -- A schedule of the machine has ended, with at least one worker, at most `most`, and no more than one per piece. The items are the pieces that they recorded, each at its index
+  -- A schedule of the machine has ended, with at least one worker, and otherwise at most `most` and one per piece. The items are the pieces that they recorded, each at its index
   pub record AreRecorded (most count : ℕ) (items : List X) : Type 0 where
     pub next : ℕ
     pub state : Name → Worker X

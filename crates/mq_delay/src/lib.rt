@@ -29,7 +29,7 @@ pub struct Delayed {
 /// Returns when each job leaves a delay, and in which order they leave. A job leaves its demand, in
 /// ticks of service, after its arrival, and may overtake others. The stream has one job and one
 /// time per item, and there is one demand per job, by position. The order is that of a stable sort,
-/// in threads if there are any. The only error is that memory runs out.
+/// in several threads if they can be started. The only error is that memory runs out.
 pub fn delay<R: Threads + Sync>(
     rt: &R,
     alloc: Global,
@@ -67,7 +67,7 @@ pub fn delay_departures(
 
 /// Returns the jobs of a delay as they leave: by departure, those with the same departure by
 /// position. There is one departure per job, in ticks, by position. The order is that of a stable
-/// sort, in threads if there are any. The only error is that memory runs out.
+/// sort, in several threads if they can be started. The only error is that memory runs out.
 pub fn delay_leaving<R: Threads + Sync>(
     rt: &R,
     alloc: Global,

@@ -25,7 +25,7 @@ pub record IsCounted (ports job : ℕ) (items : List (ℕ × ℕ)) (counts place
   pub each : (port : ℕ) → port < ports → slice_index counts port ≡ count_by (is_item job port) items
   pub in_turn : 1 ≤ ports → (i : ℕ) → slice_get places i ≡ match_of ports job i items
 
--- each job is counted so in its row
+-- each row contains the counts and places of its job
 abbrev pub AreCounted : ℕ → List (ℕ × ℕ) → List Row → Type 0
 AreCounted ports items rows = (job : ℕ) (row : Row) → slice_get rows job ≡ Some row → IsCounted ports job items row.counts row.places.items
 

@@ -27,8 +27,7 @@ pub record IsSettled (places : ℕ) (times demands : List ℕ) (settled : Settle
   pub admitted : settled.admitted ≡ admission places times demands
   pub departs : settled.departs ≡ departure_times (loss_fates places [] times demands)
 
--- rounds over all arrivals, up to and with the first that changes nothing; each makes one judgement per
--- arrival
+-- rounds over all arrivals, up to and including the first that changes nothing; each judges all arrivals
 pub record IsWholeRun (places : ℕ) (times demands : List ℕ) (rounds judgements : ℕ) : Type 0 where
   pub some : 1 ≤ rounds
   pub changed : (round : ℕ) → suc round < rounds → guess_after places times demands (suc round) ≢ guess_after places times demands round

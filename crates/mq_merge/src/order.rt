@@ -24,8 +24,8 @@ pub fn by_time(alloc: Global, jobs: &List<u32>, times: &List<u64>) -> Result<Str
     stream_from_items(alloc, &items)
 }
 
-/// Returns the stream that `by_time` returns, sorted in threads if there are any. The only error is
-/// that memory runs out.
+/// Returns the stream that `by_time` returns, sorted in several threads if they can be started. The
+/// only error is that memory runs out.
 pub fn par_by_time<R: Threads + Sync>(
     rt: &R,
     alloc: Global,

@@ -17,11 +17,12 @@ use std::thread::Threads;
 
 /// Returns when each job leaves a server, as `mq_server::departures` does. Workers draw blocks of jobs
 /// from a table, publish the last departure of each block there, and continue from the one that was
-/// published for the block before. If a worker finds no carry, the block is left, and done at the end.
+/// published for the block before. If a worker finds no carry, the block is left until all others are
+/// done.
 ///
 /// There are 1 to 64 workers, at most as many as blocks, and at most 16,384 blocks of at least one job.
-/// If there are two or more blocks, the gate is entered with each block that is drawn, and with each
-/// block done at the end if those are two or more. The only error is that memory runs out.
+/// If there are two or more blocks, the gate is entered with each block that is drawn, and with the
+/// index of each block that was left if two or more were. The only error is that memory runs out.
 pub fn chain_departures<R: Threads + Sync, G: Gate>(
     rt: &R,
     alloc: Global,

@@ -1,4 +1,4 @@
-// The blocks that were left, done by the crew, and the departures of all blocks.
+// The blocks that were left, computed by the crew, and the departures of all blocks.
 ghost use Rattle.std.specs.Prelude.{◌≡◌, ℕ, ◌^◌, ◌<◌, ◌≤◌, All, IfOk, length, slice_index_or};
 ghost use Rattle.mq_core.specs.Recurrences.{lindley};
 ghost use Rattle.mq_maxplus.specs.declared.mp.Mp.TheVariants.{Void};
@@ -69,7 +69,7 @@ fn together(
 }
 
 /// Returns the departures of all jobs, from the blocks that the workers passed over and the carries
-/// that they published. The crew does the blocks that were left.
+/// that they published. The crew computes the blocks that were left.
 pub(crate) fn ended<G: Gate, R: Threads + Sync>(
     rt: &R,
     alloc: Global,

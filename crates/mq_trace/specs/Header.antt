@@ -23,7 +23,7 @@ bad_column number before [] = None
 bad_column number before (name ∷ more) =
     if (number == 19) || is_among before name then Some number else bad_column (number + 1) (before ++ name ∷ []) more
 
--- of a header's columns from the field at an index on, the number of the first that repeats an earlier one or is field 19
+-- the number of the first column, from the field at an index on, that repeats an earlier one or is field 19
 abbrev pub bad_from : Record → ℕ → Option ℕ
 bad_from header index = bad_column (index + 1) (take (index - 2) (columns_of header)) (drop (index - 2) (columns_of header))
 

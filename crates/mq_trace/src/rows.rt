@@ -26,8 +26,7 @@ const RECORD_ROOM: usize = 1024;
 const SAMPLE_BYTES: usize = 4096;
 
 /// Returns the number of rows to make room for before a text is read: as many as it has if its lines are as long as
-/// those in its middle, and a sixteenth more, but no more than a trace may have. If a text has more rows, the lists
-/// grow.
+/// those in its middle, and a sixteenth more, at most `MOST_ROWS`. If a text has more rows, the lists grow.
 pub fn room_for(text: &[u8]) -> usize {
     let size = text.len().min(SAMPLE_BYTES);
     let from = (text.len() - size) / 2;

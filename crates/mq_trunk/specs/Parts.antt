@@ -12,14 +12,14 @@ use Rattle.mq_trunk.specs.Rounds.{admission}
 use Rattle.mq_trunk.specs.declared.answer.Trunk.{Trunk}
 use Rattle.mq_trunk.specs.declared.settling.Parts.{Parts as TheParts}
 
--- of these items, one per arrival, those of the arrivals that are admitted
+-- those of these items, one per arrival, whose arrivals are admitted
 abbrev pub of_admitted : List Bool → List ℕ → List ℕ
 of_admitted [] items = []
 of_admitted (admit ∷ admitted) [] = []
 of_admitted (true ∷ admitted) (item ∷ items) = item ∷ of_admitted admitted items
 of_admitted (false ∷ admitted) (item ∷ items) = of_admitted admitted items
 
--- of these items, one per arrival, those of the arrivals that are lost
+-- those of these items, one per arrival, whose arrivals are lost
 abbrev pub of_lost : List Bool → List ℕ → List ℕ
 of_lost [] items = []
 of_lost (admit ∷ admitted) [] = []

@@ -3,9 +3,9 @@
 //! 1991): each round judges every arrival by the departures that a guess gives.
 //!
 //! Only the latest departures are kept, one per server, the latest first. In a window, an arrival is
-//! judged by one comparison with the earliest of them. The departure of an admitted one finds its place
-//! by halving, and at most as many move as there are servers. A window judges no arrival after the
-//! first that its round changes, so each arrival is judged once.
+//! judged by one comparison with the earliest of them. The departure of an admitted one finds its
+//! place by halving, and at most as many move as there are servers. A window judges no arrival after
+//! the first that its round changes, so each arrival is judged once.
 #![tactic(auto)]
 
 mod answer;
