@@ -124,8 +124,9 @@ fn plan_of(alloc: Global, front: &mut Front) -> Result<Plan, ModelFault>
 
 /// Reads a model from a text of at most 65,536 bytes.
 ///
-/// Returns the plan of the network that the text declares. An error is the first one in the text:
-/// its length is checked first, then its lines in order, then its inputs, its sources and its cycles.
+/// Returns the plan of the network that the text declares. Unless memory runs out, an error is the
+/// first one in the text: its length is checked first, then its lines in order, then its inputs, its
+/// sources and its cycles.
 pub fn read_model(alloc: Global, bytes: &[u8]) -> Result<Plan, ModelFault>
     ensures ok { IfOk result (λ plan. (model_fault bytes.now ≡ None) × (plan.net ≡ network_in bytes.now)) }
     ensures err { IfErr result (λ e. Tells e (model_fault bytes.now)) }

@@ -1,5 +1,4 @@
--- What rounds of guesses lead to, for a rule that determines an admission for each list of arrivals and their
--- demands.
+-- What rounds of guesses lead to, for a rule that gives an admission for each list of arrivals and demands.
 use Rattle.std.specs.Prelude.{◌≡◌, ℕ, ◌+◌, Bool, List, length, slice_get, take, Some, ◌↔◌}
 use Rattle.mq_rounds.specs.Rounds.{Rule, left_of, round_of}
 

@@ -3,8 +3,7 @@ use Rattle.std.specs.Prelude.{◌≡◌, ℕ, zero, suc, ◌+◌, ◌*◌, ◌<�
 use Rattle.mq_rounds.specs.Rounds.{Rule, all_admitted, round_of}
 use Rattle.mq_rounds.specs.declared.windows.Progress.{Progress}
 
--- what the round of a window settles, if all were guessed admitted: the outcome up to the first arrival that it changed, or
--- all
+-- what a window's round settles, if all were guessed admitted: the outcome up to the first arrival that it changed, or all
 abbrev pub settled_part : List Bool → List Bool
 settled_part [] = []
 settled_part (true ∷ outcome) = true ∷ settled_part outcome
@@ -15,8 +14,7 @@ settled_part (false ∷ outcome) = false ∷ []
 abbrev pub next_width : ℕ → ℕ → ℕ
 next_width settled width = if settled == width then 2 * width else settled
 
--- what one round makes of a window: it begins after the settled arrivals, and all of it, up to the last arrival, is guessed
--- admitted
+-- what one round makes of a window, which begins after the settled arrivals and is guessed admitted up to the last arrival
 abbrev pub window_after : Rule → List ℕ → List ℕ → List Bool → ℕ → List Bool
 window_after rule times demands settled width = drop (length settled) (round_of rule times demands (settled ++ all_admitted width))
 

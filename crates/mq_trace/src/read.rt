@@ -198,8 +198,8 @@ fn fault_before(text: &[u8]) -> Option<TraceFault>
 /// of a source node, a time of at most 2^60 ticks and, in each column that the model names, a number of at most 2^36.
 /// The fields of other columns aren't read.
 ///
-/// An error is the first one in the text: its length, the first invalid field of the header, the first column of the
-/// model that the header lacks, or the first invalid record.
+/// Unless memory runs out, an error is the first one in the text: its length, the first invalid field of the header,
+/// the first column of the model that the header lacks, or the first invalid record.
 ///
 /// The text is read by 1 to 64 workers, in pieces if it is long and there are several workers. The result is the same.
 pub fn read_trace<R: Threads + Sync>(
