@@ -92,7 +92,7 @@ fn known_tails(alloc: Global, of: &NodesTails) -> Result<Option<List<Percentiles
 
 /// Returns the percentiles of the waits at each of these nodes, at most 65,535, from the counts of their visits. Usually the waits
 /// are counted already, or a second pass over pieces of the visits counts them (`counted_tails`). Otherwise each node is a piece of
-/// one more list. 1 to 64 workers make the pieces, and enter the gate with each; without pieces there are no workers. No node has
+/// another list. 1 to 64 workers make the pieces, and enter the gate with each; without pieces there are no workers. No node has
 /// more than 1,048,576 visits. The only error is out of memory.
 pub fn tails_of<R: Threads + Sync, G: Gate>(
     rt: &R,

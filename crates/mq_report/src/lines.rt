@@ -115,7 +115,7 @@ fn add_utilisation<O: Sink>(
     add_share(out, pending, utilisation(busy, servers, span))
 }
 
-// Adds a node's name, the word of its kind, and its counts.
+// Adds a node's name, the word for its kind, and its counts.
 #[tactic(auto, unfolding(crate::specs::Text::node_words, crate::specs::Text::node_counts))]
 fn add_name_and_counts<O: Sink>(
     out: &mut O,

@@ -1,4 +1,4 @@
-// The totals of a block of visits, and how many of their waits are each number of ticks, by one look at them.
+// The totals of a block of visits and the counts of their waits, from one pass over the visits.
 ghost use Rattle.std.specs.Prelude.{◌≡◌, ◌↔◌, ◌+◌, ◌++◌, ◌≤◌, ℕ, List as Items, IfOk, IfSome, IsSome, length};
 ghost use Rattle.mq_core.specs.Results.{peak_of};
 ghost use Rattle.mq_stats.specs.Blocks.{AreNeighbours, IsBlock, IsBlockOf};

@@ -9,8 +9,8 @@ use mq_base::{List, OutOfMemory};
 use mq_core::{Fate, Fates};
 use std::alloc::Global;
 
-/// Returns how many jobs each visit found, or `None` unless the visits that aren't lost depart in order of
-/// arrival and none is held. A visit finds the departures so far that its arrival time hasn't passed. Arrival
+/// Returns how many jobs each visit found, or `None`, which it returns only if a visit is held or departs
+/// before an earlier visit. A visit finds the departures so far that its arrival time hasn't passed. Arrival
 /// times never fall. The only error is out of memory.
 pub fn found_in_order(
     alloc: Global,

@@ -86,7 +86,7 @@ fn sorted(waits: &mut [u64]) -> Percentiles
     }
 }
 
-// Returns the percentiles of these waits, or perhaps `None` if one exceeds `longest` or the number of waits.
+// Returns the percentiles of these waits, or `None` if one of the three exceeds `longest` or the number of waits.
 fn counted_tail(
     alloc: Global,
     waits: &[u64],

@@ -50,7 +50,7 @@ abbrev pub stands_twice : List ℕ → List (List ℕ) → Bool
 stands_twice word [] = false
 stands_twice word (w ∷ rest) = (bytes_eq w word && has_word word rest) || stands_twice word rest
 
--- there is a first word, and it doesn't begin with a dash
+-- whether there is a first argument, and it doesn't begin with a dash
 abbrev pub begins_with_value : List (List ℕ) → Bool
 begins_with_value [] = false
 begins_with_value (w ∷ rest) = not (begins_with_dash w)

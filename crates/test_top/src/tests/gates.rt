@@ -98,7 +98,8 @@ const FORKS: Case = Case {
     ..TANDEM
 };
 
-// A delay in which a job overtakes another. Its last pieces are the jobs' blocks, how many each job found, and the jobs and times of what came.
+// A delay in which a job overtakes another. Its 5 last pieces are how many each job found, with a piece for each job, and the jobs and times of
+// what came.
 const DELAY: Case = Case {
     model: b"model 1\nsource src\ndelay w b from src\n",
     lists: &[5],
