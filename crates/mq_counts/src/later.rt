@@ -18,8 +18,8 @@ pub fn totals_until(totals: &NodeTotals, last: u64, span: u64) -> NodeTotals
     }
 }
 
-/// Proves that they are the totals up to the later time if everything at the node has happened by the earlier one. It does
-/// nothing at run time.
+/// Proves that the totals of a node up to a later time are the earlier ones with held visits staying on, if everything
+/// there has happened by the earlier time. It does nothing at run time.
 pub fn held_stay_on()
     ensures { HeldStayOn }
 {}

@@ -52,7 +52,8 @@ pub fn count_columns(
 }
 
 /// Returns the counts of the visits to a node of this kind from one position up to another, as if no other visit came: their totals,
-/// and the counts of their waits unless a wait is longer than `most` ticks. Held visits end with the span of the run, in ticks.
+/// and the counts of their waits unless a wait is longer than `most` ticks. Held visits stay until `span`, the end of the run, in
+/// ticks.
 ///
 /// The busy time is below 2^100 ticks. The only error is out of memory.
 pub fn count_block(

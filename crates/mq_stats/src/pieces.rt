@@ -142,8 +142,8 @@ pub fn ahead_of_departures(
 /// `found` gives for the arrivals and fates of the table. The only error is out of memory.
 ///
 /// A visit finds the earlier visits that aren't lost, less those that depart by its arrival time. The
-/// departures by then may include later visits: exactly those that arrive at the same time and depart at
-/// once.
+/// departures by then also include visits from its index on: exactly those that arrive at that time and
+/// depart at once.
 pub fn found_piece(
     alloc: Global,
     arrive: &List<u64>,

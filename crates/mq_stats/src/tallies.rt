@@ -184,8 +184,8 @@ pub fn totals_added(before: &NodeTotals, after: &NodeTotals) -> NodeTotals
     }
 }
 
-/// Returns the totals of a node of this kind, from its visits and the span of the run, in ticks. Held visits end with the span. It
-/// looks at one visit at a time and allocates no memory; `count_block` returns the same totals for a block.
+/// Returns the totals of a node of this kind, from its visits and the span of the run, in ticks, until which held visits stay. It
+/// looks at one visit at a time and allocates no memory; `count_block` returns the totals of a block.
 ///
 /// The busy time is below 2^100 ticks.
 pub fn totals(rows: &Rows, kind: &Kind, visits: &Visits, span: u64) -> NodeTotals
