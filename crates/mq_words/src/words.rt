@@ -103,7 +103,8 @@ fn subject_of<'a>(form: Form<'a>) -> Option<Subject<'a>>
     }
 }
 
-// Returns what clap finds in the arguments. If they meet the rule, it fails only for lack of memory.
+// Returns what clap finds in the arguments. If they meet the rule, its only error is a lack of
+// memory.
 fn matches_of<'a>(alloc: Global, words: &'a [&'a str]) -> Result<ArgMatches<'a>, Error>
     ensures found { refuses_words_of (texts words.now) ≡ false → IfOk result (λ matches. Finds (texts words.now) (found_of matches)) }
     ensures memory { refuses_words_of (texts words.now) ≡ false → IfErr result (λ error. kind_of error ≡ ErrorKind.OutOfMemory) }
