@@ -112,6 +112,7 @@ def _begun(part, path):
     except OSError as error:
         error.filename = path
         raise
-    with contextlib.suppress(OSError):
+    with contextlib.suppress(OSError, AttributeError):
+        # Windows has no fchmod.
         os.fchmod(handle, stat.S_IMODE(os.stat(path).st_mode))
     return handle

@@ -5,11 +5,12 @@ recorded ones, so what is found holds for them. It is tested, not proved."""
 
 import math
 from fractions import Fraction
+from itertools import groupby
 from typing import NamedTuple, Optional
 
 from ..node_visits import percentile_of
 from ..times.intervals import label
-from ..times.texts import SECOND
+from ..times.texts import SECOND, WEEKDAYS
 from .groups import FIRST, Agent, Group
 
 
@@ -154,7 +155,7 @@ def least(days, goal, progress=None):
 
     >>> from mpsim.times.calendar import Calendar
     >>> from mpsim.times.intervals import days_of
-    >>> day, = days_of(Calendar(10**9), 0, DAY // 2)
+    >>> day, = days_of(Calendar(10**9), 0, 43200 * 10**9)
     >>> calls = [[Waiting(0, at, 60, None) for at in (0, 10, 20, 100)], []]
     >>> [it.agents for it in least([(day, calls)], Goal(Fraction(3, 4), 20))]
     [2, 0]
@@ -219,3 +220,13 @@ def rows_of(found, count, every, tick, goal, shrinkage=Fraction(0)):
         shown += [None if share is None else round(share, 4), None if p90 is None else round(p90 * tick / SECOND, 1)]
         occupancy = round(it.worked / it.there, 4) if it.there else None
         yield [label(number, every), count, round(it.calls / count, 2), *shown, occupancy, erlang]
+
+
+def groups_of(chosen, is_dated, date):
+    """Returns the name of the first column, and the groups of days that get the same numbers of agents: pairs of a name and days."""
+    if date:
+        return "date", [(date, chosen)]
+    if not is_dated:
+        return "day", [("all days", chosen)]
+    by = sorted(chosen, key=lambda it: WEEKDAYS.index(it[0].weekday))
+    return "weekday", [(name, list(mine)) for name, mine in groupby(by, key=lambda it: it[0].weekday)]

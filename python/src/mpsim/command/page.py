@@ -3,7 +3,7 @@
 from .. import page
 from ..agents.pools import pool_lines
 from ..files import judge_outputs, text_of, written
-from ..model import nodes_of
+from ..page.network import unlike
 from ..sweeps.plans import labels_of
 from ..sweeps.results import Sweep, load
 from ..times.calendar import settings_in
@@ -50,21 +50,6 @@ def _models(args):
     return texts * len(args.reports) if len(texts) == 1 else texts
 
 
-def _servers(node):
-    """Returns the number of servers of a model's node (ModelNode), or None if it has none or the number is a name in braces."""
-    arguments = node.arguments.split()
-    count = {"server": 1, "loss": 1, "tandem": 1 + arguments.count("/"), "forkjoin": len(arguments) - arguments.count("|")}
-    return int(arguments[0]) if node.kind == "trunk" and arguments[0].isdecimal() else count.get(node.kind)
-
-
-def _unlike(report):
-    """Returns the name of the first node whose utilisation doesn't fit the number of servers in the model, or None."""
-    for node in nodes_of(report.model) if report.span else ():
-        count = _servers(node)
-        if count and round(10**4 * report[node.name].util) != 10**4 * report[node.name].busy // (count * report.span):
-            return node.name
-
-
 def print_pools(reports):
     """Prints which nodes of reports the page shows as pools."""
     for line in pool_lines(reports, lacks=True):
@@ -80,7 +65,7 @@ def main(args):
                 report.model = texts[at]
             except ValueError as error:
                 raise ValueError(f"{args.model[min(at, len(args.model) - 1)]}: {error}") from None
-            if texts[at] is not None and (other := _unlike(report)):
+            if texts[at] is not None and (other := unlike(report)):
                 words = "and its box shows the text of the model; give --model once per report"
                 say(f"warning: {other} of {label} doesn't have the number of servers of the model, {words}")
             labelled.append((label, report))

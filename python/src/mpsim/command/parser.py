@@ -15,6 +15,10 @@ from ..version import __version__
 from .commands import COMMANDS
 from .messages import line_of, say
 
+# The signals that end the command, and that of a pipe without a reader. Windows lacks some.
+ENDING = [getattr(signal, name) for name in ("SIGTERM", "SIGHUP") if hasattr(signal, name)]
+PIPE = getattr(signal, "SIGPIPE", 13)
+
 
 class GivenOnce(argparse._StoreAction):
     """An option with a value that may be given only once, so that no value is silently lost."""
@@ -80,7 +84,7 @@ def _ended_by_signals():
 
     with contextlib.suppress(ValueError):
         # Only the main thread may set signal handlers.
-        for number in signal.SIGTERM, signal.SIGHUP:
+        for number in ENDING:
             if signal.getsignal(number) == signal.SIG_DFL:
                 before[number] = signal.signal(number, end)
     try:
@@ -111,7 +115,7 @@ def ended(argv):
             return status
     except BrokenPipeError:
         # The reader has gone; nothing is left to say.
-        line, status = None, 128 + signal.SIGPIPE
+        line, status = None, 128 + PIPE
     except KeyboardInterrupt:
         line, status = "stopped", 128 + signal.SIGINT
     except (Error, ReportError, OSError, ValueError) as error:

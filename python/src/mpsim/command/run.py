@@ -1,19 +1,15 @@
 """The command `mpplan run`: runs a model and prints its report, warns about times that look like clocks, and can write a page."""
 
-import csv
-import itertools
 import os
 
 from ..files import judge_outputs, text_of, written
 from ..runs import run
-from ..times.formats import looks_like_clocks
+from ..traces.trace import looks_of
 from .messages import say
 from .options import calendar_words, calendar_words_in
 from .page import axes, print_pools
 
 EXAMPLE = "mpplan run model.txt trace.csv --page run.html --tick 1s"
-# The number of records examined.
-LOOKED_AT = 1000
 
 
 def words(parser):
@@ -24,19 +20,6 @@ def words(parser):
     calendar_words(parser)
 
 
-def warned(path):
-    """Returns what the times of a trace's first records look like (str) if they look like those of a clock or a calendar rather than ticks; None
-    otherwise, and for a trace that can't be read twice."""
-    if not os.path.isfile(path):
-        return None
-    with open(path, encoding="utf-8-sig", errors="replace", newline="") as file:
-        try:
-            times = [row[1] for row in itertools.islice(csv.reader(file), 1, LOOKED_AT + 1) if len(row) > 1]
-        except csv.Error:
-            return None
-    return looks_like_clocks(map(int, times)) if all(time.isascii() and time.isdigit() for time in times) else None
-
-
 def main(args):
     judge_outputs([args.page], {"model": [args.model], "trace": [args.trace]})
     for word in calendar_words_in(args) if not args.page else ():
@@ -44,7 +27,7 @@ def main(args):
     # Checked before a run that may be long, if the model can be read twice.
     if args.page and os.path.isfile(args.model):
         axes(args, text_of(args.model))
-    looks = warned(args.trace)
+    looks = looks_of(args.trace)
     if looks:
         say(f"warning: {args.trace}: its times look like {looks}, but are read as ticks: mpplan prepare converts them")
     report = run(args.model, args.trace, jobs=bool(args.jobs or args.page))

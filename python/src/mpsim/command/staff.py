@@ -4,11 +4,10 @@ import csv
 import json
 import re
 from fractions import Fraction
-from itertools import groupby
 
 from ..agents.queues import Queue
 from ..agents.rosters import patience_in
-from ..agents.staffing import HEADS, Goal, calls_of, least, rows_of
+from ..agents.staffing import HEADS, Goal, calls_of, groups_of, least, rows_of
 from ..files import text_of, written
 from ..progress import Progress
 from ..times.intervals import days_of, every_of
@@ -51,7 +50,7 @@ def goal_of(text, tick):
     """Returns the share (Fraction) and the ticks (int) of a text such as `80/20` or `90/1min`, for a tick of this many microseconds. Raises
     ValueError for an invalid text.
 
-    >>> goal_of("80/20", SECOND)
+    >>> goal_of("80/20", 10**9)
     (Fraction(4, 5), 20)
     """
     share, mark, time = text.partition("/")
@@ -78,8 +77,7 @@ def main(args):
         values, _ = patience_in(args.patience, trace, days.tick, args.seed)
         patience = [values[job - 1] for job in queue.jobs]
     every_day = days_of(days, max(queue.arrivals, default=0), every)
-    calls = calls_of(every, every_day, queue.arrivals, queue.demands, patience)
-    chosen = list(zip(every_day, calls))
+    chosen = list(zip(every_day, calls_of(every, every_day, queue.arrivals, queue.demands, patience)))
     if args.date:
         chosen = [it for it in chosen if it[0].name == args.date]
         if not chosen:
@@ -90,7 +88,7 @@ def main(args):
         chosen = [it for it in chosen if it[0].weekday == args.weekday]
         if not chosen:
             raise ValueError(f"--weekday {args.weekday}: the trace has no such day")
-    head, groups = _groups(chosen, days.is_dated, args.date)
+    head, groups = groups_of(chosen, days.is_dated, args.date)
     rows = []
     with Progress(len(groups) * (DAY // every), "intervals") as progress:
         for place, (name, mine) in enumerate(groups):
@@ -98,16 +96,6 @@ def main(args):
             rows += [[name, *row] for row in rows_of(found, len(mine), every, days.tick, goal, shrinkage)]
     with written() as file:
         FORMATS[args.format](file, [head, *HEADS], rows)
-
-
-def _groups(chosen, is_dated, date):
-    """Returns the name of the first column, and the groups of days that get the same numbers of agents: pairs of a name and days."""
-    if date:
-        return "date", [(date, chosen)]
-    if not is_dated:
-        return "day", [("all days", chosen)]
-    by = sorted(chosen, key=lambda it: WEEKDAYS.index(it[0].weekday))
-    return "weekday", [(name, list(mine)) for name, mine in groupby(by, key=lambda it: it[0].weekday)]
 
 
 def _csv(file, head, rows):

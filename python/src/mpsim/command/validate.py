@@ -3,7 +3,7 @@
 import csv
 
 from ..agents.queues import Queue
-from ..agents.validation import HEADS, Pair, recorded, rows_of, verdict
+from ..agents.validation import HEADS, compared, recorded, rows_of, verdict
 from ..files import text_of, written
 from ..times.intervals import days_of, every_of
 from ..times.texts import SECOND
@@ -35,19 +35,8 @@ def main(args):
     queue = Queue(args.model, trace, args.node)
     waits, gone = recorded(trace, args.wait, args.abandoned)
     last, sources = max(queue.arrivals, default=0), trace.sources()
-    mine = [sources[job - 1] for job in queue.jobs]
     _, group = group_of(args, days, last, sources)
-    # An abandoned call shows how long the caller waited, any other only that the patience was longer.
-    patience = [waits[job - 1] if gone[job - 1] else None for job in queue.jobs]
-    who, modelled = group.assigned(queue.arrivals, queue.demands, mine, patience)
-    cells, every_day, at = {}, days_of(days, last, every), 0
-    order = sorted(range(len(queue.jobs)), key=queue.arrivals.__getitem__)
-    for call in order:
-        while queue.arrivals[call] >= every_day[at].begins[-1] and at + 1 < len(every_day):
-            at += 1
-        record = queue.jobs[call] - 1
-        pair = Pair(waits[record], not gone[record], modelled[call], who[call] > 0)
-        cells.setdefault((every_day[at].interval(queue.arrivals[call]), mine[call]), []).append(pair)
+    cells = compared(queue, group, days_of(days, last, every), waits, gone)
     rows = list(rows_of(cells, args.within, max(1, SECOND // days.tick), every))
     say(verdict([row for row in rows if row[1] == "all"]))
     with written() as file:

@@ -4,7 +4,7 @@ import re
 from datetime import datetime, timezone
 
 from ..wording import quoted
-from .months import is_one
+from . import months
 from .texts import CLOCK, ISO_DAY, ISO_REST, RFC_DAY, RFC_REST
 
 # Plain numbers don't show what they mean.
@@ -69,7 +69,7 @@ def found_format(texts):
     for pattern, (mark, rest, clock) in _DATES.items():
         if _matches(pattern, some):
             return _found_date(texts, mark, rest, clock)
-    if 10 * sum(map(is_one, some)) >= 9 * len(some):
+    if 10 * sum(map(months.is_one, some)) >= 9 * len(some):
         return "months"
     for pattern in (*_PACKED, *_PLAIN.values(), *_DATES):
         are = [bool(re.fullmatch(pattern, item, re.ASCII)) for item in some]

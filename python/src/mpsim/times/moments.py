@@ -4,8 +4,8 @@ import re
 from datetime import datetime
 from operator import add, methodcaller
 
+from . import months
 from .formats import is_of_day
-from .months import day, parts
 from .texts import DAY, HOUR, SECOND, SPREADSHEET, Asks, Cache, Unread, at_utc, clock, excel, gtfs, hmm, hmmss
 from .texts import iso_day, iso_rest, nanos, rfc_day, rfc_rest, there
 
@@ -76,7 +76,7 @@ def _parts_of(form):
     if form == "rfc":
         return _rfc_parts, rfc_day, rfc_rest
     if form == "months":
-        return parts, day, lambda rest: (clock(rest) if rest else 0, None)
+        return months.parts, months.day, lambda rest: (clock(rest) if rest else 0, None)
     if form == "%Y%m%d%H%M%S":
         return _packed_parts, _day_as("%Y%m%d"), _clock_as("%H%M%S")
     day, _, rest = form.partition(" ")

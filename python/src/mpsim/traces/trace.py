@@ -3,14 +3,18 @@
 import contextlib
 import csv
 import io
+import itertools
 import os
 
 from ..errors import Error
 from ..files import bytes_of
 from ..inputs import records_of, row_writer
+from ..times.formats import looks_like_clocks
 
 # The most bytes of a trace, and so of a field.
 LONGEST = 1 << 27
+# The number of records whose times are examined.
+LOOKED_AT = 1000
 
 
 @contextlib.contextmanager
@@ -149,6 +153,19 @@ def header_of(path):
             return next(csv.reader(file), [])
         except csv.Error:
             return []
+
+
+def looks_of(path):
+    """Returns what the times of a trace's first records look like (str) if they look like those of a clock or a calendar rather than ticks; None
+    otherwise, and for a trace that can't be read twice."""
+    if not os.path.isfile(path):
+        return None
+    with open(path, encoding="utf-8-sig", errors="replace", newline="") as file:
+        try:
+            times = [row[1] for row in itertools.islice(csv.reader(file), 1, LOOKED_AT + 1) if len(row) > 1]
+        except csv.Error:
+            return None
+    return looks_like_clocks(map(int, times)) if all(time.isascii() and time.isdigit() for time in times) else None
 
 
 @contextlib.contextmanager
