@@ -13,7 +13,7 @@ from programs import PROGRAMS, ROOT, Check, run
 
 
 sys.path.insert(0, str(ROOT / "tools"))
-from unproved import VALUED, usage
+from unproved import usage
 
 
 def text_of(name):
@@ -86,12 +86,6 @@ class Options(Check):
             self.did(run(ROOT / program, "--help", folder="/"), 0, file)
             self.did(run(ROOT / program, "--version", folder="/"), 0, f"{program} {version}\n")
             self.same("lines that are too long", [line for line in file.read_text().splitlines() if len(line) > 79 and not line.startswith(("  $ ", "usage: "))], [])
-
-    def test_options_with_values(self):
-        """tools/unproved.py knows which arguments name no file."""
-        for program in PROGRAMS:
-            found = re.findall(r"(--[a-z]+) [A-Z]", " ".join(forms_of(program)))
-            self.same(program, sorted(VALUED[program]), sorted(set(found)))
 
     def test_what_bash_completes(self):
         """All options that aren't given yet; both forms of the report; otherwise files."""
