@@ -111,7 +111,7 @@ def rows(args):
     with locating_errors(made, model=args.model):
         report = run(model.encode(errors="surrogateescape"), made.lines(), jobs=False)
     if lost := report[args.node].lost:
-        raise ValueError(f"{counted(lost, 'call')} found no free agent: this is a mistake in planner")
+        raise ValueError(f"{counted(lost, 'call')} found no free agent: this is a mistake in mpplan")
     with all_written(args.out, args.out_model) as (out, out_model):
         if out:
             out.writelines(made.texts())
