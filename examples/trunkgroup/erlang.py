@@ -1,11 +1,11 @@
 #!/usr/bin/env python3
-"""A trunk group beside Erlang's loss formula.
+"""Compares a trunk group with Erlang's loss formula.
 
 Draws a trace of calls that come at random (a Poisson process) and hold a line for an exponential time, runs mpsim on
-it with the model of this folder, and prints the share of calls that were lost beside the share that the formula says.
+it with the model of this folder, and prints the share of lost calls and what the formula gives.
 
-    ./erlang.py [CALLS [SEED]]        100000 calls and seed 1, unless told
-    ./erlang.py --trace CALLS SEED    prints the trace alone
+    ./erlang.py [CALLS [SEED]]        default: 100000 calls and seed 1
+    ./erlang.py --trace CALLS SEED    prints only the trace
 """
 
 import math
