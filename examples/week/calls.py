@@ -1,6 +1,6 @@
 #!/usr/bin/env python3
-"""Draws trace.csv, a week of calls that come at random, from Monday to Saturday, from 8 to 18 o'clock, at a rate that depends on the hour. They last an
-exponential time. Times are in seconds after the midnight before Monday.
+"""Draws trace.csv, a week of calls that come at random, from Monday to Saturday, from 8 to 18 o'clock, at a rate that depends on the hour. They last
+an exponential time. Times are in seconds after the midnight before Monday.
 
     ./calls.py [SEED] >trace.csv        default: seed 1
 """
