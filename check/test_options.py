@@ -127,6 +127,7 @@ class Planner(Check):
             self.same(f"{file}: check/mpplan_words.py writes it", file.read_text(), made)
         page = mpplan_words.MANUAL.read_text()
         self.same("docs/mpplan.1: check/mpplan_words.py writes its commands", page, mpplan_words.with_commands(page))
+        self.holds("a per cent sign is doubled, as only argparse wants it", "%%" not in page + mpplan_words.ZSH.read_text().split("_arguments", 1)[1])
 
     def helps(self):
         """Yields the options in the help of each command, by its name."""
