@@ -39,7 +39,7 @@ def beginning(jobs, seeds, held, count, nodes, visits, off):
         "  empty.",
         "",
         "An error that moves a figure by several standard errors, here 0.1% to a few per cent, would show. An error of one tick,",
-        "in the order of simultaneous events or in a single job would not: the proof excludes these, and so does the comparison",
+        "in the order of simultaneous events or in a single job would not. The proof excludes these, and random cases are compared",
         "with an event list (`check/compare.py`). A figure may also be off because of the random draws. `check/run theory` shows",
         "that two wrong programs are noticed: a server that serves the last arrival first, and a loss station with one place too",
         "many.",
