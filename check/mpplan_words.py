@@ -15,8 +15,9 @@ import textwrap
 ROOT = pathlib.Path(__file__).resolve().parent.parent
 sys.path.insert(0, str(ROOT / "python" / "src"))
 sys.dont_write_bytecode = True
-from mpsim.planner import COMMANDS, command
-from mpsim.planner.service import Once
+from mpsim.command.commands import COMMANDS
+from mpsim.command.options import Once
+from mpsim.command.parser import parser_for
 
 MANUAL, BASH, ZSH = ROOT / "docs" / "mpplan.1", ROOT / "completions" / "mpplan.bash", ROOT / "completions" / "_mpplan"
 # Values with these names are files. Options with one of these actions may be repeated.
@@ -93,13 +94,13 @@ class Word:
 
 def words_of(name):
     """Returns the arguments (list of Word) of a command."""
-    own = command._parser(name)._subparsers._group_actions[0].choices[name]
+    own = parser_for(name)._subparsers._group_actions[0].choices[name]
     return [Word(action) for action in own._actions if action.dest != "help"]
 
 
 def example_of(name):
     """Returns the lines of a command's example."""
-    return [line.strip() for line in sys.modules[f"mpsim.planner.{name}"].EXAMPLE.splitlines()]
+    return [line.strip() for line in sys.modules[f"mpsim.command.{name}"].EXAMPLE.splitlines()]
 
 
 def roff(text):

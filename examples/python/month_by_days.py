@@ -4,9 +4,9 @@ here, more of them on Mondays; those of a log would come by `mpplan prepare`."""
 
 import random
 
-from mpsim.planner.calendar import Calendar
-from mpsim.planner.days import by_calendar, days
-from mpsim.planner.traces import Trace
+from mpsim.times.calendar import Calendar
+from mpsim.traces import Trace
+from mpsim.sweeps.days import by_calendar, days
 
 MODEL = "model 1\nsource calls\nserver desk talk from calls\n"
 DAY, HOUR, SECOND = 86400, 3600, 10**9

@@ -3,8 +3,8 @@
 
 import pathlib
 
-from mpsim.planner.pool import Queue
-from mpsim.planner.traces import Trace
+from mpsim.agents.queues import Queue
+from mpsim.traces import Trace
 
 WEEK = pathlib.Path(__file__).resolve().parent.parent / "week"
 

@@ -3,9 +3,9 @@
 
 import pathlib
 
-from mpsim.planner.pool import Queue
-from mpsim.planner.scale import scaled
-from mpsim.planner.traces import Trace
+from mpsim.agents.queues import Queue
+from mpsim.traces import Trace
+from mpsim.traces.scale import scaled
 
 WEEK, DAY = pathlib.Path(__file__).resolve().parent.parent / "week", 86400
 

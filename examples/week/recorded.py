@@ -12,9 +12,9 @@ HERE = pathlib.Path(__file__).resolve().parent
 sys.path.insert(0, str(HERE.parent.parent / "python" / "src"))
 
 from mpsim.agents import Agent, Group
-from mpsim.planner.calendar import Calendar
-from mpsim.planner.roster import read_roster
-from mpsim.planner.traces import Trace
+from mpsim.agents.rosters import read_roster
+from mpsim.times.calendar import Calendar
+from mpsim.traces import Trace
 
 trace, days = Trace.read(HERE / "trace.csv"), Calendar(10**9, "2026-03-23T00:00:00+01:00", "Europe/Berlin")
 times, talk, draw = trace.times(), trace.numbers("talk"), random.Random(5)

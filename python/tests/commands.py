@@ -7,7 +7,7 @@ import tempfile
 
 from ground import Test
 
-from mpsim.planner import main
+from mpsim.command import main
 
 
 def planner(*words):

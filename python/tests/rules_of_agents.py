@@ -2,7 +2,8 @@
 
 from typing import NamedTuple
 
-from mpsim.agents import FIRST, FOREVER
+from mpsim.agents import FIRST
+from mpsim.limits import FOREVER
 
 
 class Seen(NamedTuple):

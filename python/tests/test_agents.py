@@ -15,7 +15,7 @@ from ticking_agents import ticking
 
 import mpsim.agents
 from mpsim.agents import FIRST, LONGEST_IDLE, Agent, Call, Group, Outcome
-from mpsim.planner.pool import pool
+from mpsim.agents.queues import pool
 
 QUEUES = "mail", "phone", "chat"
 

@@ -11,9 +11,9 @@ from commands import InFolder, planner
 from ground import nodes_of, programs_in, stand_in, text_of, words_of
 
 import mpsim
-from mpsim.planner.calendar import Calendar
-from mpsim.planner.days import by_calendar, by_ticks, days
-from mpsim.planner.traces import Trace
+from mpsim.times.calendar import Calendar
+from mpsim.traces import Trace
+from mpsim.sweeps.days import by_calendar, by_ticks, days
 
 DAY, HOUR, SECOND = 86400, 3600, 10**9
 POOL = "mpplan: {} is a pool: its waits are those of {}\n"

@@ -13,9 +13,9 @@ from commands import InFolder, planner
 from ground import DESK, EXAMPLES, Test, hour_of, nodes_of, words_of
 
 import mpsim
-from mpsim.planner.calendar import Calendar
-from mpsim.planner.days import by_calendar, by_ticks, cut
-from mpsim.planner.hours import hours
+from mpsim.tables.hours import hours
+from mpsim.times.calendar import Calendar
+from mpsim.sweeps.days import by_calendar, by_ticks, cut
 
 TOLD = DESK.replace("model 1\n", "model 1\n# a tick is 1s, time 0 is 2026-03-27T08:00:00+01:00 in Europe/Berlin\n")
 NO_TICK = "the length of a tick is unknown: give --tick and --start, or {} whose first lines mpplan prepare wrote"

@@ -10,8 +10,8 @@ from changing import CALLS, EXPECTED, TIME, VALUE, Changing
 from commands import planner
 from ground import Test, text_of
 
-from mpsim.planner import edit
-from mpsim.planner.edit import stepped
+from mpsim.traces import edit
+from mpsim.traces.edit import stepped
 
 
 class Steps(Test):

@@ -10,8 +10,8 @@ from commands import InFolder, planner
 from ground import CASES, EXAMPLES, MODEL, TRACE, text_of
 
 import mpsim
-from mpsim.planner.edit import edited
-from mpsim.planner.traces import Trace
+from mpsim.traces import Trace
+from mpsim.traces.edit import edited
 
 LATE, MOVED = EXAMPLES / "edits" / "late-caller", EXAMPLES / "edits" / "shift-moved"
 

@@ -5,8 +5,8 @@ import unittest
 from ground import Test
 from test_prepare import prepare, table
 
-from mpsim.planner.exports import Export
-from mpsim.planner.expressions import terms
+from mpsim.exports.delimited import Export
+from mpsim.exports.expressions import terms
 
 HEAD = "Begin,Answered,End,Wrap,Hold (min)"
 

@@ -7,11 +7,11 @@ from commands import InFolder, planner
 from ground import Test
 from test_prepare import table
 
-from mpsim.planner.calendar import Calendar, settings_in
-from mpsim.planner.formats import found_format
-from mpsim.planner.lengths import Lengths
-from mpsim.planner.prepare import prepare
-from mpsim.planner.rows import TooManyLeft
+from mpsim.exports.prepare import prepare
+from mpsim.exports.rows import TooManyLeft
+from mpsim.times.calendar import Calendar, settings_in
+from mpsim.times.formats import found_format
+from mpsim.times.lengths import Lengths
 
 DAYS = [f"2026-03-{day:02} 08:{minute:02}:00,a,{minute}" for day in range(2, 12) for minute in range(5)]
 

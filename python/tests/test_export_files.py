@@ -15,7 +15,7 @@ from commands import InFolder, planner
 from ground import ROOT
 from test_prepare import table
 
-from mpsim.planner.prepare import prepare
+from mpsim.exports.prepare import prepare
 
 ROWS = table("2026-03-02 08:00,a,1", "2026-03-02 08:01,b,2")
 MADE = [("a", 0, 1), ("b", 60, 2)]

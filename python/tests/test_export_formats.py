@@ -7,15 +7,15 @@ from datetime import datetime, timedelta, timezone
 from ground import Test
 from test_prepare import prepare, table
 
-from mpsim.planner import months
-from mpsim.planner.calendar import settings_in
-from mpsim.planner.durations import duration
-from mpsim.planner.formats import found_format
-from mpsim.planner.lengths import Lengths
-from mpsim.planner.moments import Moments
-from mpsim.planner.names import name_for
-from mpsim.planner.times import Unread
-from mpsim.planner.zones import Zone
+from mpsim.names import name_for
+from mpsim.times import months
+from mpsim.times.calendar import settings_in
+from mpsim.times.formats import found_format
+from mpsim.times.lengths import duration
+from mpsim.times.lengths import Lengths
+from mpsim.times.moments import Moments
+from mpsim.times.texts import Unread
+from mpsim.times.zones import Zone
 
 SECOND = 10**9
 

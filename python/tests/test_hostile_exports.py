@@ -11,13 +11,13 @@ from commands import InFolder, planner
 from ground import ROOT
 from test_prepare import prepare, table
 
+from mpsim.command import machines
 from mpsim.model import nodes_of
-from mpsim.planner import elsewhere
-from mpsim.planner.scenarios import Plan, values_of
+from mpsim.sweeps.plans import Plan, values_of
 
 # The peak of this process, and not that of the one that started it.
 PEAK = """import re, sys
-from mpsim.planner import main
+from mpsim.command import main
 status = main(sys.argv[1:])
 print(status, int(re.search(r"VmHWM:\\s*(\\d+)", open("/proc/self/status").read())[1]) // 1024)
 """
@@ -52,7 +52,7 @@ class Large(InFolder):
 
     def test_the_limit_of_records(self):
         """Reading stops there, even if the pipe goes on."""
-        with unittest.mock.patch("mpsim.planner.rows.RECORDS", 5000), self.assertRaisesRegex(ValueError, "more than 5,000 records"):
+        with unittest.mock.patch("mpsim.exports.rows.RECORDS", 5000), self.assertRaisesRegex(ValueError, "more than 5,000 records"):
             prepare(table(*["2026-03-02,a,1"] * 20000), "when")
 
     def test_what_has_no_end(self):
@@ -136,7 +136,7 @@ class Started(InFolder):
         for name in "csv", "json", "mpsim":
             self.file(f"{name}.py", "print('hijacked')\n")
         folder = type("Folder", (), {"path": "sweep"})
-        words = [*elsewhere.command(folder)[:-4], "--version"]
+        words = [*machines.command(folder)[:-4], "--version"]
         ran = subprocess.run(words, cwd=self.folder, capture_output=True, text=True, check=False)
         self.assertRegex((ran.stdout + ran.stderr), r"\Ampplan \d")
 

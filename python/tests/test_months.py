@@ -5,9 +5,9 @@ import unittest
 from commands import InFolder, planner
 from ground import EXAMPLES, Test, text_of
 
-from mpsim.planner.calendar import with_settings
-from mpsim.planner.codes import codes_in, line_of, with_codes
-from mpsim.planner.prepare import prepare
+from mpsim.exports.codes import codes_in, line_of, with_codes
+from mpsim.exports.prepare import prepare
+from mpsim.times.calendar import with_settings
 
 MODEL = """model 1
 # a tick is 1s, time 0 is 2026-10-01T08:00:00+02:00 in Europe/Berlin

@@ -12,11 +12,11 @@ from looking import text_of as text_in
 from test_page import JOBS, named, with_models
 
 import mpsim
+from mpsim.command import main as planner
 from mpsim.model import nodes_of as nodes_of_model
 from mpsim.page import drawing, page
 from mpsim.page.layers import HIGH, WIDE, Layout
 from mpsim.page.network import step
-from mpsim.planner import main as planner
 
 
 class Network(Test):

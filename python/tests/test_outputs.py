@@ -7,8 +7,9 @@ from commands import InFolder, planner
 from ground import text_of
 
 import mpsim
-from mpsim.planner import COMMANDS, command
-from mpsim.planner.files import judge_outputs
+from mpsim.command.commands import COMMANDS
+from mpsim.command.parser import parser_for
+from mpsim.files import judge_outputs
 
 MODEL, TRACE = "model 1\nsource door\nserver desk talk from door\n", "source,time,talk\ndoor,0,5\ndoor,3,5\n"
 INPUTS = {
@@ -104,7 +105,7 @@ class Outputs(InFolder):
         """Each option of each command that takes a file, unless it only reads it."""
         words = [it.split() for it, _ in CALLS]
         tried = {(word[0], word[word.index("OUT") - 1]) for word in words}
-        parsers = {name: command._parser(name)._subparsers._group_actions[0].choices[name] for name in COMMANDS}
+        parsers = {name: parser_for(name)._subparsers._group_actions[0].choices[name] for name in COMMANDS}
         files = {(name, *action.option_strings) for name, parser in parsers.items() for action in parser._actions if action.metavar == "FILE"}
         self.assertEqual({file for file in files if file[-1] not in ("--model", "--trace", "--report", "--roster")}, tried)
 

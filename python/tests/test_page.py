@@ -320,7 +320,7 @@ class Files(Test):
         self.folder = pathlib.Path(held.name)
 
     def planner(self, *words, **more):
-        words = [sys.executable, "-B", "-m", "mpsim.planner", *map(str, words)]
+        words = [sys.executable, "-B", "-m", "mpsim", *map(str, words)]
         return subprocess.Popen(words, cwd=SOURCES, stdout=subprocess.PIPE, stderr=subprocess.PIPE, text=True, **more)
 
     def told(self, *words, **more):

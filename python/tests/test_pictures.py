@@ -9,9 +9,9 @@ from test_looks import Looking
 from test_page import number
 
 import mpsim
+from mpsim.agents.queues import Queue
 from mpsim.page import page
-from mpsim.planner.pool import Queue
-from mpsim.planner.traces import Trace
+from mpsim.traces import Trace
 
 
 class Pictures(Looking):

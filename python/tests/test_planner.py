@@ -17,11 +17,12 @@ from commands import InFolder, planner
 from ground import DESK, EXAMPLES, PYTHON, ROOT, SOURCES, Test, text_of
 
 import mpsim
-from mpsim.planner import COMMANDS, command
-from mpsim.planner.command import line_of
-from mpsim.planner.files import bytes_of, text_of as model_text, written
-from mpsim.planner.progress import Progress
-from mpsim.planner.traces import Trace
+from mpsim.command.commands import COMMANDS
+from mpsim.command.messages import line_of
+from mpsim.command.parser import GivenOnce, parser_for
+from mpsim.files import bytes_of, text_of as model_text, written
+from mpsim.progress import Progress
+from mpsim.traces import Trace
 
 EXPORT = EXAMPLES / "export" / "calls.csv"
 ASKED = [EXPORT, "--date", "Datum", "--time", "Uhrzeit", "--source", "Warteschlange", "--left-out-most", "40%"]
@@ -30,7 +31,7 @@ COMMAND = [sys.executable, "-B", ROOT / "mpplan"]
 
 class Words(Test):
     def test_each_command_has_help_with_an_example(self):
-        modules = {path.stem for path in (SOURCES / "mpsim" / "planner").glob("*.py") if re.search(r"^def main\(args\)", path.read_text(), re.M)}
+        modules = {path.stem for path in (SOURCES / "mpsim" / "command").glob("*.py") if re.search(r"^def main\(args\)", path.read_text(), re.M)}
         self.assertEqual(modules, set(COMMANDS))
         for name, says in COMMANDS.items():
             status, out, err = planner(name, "--help")
@@ -55,8 +56,8 @@ class Words(Test):
     def test_the_command_of_a_clone(self):
         """Through a link, from any directory, and as a module."""
         with open(PYTHON / "pyproject.toml", encoding="utf-8") as file:
-            self.assertIn('mpplan = "mpsim.planner:main"\n', file.read())
-        for command, more in (COMMAND, {}), ([sys.executable, "-B", "-m", "mpsim.planner"], {"PYTHONPATH": str(SOURCES)}):
+            self.assertIn('mpplan = "mpsim.command:main"\n', file.read())
+        for command, more in (COMMAND, {}), ([sys.executable, "-B", "-m", "mpsim"], {"PYTHONPATH": str(SOURCES)}):
             ran = subprocess.run([*command, "--version"], cwd="/", env={**os.environ, **more}, capture_output=True, text=True)
             self.assertEqual((ran.returncode, ran.stdout), (0, f"mpplan {mpsim.__version__}\n"))
 
@@ -98,9 +99,9 @@ class Ends(InFolder):
     def test_an_option_that_is_given_twice(self):
         """Each that has one value, of each command: otherwise the first of two values would be lost."""
         for name in COMMANDS:
-            parser = command._parser(name)._subparsers._group_actions[0].choices[name]
+            parser = parser_for(name)._subparsers._group_actions[0].choices[name]
             for action in parser._actions:
-                if isinstance(action, command._Once) and action.option_strings:
+                if isinstance(action, GivenOnce) and action.option_strings:
                     values = [next(iter(action.choices), "1") if action.choices else "1"] * (action.nargs if isinstance(action.nargs, int) else 1)
                     status, out, err = planner(name, *[action.option_strings[-1], *values] * 2)
                     self.assertEqual((status, out, err.split(" (")[0]), (2, "", f"mpplan: {action.option_strings[-1]} is given twice"))
@@ -233,7 +234,7 @@ class Files(InFolder):
             self.assertEqual(reader.stdout.read(), "through\n")
         # A redirected output is appended to.
         path = self.file("log", "before\n")
-        script = "from mpsim.planner.files import written\nwith written('/dev/stdout') as file: file.write('after\\n')"
+        script = "from mpsim.files import written\nwith written('/dev/stdout') as file: file.write('after\\n')"
         with open(path, "a") as out:
             subprocess.run([sys.executable, "-B", "-c", script], env={**os.environ, "PYTHONPATH": str(SOURCES)}, stdout=out, check=True)
         self.assertEqual(text_of(path), "before\nafter\n")

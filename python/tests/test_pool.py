@@ -11,9 +11,9 @@ from commands import InFolder, planner
 from ground import DESK, EXAMPLES, Test, nodes_of, text_of, waits_of, words_of
 
 import mpsim
-from mpsim.planner.pool import Queue, pool
-from mpsim.planner.pooled import pooled
-from mpsim.planner.traces import Trace
+from mpsim.agents.pools import pooled
+from mpsim.agents.queues import Queue, pool
+from mpsim.traces import Trace
 
 HEAD = ["source", "time", "d"]
 

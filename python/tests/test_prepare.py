@@ -12,11 +12,11 @@ from commands import InFolder, planner
 from ground import EXAMPLES, Test, text_of
 
 import mpsim
-from mpsim.planner.calendar import settings_in
-from mpsim.planner.exports import Export, found_delimiter, found_encoding
-from mpsim.planner.prepare import prepare as prepare_strictly
-from mpsim.planner.records import Records
-from mpsim.planner.times import Unread
+from mpsim.exports.delimited import Export, found_delimiter, found_encoding
+from mpsim.exports.prepare import prepare as prepare_strictly
+from mpsim.exports.records import Records
+from mpsim.times.calendar import settings_in
+from mpsim.times.texts import Unread
 
 # Many tables below have rows that are left out.
 prepare = functools.partial(prepare_strictly, left_out_most="100%")

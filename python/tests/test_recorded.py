@@ -8,7 +8,7 @@ import unittest
 from commands import InFolder, planner
 from ground import EXAMPLES, Test, text_of
 
-import mpsim.planner.validate
+import mpsim.agents.validation
 
 WEEK = EXAMPLES / "week" / "model.txt", EXAMPLES / "week" / "trace.csv"
 ROSTER = EXAMPLES / "week" / "roster.csv"
@@ -17,7 +17,7 @@ MODEL = "model 1\n# a tick is 1s\nsource phone\nsource mail\nserver desk d from 
 
 class Validate(Test):
     def test_docstrings(self):
-        self.assertEqual(doctest.testmod(mpsim.planner.validate)[0], 0)
+        self.assertEqual(doctest.testmod(mpsim.agents.validation)[0], 0)
 
     def test_the_verdict(self):
         """By the gap of all calls, and of intervals with fifty or more."""
@@ -30,7 +30,7 @@ class Validate(Test):
             ([row("all", 200, 0.0), row("08:00", 50, 0.051), row("09:00", 50, -0.06)], "most at 09:00 (-6.0)"),
             ([row("all", 0, None)], "there are no calls to compare"),
         ]:
-            self.assertIn(says, mpsim.planner.validate.verdict(rows))
+            self.assertIn(says, mpsim.agents.validation.verdict(rows))
 
 
 class Commands(InFolder):

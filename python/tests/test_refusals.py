@@ -7,9 +7,9 @@ import unittest.mock
 from commands import InFolder, planner
 from ground import ROOT, Test, programs_in, text_of
 
-from mpsim.planner import prepare as module
-from mpsim.planner import prepared
-from mpsim.planner import rows as rows_module
+from mpsim.exports import prepare as module
+from mpsim.exports import result
+from mpsim.exports import rows as rows_module
 
 # Some tables below have rows that are left out.
 prepare = functools.partial(module.prepare, left_out_most="100%")
@@ -242,9 +242,9 @@ class Limits(Test):
     def test_records_and_bytes(self):
         """The limits are those of docs/ERRORS.md; smaller ones are tried."""
         errors = text_of(ROOT, "docs", "ERRORS.md").replace(",", "")
-        for limit in rows_module.RECORDS, prepared.BYTES:
+        for limit in rows_module.RECORDS, result.BYTES:
             self.assertRegex(errors, rf"\b{limit}\b")
-        with unittest.mock.patch.object(rows_module, "RECORDS", 3), unittest.mock.patch.object(prepared, "BYTES", 33):
+        with unittest.mock.patch.object(rows_module, "RECORDS", 3), unittest.mock.patch.object(result, "BYTES", 33):
             with self.assertRaisesRegex(ValueError, "more than 3 records, the limit of a trace: choose a part with --from, --until or --where"):
                 prepare(table(*[ROW] * 4), "when")
             # Each record has `jobs,0` and a line feed, with the value two more bytes; the header has 11 or 13.

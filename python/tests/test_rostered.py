@@ -10,9 +10,9 @@ from ticking_agents import ticking
 
 import mpsim
 from mpsim.agents import Agent, Call
-from mpsim.planner.calendar import Calendar
-from mpsim.planner.roster import counts_roster, read_roster
-from mpsim.planner.times import SECOND
+from mpsim.agents.rosters import counts_roster, read_roster
+from mpsim.times.calendar import Calendar
+from mpsim.times.texts import SECOND
 
 WEEK = EXAMPLES / "week" / "model.txt", EXAMPLES / "week" / "trace.csv"
 MODEL = "model 1\n# a tick is 1s, time 0 is 2026-03-02T00:00:00+01:00 in Europe/Berlin\nsource phone\nsource mail\nserver desk d from phone mail\n"

@@ -9,9 +9,10 @@ from commands import InFolder, planner
 from ground import Test, text_of
 
 import mpsim
-from mpsim.planner import scale
-from mpsim.planner.scale import closer, copies, ratio, scaled
-from mpsim.planner.traces import Trace
+from mpsim.command import scale
+from mpsim.command.scale import ratio
+from mpsim.traces import Trace
+from mpsim.traces.scale import closer, copies, scaled
 
 WEEK = 604800
 

@@ -5,8 +5,8 @@ import unittest
 from commands import InFolder
 from ground import Test
 
-from mpsim.planner.scenarios import Plan, labels_of, sets_of, values_of
-from mpsim.planner.sweep import ranges
+from mpsim.command.sweep import ranges
+from mpsim.sweeps.plans import Plan, labels_of, sets_of, values_of
 
 
 class Plans(Test):

@@ -25,7 +25,7 @@ from looking import Tree, elements
 from looking import text_of as text_in
 
 from mpsim import programs
-from mpsim.planner.shards import Folder
+from mpsim.sweeps.shards import Folder
 
 TEXT = "model 2\nsource calls\ntrunk lines {lines} {column} from calls\n"
 NUMBERS = ["in", "out", "lost", "held", "wait", "max", "p50", "p90", "p99", "busy", "area", "peak", "util"]
@@ -89,7 +89,7 @@ class InFolder(Test):
     def begun(self, *words, **more):
         settings = {**os.environ, "PATH": f"{self.path}:{os.environ['PATH']}", "LOG": str(self.log), "PYTHONPATH": str(SOURCES)}
         settings.update(more.pop("settings", {}))
-        words = [sys.executable, "-B", "-m", "mpsim.planner", "sweep", *map(str, words)]
+        words = [sys.executable, "-B", "-m", "mpsim", "sweep", *map(str, words)]
         return subprocess.Popen(words, stdout=subprocess.PIPE, stderr=subprocess.PIPE, text=True, env=settings, cwd=self.folder, **more)
 
     def told(self, *words, **more):

@@ -10,7 +10,7 @@ import unittest.mock
 from commands import InFolder, planner
 from ground import EXAMPLES, ROOT, Test
 
-from mpsim.planner import sheets
+from mpsim.tables import sheets
 
 JOBS = EXAMPLES / "callcentre" / "jobs.txt"
 

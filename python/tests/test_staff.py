@@ -11,13 +11,14 @@ from fractions import Fraction
 from commands import InFolder
 from ground import EXAMPLES, Test
 
-import mpsim.planner.intervals
-import mpsim.planner.staff
-from mpsim.agents import FIRST, FOREVER, Agent, Call, Group
-from mpsim.planner.calendar import Calendar
-from mpsim.planner.intervals import days_of
-from mpsim.planner.staff import Goal, calls_of, erlang_c, least
-from mpsim.planner.times import HOUR, MINUTE, SECOND
+import mpsim.agents.staffing
+import mpsim.times.intervals
+from mpsim.agents import FIRST, Agent, Call, Group
+from mpsim.agents.staffing import Goal, calls_of, erlang_c, least
+from mpsim.limits import FOREVER
+from mpsim.times.calendar import Calendar
+from mpsim.times.intervals import days_of
+from mpsim.times.texts import HOUR, MINUTE, SECOND
 
 WEEK = EXAMPLES / "week" / "model.txt", EXAMPLES / "week" / "trace.csv"
 
@@ -71,7 +72,7 @@ def drawn(draw):
 
 class Least(Test):
     def test_docstrings(self):
-        for module in mpsim.planner.staff, mpsim.planner.intervals:
+        for module in mpsim.agents.staffing, mpsim.times.intervals:
             self.assertEqual(doctest.testmod(module)[0], 0)
 
     def test_it_reaches_the_goal_and_one_fewer_misses_it(self):
@@ -142,7 +143,7 @@ class Command(InFolder):
         """One day, one weekday and all of them agree; the calls are those of the trace."""
         words = *WEEK, "--node", "desk"
         every = self.table(*words)
-        self.assertEqual(list(every[0]), ["weekday", *mpsim.planner.staff.HEADS])
+        self.assertEqual(list(every[0]), ["weekday", *mpsim.agents.staffing.HEADS])
         monday = self.table(*words, "--weekday", "monday")
         date = self.table(*words, "--date", "2026-03-23")
         self.assertEqual([row for row in every if row["weekday"] == "Monday"], monday)
@@ -163,7 +164,7 @@ class Command(InFolder):
             rows = self.table(WEEK[0], monday, "--node", "desk", *more)
             counts, steps = {row["from"]: row["agents"] for row in rows}, []
             for number in range(48):
-                time = mpsim.planner.intervals.label(number, 30 * MINUTE)
+                time = mpsim.times.intervals.label(number, 30 * MINUTE)
                 steps.append(f"{time}={counts.get(time, 0)}")
             words = "pool", WEEK[0], monday, "--node", "desk", "--agents", ",".join(steps), "--choose", "first", *more
             pooled = list(csv.DictReader(io.StringIO(self.tells(*words))))

@@ -15,10 +15,10 @@ from commands import InFolder, planner
 from ground import DESK, EXAMPLES, MODEL, ROOT, TRACE, Test, nodes_of, reports, text_of, waits_of, words_of
 
 import mpsim
-from mpsim.planner.compare import compare
-from mpsim.planner.service import figures, service
-from mpsim.planner.sojourns import sojourns
-from mpsim.planner.sojourns import table as sojourn_table
+from mpsim.tables.comparison import compare
+from mpsim.tables.service import figures, service
+from mpsim.tables.sojourns import sojourns
+from mpsim.tables.sojourns import table as sojourn_table
 
 CALLS = EXAMPLES / "callcentre"
 JOBS, REPORT, SWEEP = CALLS / "jobs.txt", CALLS / "report.txt", EXAMPLES / "sweep" / "report.txt"

@@ -7,12 +7,12 @@ from email.utils import format_datetime
 
 from ground import Test
 
-from mpsim.planner.formats import found_format, judged_format, looks_like_clocks
-from mpsim.planner.lengths import Lengths, found_decimal
-from mpsim.planner.moments import Moments
-from mpsim.planner.names import is_name, name_for
-from mpsim.planner.times import Asks, Unread, clock, excel, hmm, hmmss, iso, length
-from mpsim.planner.zones import Zone
+from mpsim.names import is_name, name_for
+from mpsim.times.formats import found_format, judged_format, looks_like_clocks
+from mpsim.times.lengths import Lengths, found_decimal
+from mpsim.times.moments import Moments
+from mpsim.times.texts import Asks, Unread, clock, excel, hmm, hmmss, iso, length
+from mpsim.times.zones import Zone
 
 SECOND = 10**9
 EPOCH = datetime(1970, 1, 1, tzinfo=timezone.utc)

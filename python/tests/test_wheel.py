@@ -152,7 +152,7 @@ class Layout(Test):
                 (f"import mpsim; print(mpsim.run({str(MODEL)!r}, {str(TRACE)!r}), end='')", text_of(EXAMPLES, "callcentre", "report.txt")),
                 ("from mpsim import programs; print(programs.find('mpedit'))", f"{os.path.realpath(folder)}/mpsim/bin/mpedit\n"),
                 (f"import mpsim; print(len(mpsim.run({str(MODEL)!r}, {str(TRACE)!r})._repr_html_()) > 9000)", "True\n"),
-                ("import mpsim.planner; mpsim.planner.main(['--version'])", f"mpplan {importlib.import_module('mpsim').__version__}\n"),
+                ("import mpsim.command; mpsim.command.main(['--version'])", f"mpplan {importlib.import_module('mpsim').__version__}\n"),
             ):
                 ran = subprocess.run([sys.executable, "-B", "-c", script], stdout=subprocess.PIPE, text=True, env=surroundings, cwd=folder)
                 self.assertEqual((ran.returncode, ran.stdout), (0, wanted))

@@ -6,9 +6,9 @@ from zoneinfo import ZoneInfo
 
 from ground import Test, hour_of
 
-from mpsim.planner.calendar import Calendar, first_lines, settings_in
-from mpsim.planner.times import Asks, Unread
-from mpsim.planner.zones import Zone
+from mpsim.times.calendar import Calendar, first_lines, settings_in
+from mpsim.times.texts import Asks, Unread
+from mpsim.times.zones import Zone
 
 SECOND, DAY = 10**9, 86400 * 10**9
 EPOCH = datetime(1970, 1, 1)

@@ -7,10 +7,11 @@ use std::alloc::{AllocError, Global};
 use std::process::ExitCode;
 use std::{env, io};
 
-// How many models are run side by side.
+// The number of models that are run side by side.
 const WORKERS: u32 = 4;
 
-// The words without the program's name. An error says that the system gave none, or that there was no memory.
+// Returns the arguments without the program's name. The error is that the system gave none, or that memory
+// ran out.
 fn words_of(rt: &HostRuntime) -> io::Result<Vec<String>> {
     let mut words = env::args(rt)?;
     let _program = words.next();
@@ -21,7 +22,7 @@ fn texts_of<'a>(alloc: Global, words: &'a [String]) -> Result<Vec<&'a str>, Allo
     words.iter().map(|word| word.as_str()).collect(alloc)
 }
 
-// Tells that memory ran out, and gives the status for it.
+// Reports that memory ran out, and returns the status for it.
 fn out_of_memory<E: Sink>(err: &mut E) -> ExitCode {
     let _ = put_all(err, b"mpsweep: out of memory\n");
     ExitCode::from(SweepOutcome::Memory.status())

@@ -1,9 +1,9 @@
--- Where what jobs ask for stands.
+-- Where the demands of jobs are stored.
 use Rattle.std.specs.Prelude.{ℕ, List}
 use Rattle.mq_asked.specs.declared.asked.Place.{Place}
 use Rattle.mq_asked.specs.declared.asked.Place.TheVariants.{Column, Listed}
 
--- the numbers there
+-- the numbers stored there
 abbrev pub numbers_in : Place → List ℕ
 numbers_in (Column column) = column.now
 numbers_in (Listed numbers) = numbers.value

@@ -1,4 +1,4 @@
-// What jobs ask for, where it stands so in a column, or in a list of its own.
+// The demands of jobs, read from a column of the rows or from a list of their own.
 ghost use Rattle.std.specs.Prelude.{◌≡◌, ◌<◌, All, IfOk, IfSome, IsTrue, Some, length, map, slice_get, ℕ};
 ghost use Rattle.std.specs.List.{AllByRecursion};
 ghost use Rattle.mq_core.specs.Handling.{demand_of_job};
@@ -11,19 +11,19 @@ use mq_core::{Demand, Rows};
 use std::alloc::Global;
 use std::marker::Model;
 
-/// What jobs ask for, one number a job, by position, in ticks: a column of the rows, where it stands so
-/// there, or a list of its own. A contract sees the list of the numbers.
+/// The demands of jobs, one number per job, by position, in ticks: a column of the rows if that
+/// contains just these numbers, otherwise a list of its own. Contracts see the list of the numbers.
 #[derive(Drop)]
 pub struct Asked<'a> {
     place: Place<'a>,
 }
 
-// Where what jobs ask for stands: each case is an address alone, so that a look is the same in both.
+// Where the demands are stored. Each case is only an address, so that access is the same in both.
 #[derive(Drop)]
 enum Place<'a> {
     // In this column of the rows.
     Column(&'a List<u64>),
-    // In a list that was made of them.
+    // In a list made for these jobs.
     Listed(Box<List<u64>>),
 }
 
@@ -37,7 +37,7 @@ impl<'a> Model for Asked<'a> {
 }
 
 impl<'a> Asked<'a> {
-    /// The numbers, by position.
+    /// Returns the numbers, by position.
     #[inline]
     pub fn list(&self) -> &List<u64>
         ensures { result.now ≡ self.now }
@@ -48,7 +48,7 @@ impl<'a> Asked<'a> {
         }
     }
 
-    /// What the job at a position asks for, in ticks. The position is below the number of jobs.
+    /// Returns the demand of the job at a position, in ticks. The position must be below the number of jobs.
     #[inline]
     pub fn at(&self, position: usize) -> u64
         requires { position < length self.now }
@@ -58,8 +58,8 @@ impl<'a> Asked<'a> {
     }
 }
 
-/// What each of these jobs asks for by a demand, in ticks, by position: the column itself, without taking memory, where
-/// the job at each position is that of the row there and they are all. It refuses for want of memory alone.
+/// Returns the demand of each of these jobs, in ticks, by position. If the jobs are those of all rows, in order, and the
+/// demand is a column, this is the column itself and takes no memory. The only error is that memory runs out.
 pub fn asked_of<'a>(
     alloc: Global,
     rows: &'a Rows,
@@ -73,8 +73,8 @@ pub fn asked_of<'a>(
     asked_by(alloc, rows, demand, jobs, in_turn)
 }
 
-/// What each job asks for at each server, in ticks: one item a server, each as `asked_of` gives it. It refuses for want of
-/// memory alone.
+/// Returns the demand of each job at each server, in ticks: one item per server, as `asked_of` returns it. The only error
+/// is that memory runs out.
 pub fn all_asked_of<'a>(
     alloc: Global,
     rows: &'a Rows,
@@ -88,8 +88,8 @@ pub fn all_asked_of<'a>(
     all_asked_by(alloc, rows, demands, jobs, in_turn)
 }
 
-/// What each job asks for at each server of each branch, in ticks: branch by branch what `all_asked_of` gives. It refuses for
-/// want of memory alone.
+/// Returns the demand of each job at each server of each branch, in ticks: one item per branch, as `all_asked_of` returns it.
+/// The only error is that memory runs out.
 pub fn branches_asked_of<'a>(
     alloc: Global,
     rows: &'a Rows,
@@ -114,7 +114,7 @@ pub fn branches_asked_of<'a>(
     Ok(all)
 }
 
-// What each of these jobs asks for by each of some demands, where it is known whether they stand in turn.
+// Each of these jobs' demands, for several demands; `in_turn` must only be true if the jobs are in turn.
 fn all_asked_by<'a>(
     alloc: Global,
     rows: &'a Rows,
@@ -137,7 +137,7 @@ fn all_asked_by<'a>(
     Ok(List::from_vec(all))
 }
 
-// What each of these jobs asks for, where it is known whether they stand in turn.
+// The demand of each of these jobs; `in_turn` must only be true if the jobs are in turn.
 fn asked_by<'a>(
     alloc: Global,
     rows: &'a Rows,
@@ -160,7 +160,7 @@ fn asked_by<'a>(
     })
 }
 
-// The column that these jobs, which stand in turn, ask for by, where they are all that it has a number for.
+// The column that this demand names, if these jobs, which are in turn, are all that it has numbers for.
 fn column_of<'a>(rows: &'a Rows, demand: &Demand, jobs: &List<u32>) -> Option<&'a List<u64>>
     requires { StandInTurn jobs.now }
     ensures { IfSome result (λ column. column.now ≡ map (demand_of_job rows.now demand.now) jobs.now) }

@@ -1,4 +1,4 @@
-// What jobs ask for, in lists of their own.
+// The demands of jobs, in lists of their own.
 ghost use Rattle.std.specs.Prelude.{◌≡◌, map, IfOk};
 ghost use Rattle.mq_core.specs.Handling.{demand_of_job};
 ghost use Rattle.mq_asked.specs.Demands.{AreAsked};
@@ -7,7 +7,7 @@ use mq_base::{List, OutOfMemory};
 use mq_core::{Demand, Rows, demand_of};
 use std::alloc::Global;
 
-/// The demand of each of these jobs, in ticks, by position. It refuses for want of memory alone.
+/// Returns the demand of each job, in ticks, by position. The only error is that memory runs out.
 pub fn demands_of(
     alloc: Global,
     rows: &Rows,
@@ -20,8 +20,9 @@ pub fn demands_of(
     demands_in(alloc, rows, demand, jobs.as_slice())
 }
 
-/// The demand of each job of a slice, in ticks, by position. It refuses for want of memory alone.
-// Its loop is not inlined, so that it has the registers to itself.
+/// Returns the demand of each job of a slice, in ticks, by position. The only error is that memory
+/// runs out.
+// Its loop isn't inlined, so that it has the registers to itself.
 #[inline(never)]
 pub fn demands_in(
     alloc: Global,

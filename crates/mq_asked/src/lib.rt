@@ -1,4 +1,4 @@
-//! What jobs ask for, read in a column of the rows where it stands so there.
+//! The demands of jobs, read directly from a column of the rows if possible.
 #![tactic(auto)]
 
 mod asked;

@@ -1,4 +1,4 @@
--- The lemmas that proofs of other crates cite too, a page a topic. What else stands in proofs is this crate's own.
+-- The lemmas that the proofs of other crates cite too, one page per topic. Everything else in proofs is this crate's own.
 pub mod Between
 pub mod Counts
 pub mod Digits

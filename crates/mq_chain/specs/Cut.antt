@@ -1,4 +1,4 @@
--- Summaries of a cut of jobs, and the carries of the fold of these jobs.
+-- The summaries of jobs cut into blocks, and the carries of the fold of these jobs.
 use Rattle.std.specs.Prelude.{◌≡◌, ℕ, ◌+◌, ◌-◌, ◌*◌, ◌≤◌, ◌<◌, List, Contains, min, slice_index_or}
 use Rattle.mq_maxplus.specs.declared.mp.Mp.{Mp}
 use Rattle.mq_maxplus.specs.declared.mp.Mp.TheVariants.{Void, At}
@@ -7,7 +7,7 @@ use Rattle.mq_maxplus.specs.Maxplus.{affine_act, affine_then}
 use Rattle.mq_scan.specs.Folds.{span, fold_to}
 use Rattle.mq_chain.specs.Words.{sum_word, best_word}
 
--- the summary of block b of the indices, cut into runs of `block`
+-- the summary of block b, if `size` jobs are cut into blocks of length `block`
 abbrev pub block_summary : (ℕ → Affine) → ℕ → ℕ → ℕ → Affine
 block_summary part size block b = span affine_then part (b * block) ((min ((b + 1) * block) size - b * block) - 1)
 
@@ -21,7 +21,7 @@ pub record AreOfCut (part : ℕ → Affine) (size block : ℕ) (puts : List (ℕ
 abbrev pub IsCarryAfter : (ℕ → Affine) → ℕ → ℕ → ℕ → ℕ → Type 0
 IsCarryAfter part size block b c = At c ≡ fold_to affine_act Void part (min ((b + 1) * block) size)
 
--- where the summaries that were stored are those of a cut of some jobs, each carry that stands is the one of their fold
+-- if the stored summaries are those of some jobs cut into blocks, then each stored carry is the one of their fold
 abbrev pub AreFolded : List (ℕ × ℕ) → ℕ → List Mp → Type 0
 AreFolded puts blocks carries =
     (part : ℕ → Affine) (size block b c : ℕ) → AreOfCut part size block puts → b < blocks → b * block < size → slice_index_or carries b Void ≡ At c → IsCarryAfter part size block b c

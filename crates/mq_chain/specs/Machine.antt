@@ -1,4 +1,4 @@
--- The carry machine: the states that a schedule reaches, each step of which is one step of a seat.
+-- The carry machine: the states that a schedule reaches. Each step is one step of a seat.
 use Rattle.std.specs.Prelude.{◌≡◌, ◌≢◌, ℕ, zero, suc, ◌+◌, ◌-◌, ◌*◌, ◌<◌, ◌≤◌, ◌⊎◌, List, [], ◌∷◌, ◌++◌, slice_index, slice_set, Contains, max, replicate}
 use mathlib.Core.Option.{some}
 use lib.ListN.{get_elem?}
@@ -7,25 +7,25 @@ use Rattle.mq_chain.specs.declared.view.ChainView.{ChainView}
 use Rattle.mq_chain.specs.Words.{sum_word, best_word, carry_word, block_of}
 use Rattle.mq_chain.specs.Views.{chain_view}
 
--- the carry of block b, as its word: the best of block 0, and else what the summary makes of the carry before, which was seen
+-- the carry of block b, as its word: the best of block 0; for others what the summary makes of the carry before, which was seen
 abbrev pub IsCarry : List ℕ → List (ℕ × ℕ) → ℕ → ℕ → Type 0
 IsCarry words looks zero x = x ≡ slice_index words (best_word 0)
 IsCarry words looks (suc b) x =
     (slice_index words (carry_word b) ≢ 0) × Contains looks (carry_word b, slice_index words (carry_word b))
     × (x ≡ max ((slice_index words (carry_word b) + slice_index words (sum_word (suc b))) - 1) (slice_index words (best_word (suc b))))
 
--- what may be stored in a word: a sum, then a best, then the carry
+-- what may be stored in a word: a sum, then a best, then a carry
 abbrev pub MayPut : List ℕ → List (ℕ × ℕ) → ℕ → ℕ → Type 0
 MayPut words looks w x =
     ((b : ℕ) × (w ≡ sum_word b))
     ⊎ (((b : ℕ) × (w ≡ best_word b) × (slice_index words (sum_word b) ≢ 0))
     ⊎ ((b : ℕ) × (w ≡ carry_word b) × (slice_index words (sum_word b) ≢ 0) × (slice_index words (best_word b) ≢ 0) × IsCarry words looks b x))
 
--- a seat at its index that isn't spent
+-- the seat at this index isn't spent
 abbrev pub IsSeat : List ChainView → ℕ → ChainView → Type 0
 IsSeat views i v = (get_elem? views i ≡ some v) × (1 ≤ v.right)
 
--- The states that a schedule reaches from these words and views. A seat draws the next block, stores a word of a block that it drew, or looks at the carry of a block. One makes a seat with a share of its right, or takes in another, which is then spent
+-- The states that a schedule reaches from these words and views. A seat draws the next block, stores a word of a block that it drew, looks at the carry of a block, gives a share of its right to a new seat, or takes in another seat, which is then spent
 pub data Leads (blocks : ℕ) (words : List ℕ) (views : List ChainView) : List ℕ → List ChainView → Type 0 where
   starts : Leads blocks words views words views
   draws : (ws : List ℕ) (vs : List ChainView) (i : ℕ) (v : ChainView) → Leads blocks words views ws vs → IsSeat vs i v → late blocks v.draws ≡ 0
@@ -39,11 +39,11 @@ pub data Leads (blocks : ℕ) (words : List ℕ) (views : List ChainView) : List
   joins : (ws : List ℕ) (vs : List ChainView) (i other : ℕ) (v w : ChainView) → Leads blocks words views ws vs → IsSeat vs i v → other ≢ i → IsSeat vs other w
       → Leads blocks words views ws (slice_set (slice_set vs i (chain_view (v.right + w.right) (v.draws ++ w.draws) (v.puts ++ w.puts) (v.looks ++ w.looks))) other (chain_view 0 [] [] []))
 
--- those of a table that begins with nothing drawn, and with one seat, which has the whole right
+-- the states reached from a table with nothing drawn and one seat, which has the whole right
 abbrev pub Runs : ℕ → ℕ → List ℕ → List ChainView → Type 0
 Runs blocks seats ws vs = Leads blocks (replicate (3 * blocks + 1) 0) (chain_view seats [] [] [] ∷ []) ws vs
 
--- the carry of block b is the fold of the summaries of blocks 0 to b, as their words: each follows from its summary and the carry before
+-- the carry of block b is the fold of the summaries of blocks 0 to b, as words: each follows from its summary and the carry before
 abbrev pub IsFolded : List ℕ → ℕ → Type 0
 IsFolded words zero = (slice_index words (sum_word 0) ≢ 0) × (slice_index words (best_word 0) ≢ 0) × (slice_index words (carry_word 0) ≡ slice_index words (best_word 0))
 IsFolded words (suc b) =

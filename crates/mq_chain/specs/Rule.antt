@@ -17,7 +17,7 @@ pub record Kept (deal : Deal) (s : State (Unit {0}) ChainView) : Type 0 where
   pub run : Runs deal.blocks deal.seats s.words s.views
   pub posted : IsPosted deal.blocks s.words s.views
 
--- what a seat knows, and the slots that it holds: none
+-- what a seat knows, and the slots that it has: none
 abbrev Sat : Type 0
 Sat = Me (Unit {0}) ChainView
 
@@ -29,7 +29,7 @@ Draws step v found w = All (λ d. d < found) v.0.draws × (w ≡ (chain_view v.0
 abbrev pub Stores : Step (Unit {0}) → Sat → ℕ → Sat → Type 0
 Stores step v stored w = w ≡ (chain_view v.0.right v.0.draws (v.0.puts ++ (step.word, step.first) ∷ []) v.0.looks, v.1)
 
--- The word and what it held were appended to the looks. It held what the seat had stored there, or had seen there
+-- The word and its value were appended to the looks. The value is what the seat had stored there, or had seen there
 abbrev pub Sees : Step (Unit {0}) → Sat → ℕ → Sat → Type 0
 Sees step v found w =
     (w ≡ (chain_view v.0.right v.0.draws v.0.puts (v.0.looks ++ (step.word, found) ∷ []), v.1))
@@ -37,6 +37,6 @@ Sees step v found w =
     × ((x : ℕ) → x ≢ 0 → Contains v.0.looks (step.word, x) → found ≡ x)
     × (found ≤ 2 ^ 63)
 
--- a look at the first word, which tells that no number stands twice in the seat; it is none of the looks for carries
+-- a look at the first word, which shows that the seat drew no number twice; it isn't added to the looks for carries
 abbrev pub SeesOnce : Step (Unit {0}) → Sat → ℕ → Sat → Type 0
 SeesOnce step v found w = (w ≡ v) × ((x : ℕ) → times x v.0.draws ≤ 1)

@@ -1,4 +1,4 @@
--- Which word is which. Word 0 gives out blocks; a block has a word each for its sum, its best and its carry, which hold 0 or a value plus 1.
+-- The words of the table. Word 0 gives out blocks; a block has a word each for its sum, best and carry, which contain 0 or a value plus 1.
 use Rattle.std.specs.Prelude.{ℕ, ◌+◌, ◌-◌, ◌*◌, ◌/◌, Option, Some, None, if◌then◌else◌, ◌==◌}
 use Rattle.mq_maxplus.specs.declared.mp.Mp.{Mp}
 use Rattle.mq_maxplus.specs.declared.mp.Mp.TheVariants.{Void, At}
@@ -12,7 +12,7 @@ best_word b = 3 * b + 2
 abbrev pub carry_word : ℕ → ℕ
 carry_word b = 3 * b + 3
 
--- the block of a word behind the first
+-- the block of a word after the first
 abbrev pub block_of : ℕ → ℕ
 block_of w = (w - 1) / 3
 
@@ -26,6 +26,6 @@ abbrev pub word_of : Option ℕ → ℕ
 word_of None = 0
 word_of (Some v) = v + 1
 
--- the carry that a word holds
+-- the carry that a word contains
 abbrev pub mp_of_word : ℕ → Mp
 mp_of_word n = if n == 0 then Void else At (n - 1)

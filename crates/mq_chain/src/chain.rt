@@ -42,14 +42,14 @@ impl Play<(), ChainView> for Look {
     ghost then = { Sees };
 }
 
-// A look by which a seat learns that no number stands in it twice.
+// A look that shows a seat that it drew no number twice.
 struct LookOnce;
 
 impl Play<(), ChainView> for LookOnce {
     ghost then = { SeesOnce };
 }
 
-// How much right a split gives away. A split is named by a type, so a type has to say it.
+// The right that a split gives away. A split is named by a type, so a type must say how much.
 trait Share {
     ghost share: { ℕ };
 }
@@ -77,9 +77,9 @@ impl Join<ChainView> for Both {
 }
 
 /// The carries of blocks of jobs, each the last departure after its block, in a table that its seats
-/// fill in. The first word gives out the blocks; each block has a word for its sum, its best and its
-/// carry, which hold 0 or a value plus 1, and are stored once, by the seat that drew the block. Each
-/// call but `new` and `close` is one or two atomic steps, none of which is tried again.
+/// fill in. The first word gives out the blocks. Each block has one word each for its sum, its best
+/// and its carry; a word contains 0 or a value plus 1, and is stored once, by the seat that drew the
+/// block. Each call but `new` and `close` has at most two atomic steps, and retries none.
 #[derive(Drop)]
 pub struct Chain {
     table: Table<(), ChainView, Deal, Rule, Global>,
@@ -98,9 +98,9 @@ impl Model for Chain {
     ghost invariant = { λ c. (c.table.shared.table_id.words ≡ 3 * c.table.shared.key.blocks + 1) × (c.table.shared.table_id.slots ≡ 0) × (c.table.shared.key.blocks < 2 ^ 32) };
 }
 
-/// The right to draw blocks, and what was done with them: a token of one thread. What it holds, its
-/// right (at least 1), the blocks that it drew, what it stored and what its looks found, is seen by
-/// contracts alone and takes no memory.
+/// The right to draw blocks, and what was done with them: a token of one thread. Only contracts see
+/// its right (at least 1), the blocks that it drew, what it stored and what its looks found; they
+/// take no memory.
 #[derive(Drop)]
 pub struct ChainSeat {
     seat: Seat<(), ChainView>,
@@ -119,7 +119,7 @@ impl Model for ChainSeat {
     ghost invariant = { λ s. (1 ≤ s.seat.me.0.right) × (s.seat.me.1 ≡ []) };
 }
 
-// The carry that a word holds.
+// The carry that a word contains.
 fn mp_of(word: u64) -> Mp
     ensures { result ≡ mp_of_word word }
 {
@@ -131,9 +131,9 @@ fn mp_of(word: u64) -> Mp
 }
 
 impl Chain {
-    /// A table of 1 to 16,384 blocks with nothing stored, and its first seat, which has the right to
-    /// make `seats` seats in all, at least 1. It refuses for want of memory alone, as `close` does; no
-    /// other call takes any.
+    /// Returns a table of 1 to 16,384 blocks with nothing stored, and its first seat, which has the
+    /// right to make `seats` seats in all, at least 1. The only error is that memory runs out, as for
+    /// `close`; no other call takes memory.
     pub fn new(alloc: Global, blocks: u32, seats: u32) -> Result<(Chain, ChainSeat), OutOfMemory>
         requires some_blocks { 1 ≤ blocks }
         requires most { blocks ≤ 16384 }
@@ -150,7 +150,7 @@ impl Chain {
     }
 
     /// Gives `share` of the seat's right to a new seat, at least 1 and less than all of it. Each block
-    /// that the seat drew is one of the table's.
+    /// that the seat drew must be one of the table's.
     pub fn split(&self, seat: &mut ChainSeat, share: u32) -> ChainSeat
         requires own { IsSeatOf self.now seat.old }
         requires early { All (λ d. d < self.now.blocks) seat.old.draws }
@@ -162,7 +162,7 @@ impl Chain {
         self.split_by::<Brand>(seat, share)
     }
 
-    // A split whose type says the share.
+    // Gives away the share that the type says.
     fn split_by<N: Share>(&self, seat: &mut ChainSeat, share: u32) -> ChainSeat
         requires share { share ≡ N.share }
         requires own { IsSeatOf self.now seat.old }
@@ -176,7 +176,7 @@ impl Chain {
         ChainSeat { seat }
     }
 
-    /// Takes in the right of another seat of this table, and all that it drew, stored and saw. No
+    /// Takes over the right of another seat of this table, and all that it drew, stored and saw. No
     /// block was drawn by both.
     pub fn join(&self, seat: &mut ChainSeat, other: ChainSeat)
         requires own { IsSeatOf self.now seat.old }
@@ -190,9 +190,9 @@ impl Chain {
         self.table.shared.load::<LookOnce>(&mut seat.seat, 0);
     }
 
-    /// The carries by block, by the seat that has the whole right; `Void` where none was put. Where
-    /// the summaries that were put are those of a cut of some jobs, each is the carry of their fold.
-    /// Where memory is wanting, table and seat are dropped.
+    /// Returns the carry of each block, `Void` if none was stored; the seat must have the whole right.
+    /// If the stored summaries are those of some jobs cut into blocks, each carry is the one of their
+    /// fold. If memory runs out, table and seat are dropped.
     pub fn close(self, alloc: Global, seat: ChainSeat) -> Result<List<Mp>, OutOfMemory>
         requires own { IsSeatOf self seat }
         requires whole { seat.right ≡ self.seats }
@@ -213,8 +213,9 @@ impl Chain {
         Ok(List::from_vec(carries))
     }
 
-    /// Draws the next block, which no other seat draws. It is greater than all that the seat drew, and
-    /// is appended to them. Each of these is one of the table's; the new one may be past the last.
+    /// Draws the next block, which no other seat draws, and returns it. It is greater than all that
+    /// the seat drew before, which must be blocks of the table, and is appended to them. It may be
+    /// past the table's last block.
     pub fn draw(&self, seat: &mut ChainSeat) -> u64
         requires own { IsSeatOf self.now seat.old }
         requires early { All (λ d. d < self.now.blocks) seat.old.draws }
@@ -224,9 +225,9 @@ impl Chain {
         self.table.shared.fetch_add::<Draw>(&mut seat.seat, 0, 1)
     }
 
-    /// Looks once for the carry of a block, in one load of its word, and notes what was found in the
-    /// seat. There is none exactly where the load found none, and never where the seat itself has put
-    /// or seen that carry. A carry is below 2^63.
+    /// Looks once for the carry of a block, by one load of its word, and adds what it found to the
+    /// seat's looks. Returns a carry, below 2^63, exactly if the word contains one, and always if the
+    /// seat has stored or seen one there.
     pub fn carry(&self, seat: &mut ChainSeat, b: u32) -> Option<u64>
         requires own { IsSeatOf self.now seat.old }
         requires inside { b < self.now.blocks }
@@ -240,7 +241,8 @@ impl Chain {
         if found == 0 { None } else { Some(found - 1) }
     }
 
-    /// Stores the sum and then the best of a block that the seat drew, once. Both are below 2^63.
+    /// Stores the sum and then the best of a block that the seat drew. Both are below 2^63, and each
+    /// is stored once.
     pub fn put_summary(&self, seat: &mut ChainSeat, b: u32, summary: Affine)
         requires own { IsSeatOf self.now seat.old }
         requires inside { b < self.now.blocks }
@@ -258,8 +260,8 @@ impl Chain {
         shared.store::<Put>(&mut seat.seat, word + 2, best + 1);
     }
 
-    /// Stores the carry of a block that the seat drew, once, and behind its summary: what the summary
-    /// makes of the carry before it, which the seat has seen. It is below 2^63.
+    /// Stores the carry of a block that the seat drew, once, after its summary. The carry is what the
+    /// summary makes of the carry before it, which the seat has seen, and is below 2^63.
     pub fn put_carry(&self, seat: &mut ChainSeat, b: u32, carry: u64)
         requires own { IsSeatOf self.now seat.old }
         requires inside { b < self.now.blocks }

@@ -1,4 +1,4 @@
-//! A table of carries that is filled in by whoever drew a block.
+//! A table of carries: whoever draws a block stores its carry.
 #![tactic(auto)]
 
 mod chain;

@@ -1,6 +1,6 @@
--- What a kind of node is: all that the other definitions ask of a kind. A further kind gives one such value, in a file
--- of `Kinds`, with a lemma that it schedules nothing early; their rows stand in `KindTable` and `OnTime`. What is to be
--- shown of it is listed by the records of laws in `proofs/EachKind`, whose rows stand in `LawTable`.
+-- What a kind of node is: all that the other definitions need to know of a kind. To add a kind, give one such value, in a file of
+-- `Kinds`, with a lemma that it schedules nothing early, and add their rows to `KindTable` and `OnTime`. The records of laws in
+-- `proofs/EachKind` list what must be proved of it; its row goes into `LawTable`.
 use Rattle.mq_core.specs.Came.{Came}
 use Rattle.std.specs.Prelude.{Bool, List, Option, ℕ}
 use Rattle.mq_core.specs.Event.{Event}
@@ -11,59 +11,59 @@ use Rattle.mq_core.specs.declared.model.Fate.{Fate}
 use Rattle.mq_core.specs.declared.model.Rows.{Rows}
 use Rattle.mq_core.specs.declared.model.Stream.{Stream}
 
--- one value a kind: each word that goes by kind is one of its fields
+-- one value per kind: everything that depends on the kind is one of its fields
 pub record Behaviour : Type 1 where
   -- What the event list, its tallies and the model's limits read.
   -- jobs start here: rows name the node
   pub starts : Bool
   -- what a node keeps at the start
   pub opening : Local
-  -- what it keeps after an event, lets out and schedules, at a node of so many ports
+  -- what it keeps after an event, lets out and schedules, at a node with this many ports
   pub on : Rows → ℕ → List Visit → Local → ℕ → Event → Reaction Local
   -- the number of jobs in it
   pub jobs : List Visit → Local → ℕ
   -- the number of its working servers
   pub working : Local → ℕ
-  -- jobs stay in it: else each goes on when it comes
+  -- jobs stay in it; otherwise each goes on when it comes
   pub holds : Bool
-  -- how many servers it has, by which its utilisation is reckoned
+  -- the number of its servers, by which its utilisation is computed
   pub servers : ℕ
-  -- how many outputs it has
+  -- the number of its outputs
   pub outputs : ℕ
-  -- it may have this many ports
+  -- whether it may have this many ports
   pub ports : ℕ → Bool
-  -- the version of the models' language from which on it stands in models
+  -- the version of the model language from which it may be used
   pub version : ℕ
-  -- its numbers are in their ranges, in a model of so many columns
+  -- whether its numbers are in their ranges, in a model with this many columns
   pub sound : ℕ → Bool
   -- the columns that it mentions, in order
   pub mentioned : List ℕ
-  -- how long a job stays that never waits
+  -- how long a job stays if it never waits
   pub bare : Rows → ℕ → ℕ
-  -- the emission with which the visit at a position leaves, once it has
+  -- the emission with which the visit at a position leaves, once it has left
   pub exit : Station Local → ℕ → Option Emission
   -- what an emission says of its visit
   pub fate : Emission → Fate
-  -- What its recurrence says, which the event list doesn't read: laws tie the two.
-  -- the rows tell what a job asks for, each demand in its limit
+  -- What its recurrence says. The event list doesn't read this; laws connect the two.
+  -- the rows give all that it needs for a job, each demand in its limit
   pub asked : Rows → ℕ → Type 0
-  -- the service that a job asks for
+  -- the sum of the services that a job needs
   pub service : Rows → ℕ → ℕ
-  -- the fates of jobs that come at these times
+  -- the fates of these arrivals
   pub fates : Rows → Came → List Fate
-  -- the outputs by which they leave
+  -- the outputs by which they leave; none at a fork or a join
   pub outs : Rows → Came → List ℕ
-  -- what these visits let out, by position, at a node of so many ports
+  -- what these visits let out, by position, at a node with this many ports
   pub flow : Rows → ℕ → List Visit → List Emission
-  -- the order in which it lets out
+  -- the order in which it lets jobs out
   pub order : EmissionOrder
-  -- how many jobs one event may let out at most
+  -- the most jobs that one event may let out
   pub copies : ℕ
-  -- whether a visit that leaves with an emission is still there for one that comes at a time, at a position
+  -- whether a visit that leaves with an emission is still there for a visit that comes at this time, at this position
   pub there : ℕ → ℕ → Emission → Bool
   -- visits may stay for good
   pub keeps : Bool
-  -- each visit leaves once, alone: its sequences go by its fate and its output
+  -- each visit leaves once, alone, so that its sequences follow from its fate and its output
   pub once : Bool
   -- what each arrival finds
   pub founds : Rows → Came → List ℕ

@@ -1,4 +1,4 @@
--- Which fates are meant by those that are kept.
+-- The fates that a stored form stands for.
 use Rattle.std.specs.Prelude.{List, map}
 use Rattle.mq_core.specs.declared.fate_lists.Kept.{Kept}
 use Rattle.mq_core.specs.declared.fate_lists.Kept.TheVariants.{Departures, Each}
@@ -7,12 +7,12 @@ use Rattle.mq_core.specs.declared.fate_lists.KeptSlice.TheVariants.{Departures a
 use Rattle.mq_core.specs.declared.model.Fate.{Fate}
 use Rattle.mq_core.specs.declared.model.Fate.TheVariants.{Departs}
 
--- of departures that each visit departs at its time
+-- departures mean that each visit departs at its time
 abbrev pub fates_kept : Kept → List Fate
 fates_kept (Departures times) = map (λ time. Departs time) times
 fates_kept (Each fates) = fates
 
--- the same of neighbouring ones
+-- the fates that a stored part of them stands for
 abbrev pub fates_in : KeptSlice → List Fate
 fates_in (DepartureSlice times) = map (λ time. Departs time) times.now
 fates_in (EachSlice fates) = fates.now

@@ -1,4 +1,4 @@
--- What the handlers of several kinds are made of.
+-- The parts that the handlers of several kinds share.
 use Rattle.std.specs.Prelude.{ℕ, ◌+◌, ◌-◌, List, [], ◌∷◌, ◌++◌, length, Option, Some, None, slice_get, slice_index}
 use Rattle.mq_core.specs.Machine.{Visit, Service, Reaction}
 use Rattle.mq_core.specs.Local.{Local}
@@ -7,26 +7,26 @@ use Rattle.mq_core.specs.declared.model.Demand.TheVariants.{Column, Fixed}
 use Rattle.mq_core.specs.declared.model.Rows.{Rows}
 use Rattle.mq_core.specs.declared.model.Stage.{Stage}
 
--- the value of a job in a column
+-- the value of a job in a column, or 0 if there is no such column
 abbrev pub column_value : Option (List ℕ) → ℕ → ℕ
 column_value None job = 0
 column_value (Some values) job = slice_index values job
 
--- the value of a job in the column of this number
+-- the value of a job in column number `column`
 abbrev pub value_of : Rows → ℕ → ℕ → ℕ
 value_of rows column job = column_value (slice_get rows.demands column) job
 
--- what a job asks for
+-- the demand of a job
 abbrev pub demand_of_job : Rows → Demand → ℕ → ℕ
 demand_of_job rows (Column column) job = value_of rows column job
 demand_of_job rows (Fixed demand) job = demand
 
--- what a job asks for at all these stages
+-- the sum of a job's demands at all these stages
 abbrev pub demand_of_stages : Rows → List Stage → ℕ → ℕ
 demand_of_stages rows [] job = 0
 demand_of_stages rows (stage ∷ stages) job = demand_of_job rows stage.demand job + demand_of_stages rows stages job
 
--- the demand of the job at a position
+-- the demand of a visit, or 0 if there is none
 abbrev pub demand_of_visit : Rows → Demand → Option Visit → ℕ
 demand_of_visit rows demand None = 0
 demand_of_visit rows demand (Some visit) = demand_of_job rows demand visit.job
@@ -43,11 +43,11 @@ latest visits = length visits - 1
 abbrev pub quiet : Local → Reaction Local
 quiet local = record { local = local; releases = []; services = [] }
 
--- a position goes on at once
+-- a position goes on at once, by this output
 abbrev pub passes_on : Local → ℕ → ℕ → Reaction Local
 passes_on local out position = record { local = local; releases = record { out = out; position = position } ∷ []; services = [] }
 
--- a service that starts now
+-- the service of a position that begins now
 abbrev pub begins : Rows → Demand → List Visit → ℕ → ℕ → Service
 begins rows demand visits now position = record { server = 0; position = position; time = now + demand_at rows demand visits position }
 
@@ -56,14 +56,14 @@ abbrev pub front_begins : Rows → Demand → List Visit → ℕ → List ℕ �
 front_begins rows demand visits now [] = []
 front_begins rows demand visits now (position ∷ queue) = begins rows demand visits now position ∷ []
 
--- the position queues up, and begins if it is alone
+-- a position queues up, and its service begins if it is alone
 abbrev pub queues_up : Rows → Demand → List Visit → Local → ℕ → List ℕ → ℕ → Reaction Local
 queues_up rows demand visits local now [] position =
     record { local = record local { queue = position ∷ [] }; releases = []; services = begins rows demand visits now position ∷ [] }
 queues_up rows demand visits local now (front ∷ queue) position =
     record { local = record local { queue = (front ∷ queue) ++ position ∷ [] }; releases = []; services = [] }
 
--- the front leaves, and the next begins
+-- the front leaves, and the service of the next one begins
 abbrev pub front_leaves : Rows → Demand → List Visit → Local → ℕ → List ℕ → Reaction Local
 front_leaves rows demand visits local now [] = quiet local
 front_leaves rows demand visits local now (front ∷ queue) =
@@ -73,18 +73,18 @@ front_leaves rows demand visits local now (front ∷ queue) =
       services = front_begins rows demand visits now queue;
     }
 
--- 1 where the queue holds a job
+-- 1 if the queue has a job, otherwise 0
 abbrev pub one_if_some : List ℕ → ℕ
 one_if_some [] = 0
 one_if_some (front ∷ queue) = 1
 
--- the service of the front of a list at a server
+-- the service of the front of a list, which begins now at a server
 abbrev pub begins_at : Rows → Demand → List Visit → ℕ → ℕ → List ℕ → List Service
 begins_at rows demand visits now server [] = []
 begins_at rows demand visits now server (position ∷ queue) =
     record { server = server; position = position; time = now + demand_at rows demand visits position } ∷ []
 
--- the service of a position that queues up in this list: it begins where the list was empty
+-- the service of a position that queues up in this list, which begins now if the list was empty
 abbrev pub begins_alone : Rows → Demand → List Visit → ℕ → ℕ → List ℕ → ℕ → List Service
 begins_alone rows demand visits now server [] position = begins_at rows demand visits now server (position ∷ [])
 begins_alone rows demand visits now server (front ∷ queue) position = []

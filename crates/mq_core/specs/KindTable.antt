@@ -1,4 +1,4 @@
--- The table of the kinds: one row a kind. A kind's value stands in its file of `Kinds`.
+-- The table of the kinds, one row per kind. A kind's value is in its file of `Kinds`.
 use Rattle.mq_core.specs.Behaviour.{Behaviour}
 use Rattle.mq_core.specs.Kinds.Delay.{delay}
 use Rattle.mq_core.specs.Kinds.Fork.{fork}
@@ -13,7 +13,7 @@ use Rattle.mq_core.specs.Kinds.Trunk.{trunk}
 use Rattle.mq_core.specs.declared.model.Kind.{Kind}
 use Rattle.mq_core.specs.declared.model.Kind.TheVariants.{Delay, Fork, ForkJoin, Join, Loss, Server, Source, Split, Tandem, Trunk}
 
--- the behaviours, one row a kind
+-- the behaviours, one row per kind
 abbrev pub behaviour_of : Kind → Behaviour
 behaviour_of Source = source
 behaviour_of (Server demand) = server demand

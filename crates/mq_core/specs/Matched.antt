@@ -1,4 +1,5 @@
--- When the visits to a join depart. The i-th visits of a job by all ports are a match: each of them departs as the last of them comes.
+-- When the visits to a join depart. The i-th visits of a job by all ports are a match: each of them departs when the last of them
+-- comes.
 use Rattle.std.specs.Prelude.{List, Some, count_by, false, length, slice_get, suc, take, true, ℕ, ◌<◌, ◌≡◌, ◌≤◌}
 use Rattle.mq_core.specs.Fates.{fate_of}
 use Rattle.mq_core.specs.Kinds.Join.{has_entry, index_of, is_of}
@@ -15,7 +16,7 @@ use Rattle.mq_core.specs.declared.model.Node.{Node}
 use Rattle.mq_core.specs.declared.model.Plan.{Plan}
 use Rattle.mq_core.specs.declared.model.Rows.{Rows}
 
--- the visit of a job by a port before which so many came of the same job by the same port
+-- the visit of a job by a port that has `index` earlier visits of the same job by the same port
 pub record Item (visits : List Visit) (job port index : ℕ) : Type 0 where
   pub position : ℕ
   pub visit : Visit
@@ -24,7 +25,7 @@ pub record Item (visits : List Visit) (job port index : ℕ) : Type 0 where
   pub by : visit.port ≡ port
   pub behind : count_by (is_of job port) (take position visits) ≡ index
 
--- by each of these ports the item of this index is there; none comes later than this time, and one comes then
+-- by each of these ports there is an item of this index; none comes later than this time, and one comes then
 pub record IsMatchedAt (ports : ℕ) (visits : List Visit) (job index time : ℕ) : Type 0 where
   pub item : (port : ℕ) → port < ports → Item visits job port index
   pub early : (port : ℕ) (inside : port < ports) → (item port inside).visit.arrive ≤ time
@@ -38,7 +39,7 @@ pub record IsUnmatched (ports : ℕ) (visits : List Visit) (job index : ℕ) : T
   pub inside : port < ports
   pub few : count_by (is_of job port) visits ≤ index
 
--- how an item of this index fares: it departs as the last item of its match comes, or is held where one never does
+-- how an item of this index fares: it departs when the last item of its match comes, or is held if one never comes
 abbrev pub FaresByMatch : ℕ → List Visit → ℕ → ℕ → Fate → Type 0
 FaresByMatch ports visits job index (Departs time) = IsMatchedAt ports visits job index time
 FaresByMatch ports visits job index Lost = ⊥
@@ -52,7 +53,8 @@ VisitsFareByMatch =
     (position : ℕ) (visit : Visit) → slice_get s.visits position ≡ Some visit →
     FaresByMatch (length node.inputs) s.visits visit.job (index_of s.visits position visit) (or_held (fate_of node.kind s position))
 
--- the entry of the visit at this position is taken out: before, the visit had it or hadn't come yet, and now it is there and has none
+-- The entry of the visit at this position is taken out between two states: in the first the visit has its entry or hasn't come yet,
+-- and in the second it has come and has no entry.
 pub record IsTakenOut (position : ℕ) (before now : Station Local) : Type 0 where
   pub had : position < length before.visits → has_entry position before.local.held ≡ true
   pub here : position < length now.visits

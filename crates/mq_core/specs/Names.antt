@@ -8,7 +8,7 @@ use Rattle.std.specs.Str.{bytes_eq}
 abbrev pub is_name_byte : ℕ → Bool
 is_name_byte b = is_ascii_lowercase b || is_ascii_digit b || (b == 95)
 
--- a small letter, and then small letters, digits and underscores; 1 to 32 bytes, other than the word `from`
+-- a small letter, then small letters, digits and underscores: 1 to 32 bytes, other than the word `from`
 abbrev pub is_name : List ℕ → Bool
 is_name [] = false
 is_name (b ∷ more) = is_ascii_lowercase b && list_all is_name_byte more && nat_lt (length more) 32 && not (bytes_eq (b ∷ more) (codes "from"))

@@ -1,4 +1,4 @@
--- The run of a network over rows, for whoever has a network and no plan.
+-- The run of a network over rows, for definitions that have a network and no plan.
 use Rattle.std.specs.Prelude.{◌≡◌, length, slice_get, Option}
 use Rattle.mq_core.specs.Machine.{Table, State, after, opened}
 use Rattle.mq_core.specs.Local.{Local}
@@ -24,7 +24,7 @@ network_table net rows =
       ports = λ v. length (inputs_of net.nodes v);
     }
 
--- the state after the steps of a run: nothing is pending any more
+-- the state after the steps of a run, when nothing is pending any more
 abbrev pub run_in : Network → Rows → State Local
 run_in net rows = after (run_length net.nodes rows) (network_table net rows) (opened (network_table net rows) (starts rows))
 

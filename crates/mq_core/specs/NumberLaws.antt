@@ -1,4 +1,4 @@
--- That the numbers worked out from sequences are the run's own tallies.
+-- The numbers computed from sequences are the run's own tallies.
 use Rattle.std.specs.Prelude.{◌≡◌, ◌<◌, ℕ, length, Some, None, slice_get}
 use Rattle.mq_core.specs.Sequences.{sequence_totals, sequence_exit, sequence_span, sequence_refusal, visits_by_node}
 use Rattle.mq_core.specs.Local.{Local}
@@ -28,13 +28,13 @@ SpanIsSequences =
     (plan : Plan) (rows : Rows) → IsReadFor plan.net rows →
     (run_of plan rows).clock ≡ sequence_span (visits_by_node (run_of plan rows) 0 plan.net.nodes)
 
--- none of the first nodes, as many as this by rank, is refused
+-- none of the nodes of a lower rank than this is refused
 abbrev pub IsFineBelow : Plan → Rows → ℕ → Type 0
 IsFineBelow plan rows rank =
     (r v : ℕ) (node : Node) → r < rank → slice_get plan.order r ≡ Some v → slice_get plan.net.nodes v ≡ Some node →
     sequence_refusal plan.net.bound v (visits_of node.kind ((run_of plan rows).stations v)) ≡ None
 
--- where no node of a lower rank is refused, the refusal of the next node that has one is that of the run
+-- if no node of a lower rank is refused and the node at this rank is, its refusal is that of the run
 abbrev pub RefusalIsFirst : Type 0
 RefusalIsFirst =
     (plan : Plan) (rows : Rows) → IsReadFor plan.net rows → (rank v : ℕ) (node : Node) (refusal : Refusal) →
@@ -42,7 +42,7 @@ RefusalIsFirst =
     sequence_refusal plan.net.bound v (visits_of node.kind ((run_of plan rows).stations v)) ≡ Some refusal →
     refusal_of plan rows ≡ Some refusal
 
--- where no node is refused the run isn't
+-- if no node is refused, the run isn't
 abbrev pub RefusalIsNone : Type 0
 RefusalIsNone =
     (plan : Plan) (rows : Rows) → IsReadFor plan.net rows → IsFineBelow plan rows (length plan.order) → refusal_of plan rows ≡ None

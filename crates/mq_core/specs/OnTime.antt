@@ -1,4 +1,4 @@
--- That the standard handlers schedule nothing earlier than the clock: one row a kind.
+-- The standard handlers schedule nothing earlier than the clock: one row per kind.
 use Rattle.std.proofs.Common.{ℕ, List, Option, Some, None, length}
 use Rattle.std.specs.Prelude.{slice_get}
 use Rattle.mq_core.specs.Event.{Event}
@@ -35,7 +35,7 @@ kind-late rows ports (Fork outputs) visits local now event = fork-late outputs v
 kind-late rows ports Join visits local now event = join-late ports visits local now event
 kind-late rows ports (Trunk servers demand) visits local now event = trunk-late rows servers demand visits local now event
 
--- nor where there is no node
+-- if there is no node, nothing is scheduled
 node-late : (rows : Rows) (node : Option Node) (visits : List Visit) (local : Local) (now : ℕ) (event : Event) → Late now (node_on rows node visits local now event).services
 node-late rows None visits local now event = tt
 node-late rows (Some node) visits local now event = kind-late rows (length node.inputs) node.kind visits local now event

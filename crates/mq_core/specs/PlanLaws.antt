@@ -1,4 +1,4 @@
--- What the type of a plan, and rows that are read for a network, give to whoever goes over them.
+-- What follows from the type of a plan, and from rows that are read for a network.
 use Rattle.std.specs.Prelude.{◌≡◌, ◌≤◌, ◌<◌, ℕ, false, IsTrue, List, length, take, Some, slice_get}
 use Rattle.mq_core.specs.Asked.{HasDemands}
 use Rattle.mq_core.specs.Results.{servers_in}
@@ -14,13 +14,13 @@ use Rattle.mq_core.specs.declared.model.Node.{Node}
 use Rattle.mq_core.specs.declared.model.Plan.{Plan}
 use Rattle.mq_core.specs.declared.model.Rows.{Rows}
 
--- an input names a node of the network, and an output that it has
+-- an input names a node of the network and one of its outputs
 pub record NamesOutput (net : Network) (input : Input) : Type 0 where
   pub node : Node
   pub there : slice_get net.nodes input.node ≡ Some node
   pub out : input.out < outputs_in node.kind
 
--- a node in its limits, whose inputs are outputs of the network; one that is no trunk group has at most 8 servers
+-- a node in its limits, whose inputs are outputs of the network; unless it is a trunk group, it has at most 8 servers
 pub record IsInLimits (net : Network) (node : Node) : Type 0 where
   pub kind : IsTrue (is_sound_kind (length net.columns) node.kind)
   pub outputs : outputs_in node.kind ≤ 8
@@ -34,18 +34,18 @@ pub record IsInLimits (net : Network) (node : Node) : Type 0 where
 abbrev pub NodesAreInLimits : Type 0
 NodesAreInLimits = (plan : Plan) (v : ℕ) (node : Node) → slice_get plan.net.nodes v ≡ Some node → IsInLimits plan.net node
 
--- what stands at a rank is a node that doesn't stand before it, while all that it reads do
+-- node v may come after the nodes `before`: it is a node and isn't one of them, while all that it reads are
 pub record IsRankedBehind (nodes : List Node) (before : List ℕ) (v : ℕ) : Type 0 where
   pub inside : v < length nodes
   pub once : has before v ≡ false
   pub reads : (port : ℕ) (i : ℕ × ℕ) → slice_get (inputs_of nodes v) port ≡ Some i → IsTrue (has before i.0)
 
--- the order of a plan has each node once, behind all that it reads
+-- the order of a plan contains no node twice, and each node comes after all that it reads
 abbrev pub OrdersRank : Type 0
 OrdersRank =
     (plan : Plan) (rank v : ℕ) → slice_get plan.order rank ≡ Some v → IsRankedBehind plan.net.nodes (take rank plan.order) v
 
--- rows that are read for a network tell what each of their jobs asks for at a node in its limits
+-- rows that are read for a network give what each of their jobs needs at a node whose kind is in its ranges
 abbrev pub RowsTellDemands : Type 0
 RowsTellDemands =
     (net : Network) (rows : Rows) → IsReadFor net rows → (job : ℕ) → job < length rows.source → (kind : Kind) → IsTrue (is_sound_kind (length net.columns) kind) →

@@ -3,16 +3,16 @@ use Rattle.std.specs.Prelude.{Bool, List, [], nat_le, nat_lt, true, ℕ, ◌&&�
 use Rattle.mq_core.specs.declared.model.Demand.{Demand}
 use Rattle.mq_core.specs.declared.model.Demand.TheVariants.{Column, Fixed}
 
--- a number between two limits, with both
+-- a number between two limits, inclusive
 abbrev pub is_within : ℕ → ℕ → ℕ → Bool
 is_within low high n = nat_le low n && nat_le n high
 
--- a demand is a column that there is, or a number in its limit
+-- a demand is a column that exists, or a number in its limit
 abbrev pub is_sound_demand : ℕ → Demand → Bool
 is_sound_demand columns (Column column) = nat_lt column columns
 is_sound_demand columns (Fixed demand) = nat_le demand (2 ^ 36)
 
--- each number is greater than the one before it, and the first than this one
+-- each number is greater than the one before it, and the first is greater than `last`
 abbrev pub rises_from : ℕ → List ℕ → Bool
 rises_from last [] = true
 rises_from last (n ∷ ns) = nat_lt last n && rises_from n ns

@@ -1,9 +1,9 @@
--- When jobs depart from a station, from their arrivals and their demands, by position.
+-- When jobs depart from a station, computed from their arrivals and demands, by position.
 use Rattle.std.specs.Prelude.{ℕ, suc, ◌+◌, ◌-◌, max, nat_le, nat_lt, Bool, true, if◌then◌else◌, List, [], ◌∷◌, map, Option, Some, None, slice_get}
 use Rattle.mq_core.specs.declared.model.Fate.{Fate}
 use Rattle.mq_core.specs.declared.model.Fate.TheVariants.{Departs, Lost}
 
--- from a server, by Lindley's recurrence: from the last departure, the arrivals and the demands
+-- from a server, by Lindley's recurrence, given the last departure, the arrivals and the demands
 abbrev pub lindley : ℕ → List ℕ → List ℕ → List ℕ
 lindley last [] demands = []
 lindley last (arrive ∷ arrives) [] = []
@@ -15,22 +15,22 @@ delayed [] demands = []
 delayed (arrive ∷ arrives) [] = []
 delayed (arrive ∷ arrives) (demand ∷ demands) = (arrive + demand) ∷ delayed arrives demands
 
--- a time, or 0 where there is none
+-- a time, or 0 if there is none
 abbrev pub time_or_none : Option ℕ → ℕ
 time_or_none None = 0
 time_or_none (Some time) = time
 
--- no time, or one that is past
+-- there is no time, or it is past
 abbrev pub is_past : ℕ → Option ℕ → Bool
 is_past now None = true
 is_past now (Some time) = nat_le time now
 
--- an arrival is admitted where fewer were admitted before it than there are places, at least 1, or where of the last that
--- were, as many as the places, the first has left by then; these are their departures, the latest first
+-- An arrival is admitted if fewer jobs were admitted before it than there are places (at least 1), or if the first of the last
+-- `places` jobs that were admitted has left by then. `left` lists the departures of the admitted jobs, the latest first.
 abbrev pub is_admitted : ℕ → List ℕ → ℕ → Bool
 is_admitted places left arrive = is_past arrive (slice_get left (places - 1))
 
--- how the arrivals at a loss station fare: those admitted are served in turn, the others are lost
+-- how the arrivals at a loss station fare: the admitted ones are served in turn, the others are lost
 abbrev pub loss_fates : ℕ → List ℕ → List ℕ → List ℕ → List Fate
 loss_fates places left [] demands = []
 loss_fates places left (arrive ∷ arrives) [] = []
@@ -39,17 +39,18 @@ loss_fates places left (arrive ∷ arrives) (demand ∷ demands) =
     then (let time = max arrive (time_or_none (slice_get left 0)) + demand in Departs time ∷ loss_fates places (time ∷ left) arrives demands)
     else (Lost ∷ loss_fates places left arrives demands)
 
--- how many of these departures come after this time
+-- the number of these departures that are later than this time
 abbrev pub busy_at : ℕ → List ℕ → ℕ
 busy_at now [] = 0
 busy_at now (time ∷ left) = if nat_lt now time then suc (busy_at now left) else busy_at now left
 
--- an arrival at a trunk group finds a server where fewer of those admitted before it depart after it than there are servers
+-- an arrival at a trunk group finds a server if, of the jobs admitted before it, fewer depart after its arrival than there are
+-- servers
 abbrev pub finds_server : ℕ → List ℕ → ℕ → Bool
 finds_server servers left arrive = nat_lt (busy_at arrive left) servers
 
--- how the arrivals at a trunk group fare, where those admitted before them left at these times, the latest admitted first:
--- those that find a server depart their demand after they came, the others are lost
+-- How the arrivals at a trunk group fare: those that find a server depart their demand after they came, the others are lost.
+-- `left` lists the departures of the jobs admitted before, the latest admitted first.
 abbrev pub trunk_fates : ℕ → List ℕ → List ℕ → List ℕ → List Fate
 trunk_fates servers left [] demands = []
 trunk_fates servers left (arrive ∷ arrives) [] = []
@@ -63,7 +64,7 @@ abbrev pub in_series : List ℕ → List (List ℕ) → List ℕ
 in_series arrive [] = arrive
 in_series arrive (demands ∷ more) = in_series (lindley 0 arrive demands) more
 
--- index by index the later of two times
+-- the later of two times, index by index
 abbrev pub later_of : List ℕ → List ℕ → List ℕ
 later_of [] times = []
 later_of (time ∷ times) [] = []
@@ -74,15 +75,16 @@ abbrev pub forkjoin_departs : List ℕ → List (List (List ℕ)) → List ℕ
 forkjoin_departs arrive [] = arrive
 forkjoin_departs arrive (branch ∷ branches) = later_of (in_series arrive branch) (forkjoin_departs arrive branches)
 
--- when a stage has room for one more: when the job left it that came as many before as it has places. These are its places
--- and the departures from it, the latest first, and then those of the stages behind it; behind the last there is always room
+-- When the first of these stages has room for another job: when the job that came as many jobs before it as the stage has places
+-- left the stage. The lists give the places of this stage and those after it, and the departures from each, the latest first.
+-- After the last stage there is always room.
 abbrev pub room_in : List ℕ → List (List ℕ) → ℕ
 room_in [] left = 0
 room_in (places ∷ more) [] = 0
 room_in (places ∷ more) (times ∷ left) = time_or_none (slice_get times (places - 1))
 
--- when a job that comes at this time leaves each of these stages, by their places, its demand at each, and the departures
--- from each before it, the latest first: it is served behind the job before it, and then stays until the next stage has room
+-- When a job that comes at this time leaves each of these stages, given their places, its demand at each, and the earlier
+-- departures from each, the latest first. It is served after the job before it, and then stays until the next stage has room.
 abbrev pub stage_departs : ℕ → List ℕ → List ℕ → List (List ℕ) → List ℕ
 stage_departs came [] demands left = []
 stage_departs came (places ∷ more) [] left = []
@@ -91,7 +93,7 @@ stage_departs came (places ∷ more) (demand ∷ demands) (times ∷ left) =
     let time = max (max came (time_or_none (slice_get times 0)) + demand) (room_in more left) in
     time ∷ stage_departs time more demands left
 
--- each of these departures before those of its stage
+-- each of these departures added in front of those of its stage
 abbrev pub each_before : List ℕ → List (List ℕ) → List (List ℕ)
 each_before [] left = []
 each_before (time ∷ times) [] = []
@@ -112,7 +114,7 @@ abbrev pub rest : List ℕ → List ℕ
 rest [] = []
 rest (item ∷ items) = items
 
--- from the last stage of a tandem, by the places of the stages, the departures from each so far, the latest first, the
+-- from the last stage of a tandem, given the places of the stages, the departures from each so far (the latest first), the
 -- arrivals, and the demands at each stage
 abbrev pub tandem_departs : List ℕ → List (List ℕ) → List ℕ → List (List ℕ) → List ℕ
 tandem_departs places left [] demands = []

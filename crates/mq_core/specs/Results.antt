@@ -1,4 +1,4 @@
--- What a run gives of a node: its visits, streams and totals, with the bare time of a job; and why a run is refused.
+-- What a run gives for a node: its visits, streams and totals, with the bare time of a job; and why a run is refused.
 use Rattle.std.specs.Option.{option_map}
 use Rattle.std.specs.Prelude.{Bool, List, None, Option, Some, [], count_by, false, fold, if◌then◌else◌, length, map, max, nat_lt, slice_get, slice_index, suc, sum, sum_by, true, ℕ, ◌++◌, ◌+◌, ◌-◌, ◌∷◌}
 use Rattle.mq_core.specs.Behaviour.{Behaviour}
@@ -17,29 +17,29 @@ use Rattle.mq_core.specs.declared.model.Rows.{Rows}
 use Rattle.mq_core.specs.declared.model.Stream.{Stream}
 use Rattle.mq_core.specs.declared.model.Visits.{Visits}
 
--- how long a job stays that never waits
+-- how long a job stays if it never waits
 abbrev pub bare_time : Rows → Kind → ℕ → ℕ
 bare_time rows kind job = (behaviour_of kind).bare rows job
 
--- the servers of a node, by which its utilisation is reckoned; none at a source, a delay, a split, a fork or a join
+-- the number of servers of a node, by which its utilisation is computed; 0 at a source, a delay, a split, a fork or a join
 abbrev pub servers_in : Kind → ℕ
 servers_in kind = (behaviour_of kind).servers
 
--- the fate of a visit: what its exit says, and held where it has none
+-- the fate of a visit: as its exit says, or held if it has none
 abbrev pub or_held : Option Fate → Fate
 or_held None = Held
 or_held (Some fate) = fate
 
--- the fates of these visits of a station, the first at this position
+-- the fates of these visits of a station, the first of them at this position
 abbrev pub fates_by : Behaviour → Station Local → ℕ → List Visit → List Fate
 fates_by b s position [] = []
 fates_by b s position (visit ∷ visits) = or_held (option_map b.fate (b.exit s position)) ∷ fates_by b s (suc position) visits
 
--- the same at a node of this kind
+-- the fates of these visits to a node of this kind, the first of them at this position
 abbrev pub fates_from : Kind → Station Local → ℕ → List Visit → List Fate
 fates_from kind s position visits = fates_by (behaviour_of kind) s position visits
 
--- the visits of a node
+-- the visits to a node
 abbrev pub visits_of : Kind → Station Local → Visits
 visits_of kind s =
     record {
@@ -49,7 +49,7 @@ visits_of kind s =
       fate = fates_from kind s 0 s.visits;
     }
 
--- the stream of an output
+-- the stream of an output of a node
 abbrev pub stream_from : Station Local → ℕ → Stream
 stream_from s out =
     record {
@@ -57,25 +57,25 @@ stream_from s out =
       time = map (λ (m : Emission). m.time) (stream_of out s.emitted);
     }
 
--- how long a visit waited; one that is lost or held didn't
+-- how long a visit waited; 0 if it is lost or held
 abbrev pub wait_of : Rows → Kind → Visit → Fate → ℕ
 wait_of rows kind visit (Departs time) = time - visit.arrive - bare_time rows kind visit.job
 wait_of rows kind visit Lost = 0
 wait_of rows kind visit Held = 0
 
--- the wait of each visit, beside its fate
+-- the wait of each visit, given its fate
 abbrev pub waits_of : Rows → Kind → List Visit → List Fate → List ℕ
 waits_of rows kind [] fates = []
 waits_of rows kind (visit ∷ visits) [] = []
 waits_of rows kind (visit ∷ visits) (fate ∷ fates) = wait_of rows kind visit fate ∷ waits_of rows kind visits fates
 
--- whether a visit departed
+-- whether a visit departs
 abbrev pub is_departed : Fate → Bool
 is_departed (Departs time) = true
 is_departed Lost = false
 is_departed Held = false
 
--- whether it was lost
+-- whether it is lost
 abbrev pub is_lost : Fate → Bool
 is_lost (Departs time) = false
 is_lost Lost = true
@@ -87,19 +87,20 @@ is_held (Departs time) = false
 is_held Lost = false
 is_held Held = true
 
--- the number just after a visit came that found so many; 0 for a lost one
+-- the number of jobs just after the arrival of a visit that found this many; 0 if the visit is lost
 abbrev pub one_more : ℕ → Fate → ℕ
 one_more found (Departs time) = found + 1
 one_more found Lost = 0
 one_more found Held = found + 1
 
--- for each of these founds, which stand beside fates, the number just after it
+-- for each visit, from what it found and its fate, the number of jobs just after it came
 abbrev pub numbers_of : List ℕ → List Fate → List ℕ
 numbers_of [] fates = []
 numbers_of (found ∷ founds) [] = []
 numbers_of (found ∷ founds) (fate ∷ fates) = one_more found fate ∷ numbers_of founds fates
 
--- the peak of a node, from what its visits found: the greatest number just after one that isn't lost; 0 where jobs don't stay
+-- the peak of a node, from what its visits found: the greatest number of jobs just after a visit that isn't lost; 0 if jobs don't
+-- stay in it
 abbrev pub peak_of : Kind → List ℕ → List Fate → ℕ
 peak_of kind founds fates = if (behaviour_of kind).holds then fold max 0 (numbers_of founds fates) else 0
 
@@ -132,7 +133,7 @@ totals_of rows kind s =
       peak = peak_of kind (map (λ (x : Visit). x.found) s.visits) fates;
     }
 
--- how many jobs leave by an output, and the sum of their times since their rows
+-- the number of jobs that leave by an output, and the sum of their times since their rows
 abbrev pub exit_of : Rows → Station Local → ℕ → ℕ × ℕ
 exit_of rows s out =
     let stream = stream_of out s.emitted in
@@ -144,7 +145,7 @@ pub record Late : Type 0 where
   pub position : ℕ
   pub time : ℕ
 
--- the departure of a position, where it has one that passes the bound
+-- the departure of a position, if it has one and it is after the bound
 abbrev pub late_fate : ℕ → ℕ → ℕ → Option Fate → List Late
 late_fate bound node position None = []
 late_fate bound node position (Some Lost) = []
@@ -162,25 +163,25 @@ abbrev pub first_of : List Late → Option Late
 first_of [] = None
 first_of (late ∷ lates) = Some late
 
--- how many visits a node may have
+-- the most visits that a node may have
 abbrev pub most_visits : ℕ
 most_visits = 1048576
 
--- why a run is refused: a node has so many visits, more than it may; or one of its visits departs after the bound
+-- why a run is refused: a node has more visits than it may, with their number; or one of its visits departs after the bound
 pub data Refusal : Type 0 where
   Over : (node count : ℕ) → Refusal
   Past : (late : Late) → Refusal
 
--- why a node refuses so many visits, of which this is the first that departs after the bound
+-- the refusal of a node with this many visits, of which `late` is the first that departs after the bound
 abbrev pub refusal_by : ℕ → ℕ → Option Late → Option Refusal
 refusal_by node count late = if nat_lt most_visits count then Some (Over node count) else option_map (λ late. Past late) late
 
--- the refusal of a node; none where there is no such node
+-- the refusal of a node; none if there is no such node
 abbrev pub refusal_at : ℕ → ℕ → Option Node → Station Local → Option Refusal
 refusal_at bound v None s = None
 refusal_at bound v (Some node) s = refusal_by v (length s.visits) (first_of (late_from bound v node.kind s 0 s.visits))
 
--- the first of these that there is
+-- the first refusal among these, if there is one
 abbrev pub first_some : List (Option Refusal) → Option Refusal
 first_some [] = None
 first_some (None ∷ more) = first_some more

@@ -1,4 +1,4 @@
--- That no job comes to a node, or leaves one, before the time of its row.
+-- No job comes to a node, or leaves one, before the time of its row.
 use Rattle.std.specs.List.{AllByRecursion}
 use Rattle.std.specs.Prelude.{List, Some, length, map, slice_get, slice_index, sum, ℕ, ◌+◌, ◌<◌, ◌≡◌, ◌≤◌}
 use Rattle.mq_core.specs.Local.{Local}
@@ -8,7 +8,7 @@ use Rattle.mq_core.specs.StandardTable.{run_of}
 use Rattle.mq_core.specs.declared.model.Plan.{Plan}
 use Rattle.mq_core.specs.declared.model.Rows.{Rows}
 
--- the job is a row, whose time is no later
+-- the job is the index of a row, whose time is no later than this
 pub record IsSinceRow (rows : Rows) (job time : ℕ) : Type 0 where
   pub row : job < length rows.time
   pub since : slice_index rows.time job ≤ time
@@ -17,8 +17,8 @@ pub record IsSinceRow (rows : Rows) (job time : ℕ) : Type 0 where
 abbrev pub row_times : Rows → List ℕ → List ℕ
 row_times rows jobs = map (slice_index rows.time) jobs
 
--- no visit to a node comes before its row, and nothing leaves it before its row: so no time in the network is cut off at 0, and what
--- an exit sums up is the sum of the times at which its jobs left, less those of their rows
+-- No visit to a node comes before the time of its row, and nothing leaves the node before that. So no difference of times is cut off
+-- at 0: the sum of an exit is the sum of the times at which its jobs left, less those of their rows.
 pub record IsSinceRows (rows : Rows) (s : Station Local) : Type 0 where
   pub visits : AllByRecursion (λ (x : Visit). IsSinceRow rows x.job x.arrive) s.visits
   pub emitted : AllByRecursion (λ (m : Emission). IsSinceRow rows m.job m.time) s.emitted

@@ -1,4 +1,4 @@
--- What a node of each kind lets out, by position and in the order in which it leaves.
+-- What a node of each kind lets out, by position, and in the order in which it leaves.
 use Rattle.std.specs.Prelude.{List, ℕ}
 use Rattle.mq_core.specs.KindTable.{behaviour_of}
 use Rattle.mq_core.specs.EmissionOrder.{left_by}
@@ -10,6 +10,6 @@ use Rattle.mq_core.specs.declared.model.Rows.{Rows}
 abbrev pub flow_of : Rows → ℕ → Kind → List Visit → List Emission
 flow_of rows ports kind visits = (behaviour_of kind).flow rows ports visits
 
--- the order in which a node lets out: by time and then position at a delay, a loss station or a trunk group, else by position
+-- what a node lets out, in order: by time and then position at a delay, a loss station or a trunk group, otherwise by position
 abbrev pub in_emission_order : Kind → List Emission → List Emission
 in_emission_order kind emissions = left_by (behaviour_of kind).order emissions

@@ -1,4 +1,4 @@
--- What is asked of a network: numbers in their ranges, names, inputs and outputs.
+-- What makes a network sound: numbers in their ranges, names, inputs and outputs.
 use Rattle.std.specs.List.{flat_map, list_all, list_any}
 use Rattle.std.specs.Prelude.{Bool, List, None, Option, Some, [], false, length, map, nat_le, nat_lt, not, slice_get, suc, true, ℕ, ◌&&◌, ◌==◌, ◌^◌, ◌||◌, ◌∷◌}
 use Rattle.std.specs.Str.{bytes_eq}
@@ -15,24 +15,24 @@ use Rattle.mq_core.specs.Ranges.{is_within}
 abbrev pub is_sound_kind : ℕ → Kind → Bool
 is_sound_kind columns kind = (behaviour_of kind).sound columns
 
--- the version of the models' language from which on a kind stands in models
+-- the version of the model language from which a kind may be used
 abbrev pub version_of : Kind → ℕ
 version_of kind = (behaviour_of kind).version
 
--- how many outputs a kind has
+-- the number of outputs of a kind
 abbrev pub outputs_in : Kind → ℕ
 outputs_in kind = (behaviour_of kind).outputs
 
--- an input names an output that there is
+-- there is such a node, and it has this output
 abbrev pub is_output : Option Node → ℕ → Bool
 is_output None out = false
 is_output (Some node) out = nat_lt out (outputs_in node.kind)
 
--- a source reads nothing, a join at 2 to 8 ports, and each other node at 1 to 8
+-- the number of ports fits the kind: none at a source, 2 to 8 at a join, 1 to 8 at each other node
 abbrev pub is_sound_count : Kind → ℕ → Bool
 is_sound_count kind inputs = (behaviour_of kind).ports inputs
 
--- a kind in its ranges, as many ports as it may have, inputs that are outputs of the network, and a name
+-- a kind in its ranges, a number of ports that fits it, inputs that are outputs of the network, and a name
 abbrev pub is_sound_node : ℕ → List Node → Node → Bool
 is_sound_node columns nodes node =
     is_sound_kind columns node.kind && is_sound_count node.kind (length node.inputs)
@@ -52,15 +52,16 @@ same_input i j = (i.node == j.node) && (i.out == j.out)
 abbrev pub columns_of_kind : Kind → List ℕ
 columns_of_kind kind = (behaviour_of kind).mentioned
 
--- each column is first mentioned after all the columns before it, up to this one
+-- each column is first mentioned after all columns before it; the columns below `next` are mentioned already, and all below
+-- `columns` are in the end
 abbrev pub mentions_from : ℕ → ℕ → List ℕ → Bool
 mentions_from next columns [] = next == columns
 mentions_from next columns (column ∷ more) =
     ((column == next) && mentions_from (suc next) columns more) || (nat_lt column next && mentions_from next columns more)
 
--- a network in its limits: version 1 or 2, kinds that stand in models of that version, 1 to 64 nodes, at most 16 columns, a bound
--- of at most 2^60, a source, distinct names, sound nodes, no output that is read twice, and its columns all mentioned and in order
--- of first mention
+-- a network in its limits: version 1 or 2, kinds of that version, 1 to 64 nodes, at most 16 columns, a bound of at most 2^60, a
+-- source, distinct names of nodes, valid and distinct names of columns, sound nodes, no output that is read twice, and columns
+-- that are all mentioned, in order of first mention
 abbrev pub is_sound : Network → Bool
 is_sound net =
     is_within 1 2 net.version && list_all (λ (node : Node). nat_le (version_of node.kind) net.version) net.nodes

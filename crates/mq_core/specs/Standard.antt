@@ -1,4 +1,4 @@
--- The standard handlers: what a node of a plan does, by its kind.
+-- The standard handlers: what a node of a plan does, depending on its kind.
 use Rattle.std.specs.Prelude.{List, None, Option, Some, length, slice_get, ℕ}
 use Rattle.mq_core.specs.Event.{Event}
 use Rattle.mq_core.specs.Handling.{quiet}
@@ -10,7 +10,7 @@ use Rattle.mq_core.specs.declared.model.Node.{Node}
 use Rattle.mq_core.specs.declared.model.Plan.{Plan}
 use Rattle.mq_core.specs.declared.model.Rows.{Rows}
 
--- what a node of a kind and so many ports does at an event
+-- what a node of a kind with this many ports does at an event
 abbrev pub kind_on : Rows → ℕ → Kind → List Visit → Local → ℕ → Event → Reaction Local
 kind_on rows ports kind visits local now event = (behaviour_of kind).on rows ports visits local now event
 
@@ -26,22 +26,22 @@ jobs_in kind visits local = (behaviour_of kind).jobs visits local
 abbrev pub working_in : Kind → Local → ℕ
 working_in kind local = (behaviour_of kind).working local
 
--- what a node does at an event; where there is none nothing happens
+-- what a node does at an event; nothing if there is no node
 abbrev pub node_on : Rows → Option Node → List Visit → Local → ℕ → Event → Reaction Local
 node_on rows None visits local now event = quiet local
 node_on rows (Some node) visits local now event = kind_on rows (length node.inputs) node.kind visits local now event
 
--- what a node keeps at the start; where there is none nothing is kept
+-- what a node keeps at the start; nothing if there is no node
 abbrev pub node_opening : Option Node → Local
 node_opening None = empty
 node_opening (Some node) = kind_opening node.kind
 
--- the number of jobs at a node; where there is none 0
+-- the number of jobs in a node; 0 if there is no node
 abbrev pub node_jobs : Option Node → List Visit → Local → ℕ
 node_jobs None visits local = 0
 node_jobs (Some node) visits local = jobs_in node.kind visits local
 
--- the number of working servers at a node; where there is none 0
+-- the number of working servers of a node; 0 if there is no node
 abbrev pub node_working : Option Node → Local → ℕ
 node_working None local = 0
 node_working (Some node) local = working_in node.kind local

@@ -1,4 +1,4 @@
--- Words on streams: their items, which of them leave by an output, and in which order.
+-- Definitions for streams: their items, which of them leave by an output, and in which order.
 use Rattle.std.specs.List.{zip}
 use Rattle.std.specs.Prelude.{List, [], if◌then◌else◌, map, ℕ, ◌==◌, ◌∷◌}
 use Rattle.mq_core.specs.Laws.{in_order_of}
@@ -14,17 +14,17 @@ pairs_of stream = zip stream.time stream.job
 abbrev pub by_port : ℕ → Stream → List (ℕ × ℕ × ℕ)
 by_port port stream = map {B = ℕ × ℕ × ℕ} (λ (p : ℕ × ℕ). (p.0, port, p.1)) (pairs_of stream)
 
--- these by time, those of one time in their order
+-- these pairs by time; pairs of one time keep their order
 abbrev pub by_first : List (ℕ × ℕ) → List (ℕ × ℕ)
 by_first pairs = in_order_of (λ (p : ℕ × ℕ). p.0) pairs
 
--- the items, of these that stand beside their outputs, whose output is this one
+-- the items whose output is this one; the two lists give the output of each item
 abbrev pub picked : ℕ → List ℕ → List ℕ → List ℕ
 picked out [] items = []
 picked out (o ∷ outs) [] = []
 picked out (o ∷ outs) (item ∷ items) = if o == out then item ∷ picked out outs items else picked out outs items
 
--- a stream by time, the items of one time in their order
+-- a stream by time; items of one time keep their order
 abbrev pub sorted : Stream → Stream
 sorted stream =
     let pairs = by_first (pairs_of stream) in

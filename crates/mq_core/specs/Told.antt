@@ -1,4 +1,4 @@
--- What rows tell of a single demand, of a column and of several demands.
+-- What rows give for one demand, for a column and for several demands.
 use Rattle.std.specs.List.{AllByRecursion}
 use Rattle.std.specs.Prelude.{List, Some, length, slice_get, ℕ, ◌<◌, ◌^◌, ◌≡◌, ◌≤◌}
 use Rattle.mq_core.specs.Handling.{demand_of_job}
@@ -11,16 +11,16 @@ pub record HasValue (rows : Rows) (column job : ℕ) : Type 0 where
   pub inside : column < length rows.demands
   pub reaches : (values : List ℕ) → slice_get rows.demands column ≡ Some values → job < length values
 
--- the rows tell what this job asks for
+-- the rows give the demand of this job
 abbrev pub HasDemand : Rows → Demand → ℕ → Type 0
 HasDemand rows (Column column) job = HasValue rows column job
 HasDemand rows (Fixed demand) job = Unit {0}
 
--- the rows tell what this job asks for, which is in its limit
+-- the rows give the demand of this job, and it is in its limit
 abbrev pub IsTold : Rows → Demand → ℕ → Type 0
 IsTold rows demand job = HasDemand rows demand job × (demand_of_job rows demand job ≤ 2 ^ 36)
 
--- the rows tell these demands of this job, at most 8, each at most 2^36: so they can be added
+-- the rows give these demands of this job, at most 8 and each at most 2^36, so that they can be added
 pub record AreTold (rows : Rows) (demands : List Demand) (job : ℕ) : Type 0 where
   pub few : length demands ≤ 8
   pub each : AllByRecursion (λ demand. HasDemand rows demand job) demands

@@ -1,4 +1,4 @@
-// What a job asks for.
+// How much service a job needs.
 ghost use Rattle.std.specs.Prelude.{◌≡◌, fold, map, max, sum_by};
 ghost use Rattle.mq_core.specs.Told.{HasDemand, AreTold};
 ghost use Rattle.mq_core.specs.Asked.{HasDemands};
@@ -9,9 +9,9 @@ ghost use Rattle.mq_core.specs.Handling.{demand_of_job, demand_of_stages};
 use crate::model::{Demand, Kind, Rows, Stage};
 use mq_base::List;
 
-/// The service demand of a job, in ticks: its value in the column, or the fixed number.
+/// Returns the service demand of a job, in ticks: its value in the column, or the fixed number.
 ///
-/// The rows have the column, and the column has the job.
+/// The rows must have the column, and the column a value for the job.
 pub fn demand_of(rows: &Rows, demand: &Demand, job: u32) -> u64
     requires { HasDemand rows.now demand.now job }
     ensures { result ≡ demand_of_job rows.now demand.now job }
@@ -22,13 +22,13 @@ pub fn demand_of(rows: &Rows, demand: &Demand, job: u32) -> u64
     }
 }
 
-/// The bare time of a job at a node of this kind, in ticks: how long it stays where it never
-/// waits. That is its demand at a server, a delay, a loss station or a trunk group, the sum of its
-/// demands at a tandem, the greatest sum of demands of a branch at a fork-join, and 0 at a source, a split, a fork
-/// or a join.
+/// Returns the bare time of a job at a node of this kind, in ticks: how long the job stays if it never waits.
 ///
-/// The rows have each column that the kind's demands name, and the column has the job. Each demand
-/// is at most 2^36, and those that are added are at most 8.
+/// At a server, a delay, a loss station or a trunk group that is its demand, at a tandem the sum of its demands,
+/// and at a fork-join the greatest sum of its demands in a branch. At a source, a split, a fork or a join it is 0.
+///
+/// The rows must have each column that the kind mentions, and the column a value for the job. At most 8 demands
+/// are added, each at most 2^36.
 pub fn bare_of(rows: &Rows, kind: &Kind, job: u32) -> u64
     requires { HasDemands rows.now kind.now job }
     ensures { result ≡ bare_time rows.now kind.now job }
@@ -43,11 +43,10 @@ pub fn bare_of(rows: &Rows, kind: &Kind, job: u32) -> u64
     }
 }
 
-/// What a job asks for at the servers of a fork-join together, in ticks: the sum of its demands
-/// there, over all branches.
+/// Returns the sum of a job's demands at all servers of all branches of a fork-join, in ticks.
 ///
-/// The rows have each column that the demands name, and the column has the job. There are at most
-/// 8 demands, and each is at most 2^36.
+/// The rows must have each column that the demands name, and the column a value for the job. There are at most 8
+/// demands, each at most 2^36.
 pub fn demand_of_branches(rows: &Rows, branches: &List<List<Demand>>, job: u32) -> u64
     requires { AreTold rows.now (flat_map (λ demands. demands) branches.now) job }
     ensures { result ≡ sum_by (λ demand. demand_of_job rows.now demand job) (flat_map (λ demands. demands) branches.now) }
@@ -59,7 +58,7 @@ pub fn demand_of_branches(rows: &Rows, branches: &List<List<Demand>>, job: u32) 
     sum
 }
 
-// The greatest sum of what a job asks for at the servers of a branch, in ticks.
+// The greatest sum of a job's demands in one branch, in ticks.
 fn longest_of(rows: &Rows, branches: &List<List<Demand>>, job: u32) -> u64
     requires { AreTold rows.now (flat_map (λ demands. demands) branches.now) job }
     ensures { result ≡ fold max 0 (map (λ demands. sum_by (λ demand. demand_of_job rows.now demand job) demands) branches.now) }
@@ -71,7 +70,7 @@ fn longest_of(rows: &Rows, branches: &List<List<Demand>>, job: u32) -> u64
     longest
 }
 
-// The sum of what a job asks for at these servers, in ticks.
+// The sum of a job's demands at these servers, in ticks.
 fn sum_of(rows: &Rows, demands: &List<Demand>, job: u32) -> u64
     requires { AreTold rows.now demands.now job }
     ensures { result ≡ sum_by (λ demand. demand_of_job rows.now demand job) demands.now }
@@ -83,7 +82,7 @@ fn sum_of(rows: &Rows, demands: &List<Demand>, job: u32) -> u64
     sum
 }
 
-// The sum of what a job asks for at these stages.
+// The sum of a job's demands at these stages, in ticks.
 fn bare_of_stages(rows: &Rows, stages: &List<Stage>, job: u32) -> u64
     requires { AreTold rows.now (map (λ stage. stage.demand) stages.now) job }
     ensures { result ≡ demand_of_stages rows.now stages.now job }

@@ -1,4 +1,4 @@
-// The fates of visits, which take the room of their departures where all visits depart.
+// The fates of visits, which take no more room than their departures if all visits depart.
 ghost use Rattle.std.specs.Prelude.{◌≡◌, ◌+◌, ◌++◌, ◌<◌, ◌≤◌, IfOk, OnErr, OnOk, Some, length, map, slice_get, take};
 ghost use Rattle.mq_base.specs.Lists.{between};
 ghost use Rattle.mq_core.specs.declared.model.Fate.TheVariants.{Departs};
@@ -12,14 +12,14 @@ use std::mem::replace;
 // How fates are kept.
 #[derive(Drop)]
 enum Kept {
-    // When each visit departs, in ticks: none is lost or held.
+    // When each visit departs, in ticks; none is lost or held.
     Departures(List<u64>),
     // How each visit ends.
     Each(List<Fate>),
 }
 
-/// The fates of the visits to a node, by position: a list of them, which takes 8 bytes a visit where it
-/// is made of departures, and else 16.
+/// The fates of the visits to a node, by position. They take 8 bytes per visit if they were made from departures, otherwise
+/// 16.
 #[derive(Drop)]
 pub struct Fates {
     kept: Kept,
@@ -37,7 +37,7 @@ impl Model for Fates {
 }
 
 impl Fates {
-    /// The fates of visits that depart at these times, in ticks: none is lost or held. It takes no memory.
+    /// Returns the fates of visits that depart at these times, in ticks; none is lost or held. Takes no memory.
     pub fn departures(times: List<u64>) -> Self
         ensures { result ≡ map (λ time. Departs time) times }
     {
@@ -46,7 +46,7 @@ impl Fates {
         }
     }
 
-    /// These fates, without taking memory.
+    /// Returns these fates. Takes no memory.
     pub fn each(fates: List<Fate>) -> Self
         ensures { result ≡ fates }
     {
@@ -55,8 +55,8 @@ impl Fates {
         }
     }
 
-    /// Puts departures at these times, in ticks, in the place of all fates from a position on, up to which there are as many.
-    /// Where memory runs out the fates are as before.
+    /// Replaces all fates from the position `from` on, which is at most the number of visits, by departures at these times,
+    /// in ticks. If memory runs out, the fates are unchanged.
     pub fn replace_from(
         &mut self,
         alloc: Global,
@@ -73,8 +73,8 @@ impl Fates {
         }
     }
 
-    /// Puts departures at these times, in ticks, in the place of all fates from a position on, of which there are as many at
-    /// least. It takes no memory.
+    /// Replaces all fates from the position `from` on by departures at these times, in ticks, which are at most as many.
+    /// Takes no memory.
     pub fn put_back(&mut self, alloc: Global, from: usize, times: &[u64])
         requires { from + length times.now ≤ length self.old }
         ensures { self.new ≡ take from self.old ++ map (λ time. Departs time) times.now }
@@ -85,7 +85,7 @@ impl Fates {
         }
     }
 
-    /// The number of visits.
+    /// Returns the number of visits.
     pub fn len(&self) -> usize
         ensures { result ≡ length self.now }
     {
@@ -95,7 +95,7 @@ impl Fates {
         }
     }
 
-    /// The fate of the visit at a position, from 0, which is below the number of visits.
+    /// Returns the fate of the visit at a position, from 0 and below the number of visits.
     #[inline]
     pub fn at(&self, position: usize) -> Fate
         requires { position < length self.now }
@@ -107,7 +107,7 @@ impl Fates {
         }
     }
 
-    /// The fates of all visits.
+    /// Returns the fates of all visits.
     pub fn as_slice(&self) -> FateSlice<'_>
         ensures { result ≡ self.now }
     {
@@ -121,7 +121,7 @@ impl Fates {
         }
     }
 
-    /// The fates of the visits from one position up to another.
+    /// Returns the fates of the visits from one position up to, and without, another.
     pub fn part(&self, from: usize, to: usize) -> FateSlice<'_>
         requires order { from ≤ to }
         requires within { to ≤ length self.now }
@@ -149,7 +149,7 @@ fn departing(alloc: Global, times: &[u64]) -> Result<Vec<Fate>, OutOfMemory>
     Ok(fates)
 }
 
-// Puts departures at these times in the place of all fates from a position on.
+// Replaces all fates from a position on by departures at these times.
 fn replace_each(
     alloc: Global,
     kept: &mut List<Fate>,
@@ -164,7 +164,7 @@ fn replace_each(
     kept.replace_from(from, fates.as_slice())
 }
 
-// The same without taking memory, where there are as many of them at least.
+// Replaces all fates from a position on by departures at these times, which are at most as many. Takes no memory.
 fn put_each(alloc: Global, kept: &mut List<Fate>, from: usize, times: &[u64])
     requires { from + length times.now ≤ length kept.old }
     ensures { kept.new ≡ take from kept.old ++ map (λ time. Departs time) times.now }
@@ -180,7 +180,7 @@ fn put_each(alloc: Global, kept: &mut List<Fate>, from: usize, times: &[u64])
 // How neighbouring fates are kept.
 #[derive(Drop)]
 enum KeptSlice<'a> {
-    // When each visit departs, in ticks: none is lost or held.
+    // When each visit departs, in ticks; none is lost or held.
     Departures(&'a [u64]),
     // How each visit ends.
     Each(&'a [Fate]),
@@ -204,7 +204,7 @@ impl<'a> Model for FateSlice<'a> {
 }
 
 impl<'a> FateSlice<'a> {
-    /// The fates of neighbouring visits that depart at these times, in ticks: none is lost or held.
+    /// Returns the fates of neighbouring visits that depart at these times, in ticks; none is lost or held.
     pub fn departures(times: &'a [u64]) -> Self
         ensures { result ≡ map (λ time. Departs time) times.now }
     {
@@ -213,8 +213,8 @@ impl<'a> FateSlice<'a> {
         }
     }
 
-    /// The fate of the visit at an index, from 0, which is below the number of visits.
-    // Each slice is bound once more, since of a variable the check knows that the slice fits memory.
+    /// Returns the fate of the visit at an index, from 0 and below the number of visits.
+    // Each slice is bound again because the check knows only of a variable that its slice fits in memory.
     #[inline]
     pub fn at(&self, index: usize) -> Fate
         requires { index < length self.now }

@@ -1,4 +1,4 @@
-// Whether a kind of node is a source, and how many outputs and servers it has.
+// Whether a kind of node is a source, and the numbers of its outputs and servers.
 ghost use Rattle.std.specs.Prelude.{◌≡◌, ◌≤◌, length};
 ghost use Rattle.std.specs.List.{flat_map};
 ghost use Rattle.mq_core.specs.Results.{servers_in};
@@ -9,18 +9,18 @@ ghost use Rattle.mq_core.specs.Wiring.{is_source_kind};
 use crate::model::{Demand, Kind, Route};
 use mq_base::List;
 
-/// Whether a node of this kind is a source.
+/// Returns whether a node of this kind is a source.
 pub fn is_source(kind: &Kind) -> bool
     ensures { result ≡ is_source_kind kind.now }
 {
     matches!(kind, Kind::Source)
 }
 
-/// How many outputs a node of this kind has: those that its route chooses from at a split, 2 at a
-/// loss station or a trunk group, of which the second is for those that are lost, those that it has at
-/// a fork, else 1.
+/// Returns the number of outputs of a node of this kind: those that its route chooses from at a split,
+/// 2 at a loss station or a trunk group, where lost jobs leave by the second, those of a fork,
+/// otherwise 1.
 ///
-/// They are at most 8, as for every kind in a plan.
+/// There are at most 8, as for every kind in a plan.
 pub fn outputs_of(kind: &Kind) -> u8
     requires { outputs_in kind.now ≤ 8 }
     ensures { result ≡ outputs_in kind.now }
@@ -36,9 +36,9 @@ pub fn outputs_of(kind: &Kind) -> u8
     }
 }
 
-/// How many outputs a route chooses from: for a cut one more than it has thresholds.
+/// Returns the number of outputs that a route chooses from: for a cut one more than it has thresholds.
 ///
-/// They are at most 8, as for every route in a plan.
+/// There are at most 8, as for every route in a plan.
 pub fn outputs_of_route(route: &Route) -> u8
     requires { outputs_by route.now ≤ 8 }
     ensures { result ≡ outputs_by route.now }
@@ -49,11 +49,11 @@ pub fn outputs_of_route(route: &Route) -> u8
     }
 }
 
-/// How many servers a node of this kind has, by which its utilisation is reckoned: one for each
-/// stage of a tandem, those of all branches at a fork-join, those of a trunk group, and 0 at a source,
-/// a delay, a split, a fork or a join, which have none.
+/// Returns the number of servers of a node of this kind, by which its utilisation is computed: 1 at a
+/// server or a loss station, one per stage at a tandem, those of all branches at a fork-join, and
+/// those of a trunk group. A source, a delay, a split, a fork and a join have none.
 ///
-/// They are at most 255, as for every kind in a plan.
+/// There are at most 255, as for every kind in a plan.
 pub fn servers_of(kind: &Kind) -> u8
     requires { servers_in kind.now ≤ 255 }
     ensures { result ≡ servers_in kind.now }
@@ -69,7 +69,7 @@ pub fn servers_of(kind: &Kind) -> u8
     }
 }
 
-// How many servers these branches have together.
+// The number of servers of all these branches together.
 fn servers_of_branches(branches: &List<List<Demand>>) -> u8
     requires { length (flat_map (λ demands. demands) branches.now) ≤ 255 }
     ensures { result ≡ length (flat_map (λ demands. demands) branches.now) }

@@ -1,4 +1,4 @@
-//! The types of models and runs, and the event list that says what a run is.
+//! The types of models and runs, and the event list that defines what a run is.
 #![tactic(auto)]
 
 mod demands;

@@ -1,4 +1,4 @@
-// Why a run isn't told.
+// Why a run has no report.
 
 /// A visit that departs after the bound.
 #[derive(Clone, Copy, PartialEq, Eq)]
@@ -11,11 +11,11 @@ pub struct PastFault {
     pub time: u64,
 }
 
-/// A node with more visits than the 1,048,576 that it may have.
+/// A node with more than the 1,048,576 visits that it may have.
 #[derive(Clone, Copy, PartialEq, Eq)]
 pub struct OverFault {
     /// The node, by order of declaration, from 0.
     pub node: u32,
-    /// How many visits it has.
+    /// The number of its visits.
     pub count: u32,
 }

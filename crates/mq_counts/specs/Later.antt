@@ -1,4 +1,4 @@
--- The totals of a node by a later time.
+-- The totals of a node up to a later time.
 use Rattle.std.specs.Prelude.{◌≡◌, ◌+◌, ◌-◌, ◌*◌, ◌≤◌, ℕ}
 use Rattle.mq_core.specs.Results.{Totals}
 use Rattle.mq_core.specs.Sequences.{greatest_time, sequence_totals}
@@ -7,7 +7,7 @@ use Rattle.mq_core.specs.declared.model.Rows.{Rows}
 use Rattle.mq_core.specs.declared.model.Visits.{Visits}
 use Rattle.mq_stats.specs.Numbers.{AreVisits}
 
--- so many ticks more, in which nothing happens but that held visits stay on
+-- totals after `more` ticks in which nothing happens except that held visits stay on
 abbrev pub held_on : ℕ → Totals → Totals
 held_on more totals =
     record {
@@ -22,7 +22,8 @@ held_on more totals =
       peak = totals.peak;
     }
 
--- the totals of visits up to a time at which all has happened, and up to a later one
+-- the totals of visits up to a time by which everything has happened give the totals
+-- up to a later one
 abbrev pub HeldStayOn : Type 0
 HeldStayOn =
     (rows : Rows) (kind : Kind) (visits : Visits) (last span : ℕ) → AreVisits rows kind visits → greatest_time visits ≤ last → last ≤ span →

@@ -1,4 +1,4 @@
--- What leaves nodes by the outputs that no input reads, by pieces of their streams.
+-- What leaves nodes by the outputs that no input reads, in pieces of their streams.
 use Rattle.std.specs.List.{AllByRecursion}
 use Rattle.std.specs.Prelude.{◌≡◌, ◌+◌, ◌<◌, ◌≤◌, ℕ, List, false, length, Some, slice_get}
 use Rattle.mq_core.specs.Sequences.{sequence_exit}
@@ -16,14 +16,14 @@ use Rattle.mq_stats.specs.Exits.{IsExitOf, stream_between}
 use Rattle.mq_stats.specs.Numbers.{AreLeaving}
 use Rattle.mq_stats.specs.declared.exits.Exit.{Exit}
 
--- streams of jobs of the rows, of which those that no input reads are no longer than this
+-- streams of jobs of the rows; those that no input reads have at most `most` jobs
 pub record AreStreams (node : NodeStreams) : Type 0 where
   pub leaving : AllByRecursion (AreLeaving node.rows.now) (streams_in node.streams)
   pub even : length node.read ≡ length (streams_in node.streams)
   pub few : node.most ≤ 1048576
   pub within : (out : ℕ) (stream : Stream) → slice_get (streams_in node.streams) out ≡ Some stream → slice_get node.read out ≡ Some false → length stream.job ≤ node.most
 
--- how many pieces they make, of 16,384 positions each
+-- the number of their pieces, of 16,384 positions each
 abbrev pub exit_pieces : NodeStreams → ℕ
 exit_pieces node = pieces_in 16384 node.most
 
@@ -31,21 +31,21 @@ exit_pieces node = pieces_in 16384 node.most
 abbrev pub stream_piece : ℕ → Stream → Stream
 stream_piece b stream = stream_between (start_of 16384 (length stream.job) b) (start_of 16384 (length stream.job) (b + 1)) stream
 
--- what leaves by an output in a piece, unless some input reads it
+-- what leaves by an output in a piece, unless some input reads the output
 abbrev pub IsExitIn : NodeStreams → ℕ → ℕ → Exit → Type 0
 IsExitIn node b out exit =
     (stream : Stream) → slice_get (streams_in node.streams) out ≡ Some stream → slice_get node.read out ≡ Some false → IsExitOf node.rows.now (stream_piece b stream) exit
 
--- the same of each output
+-- what leaves by each output in a piece
 abbrev pub AreExitsIn : NodeStreams → ℕ → List Exit → Type 0
 AreExitsIn node b exits = AreAll (IsExitIn node b) (length (streams_in node.streams)) exits
 
--- what leaves by an output in all of them, unless some input reads it
+-- what leaves by an output in all pieces, unless some input reads the output
 abbrev pub IsExitAt : NodeStreams → ℕ → Exit → Type 0
 IsExitAt node out exit =
     (stream : Stream) → slice_get (streams_in node.streams) out ≡ Some stream → slice_get node.read out ≡ Some false → (exit.count, exit.sojourn) ≡ sequence_exit node.rows.now stream
 
--- the same of each output
+-- what leaves by each output in all pieces
 abbrev pub AreExitsAt : NodeStreams → List Exit → Type 0
 AreExitsAt node exits = AreAll (IsExitAt node) (length (streams_in node.streams)) exits
 
@@ -55,7 +55,7 @@ pub record AreStreamsIn (nodes : List Node) (rows : Rows) (sequences : NodeSeque
   pub streams : streams_in its.streams ≡ streams_in sequences.streams
   pub read : (out : ℕ) → out < length (streams_in sequences.streams) → slice_get its.read out ≡ Some (is_read nodes sequences.number out)
 
--- those of the first of these nodes, as many as this
+-- the streams of the first `count` of these nodes
 pub record AreNodeStreams (nodes : List Node) (rows : Rows) (all : List NodeSequences) (count : ℕ) (streams : List NodeStreams) : Type 0 where
   pub len : length streams ≡ count
   pub fit : AllByRecursion AreStreams streams

@@ -19,7 +19,8 @@ pub record AreSequencesOf (plan : Plan) (rows : Rows) (v : ℕ) (node : Node) (s
   pub visits : visits_in sequences.visits ≡ visits_of node.kind ((run_of plan rows).stations v)
   pub streams : streams_in sequences.streams ≡ streams_below (run_of plan rows) v (outputs_in node.kind)
 
--- those of the first nodes, as many as this
+-- the visits and the streams of the first `count`
+-- nodes
 pub record AreFirstSequences (plan : Plan) (rows : Rows) (count : ℕ) (all : List NodeSequences) : Type 0 where
   pub len : length all ≡ count
   pub countable : AllByRecursion (AreCountable rows) all

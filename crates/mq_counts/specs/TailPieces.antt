@@ -1,4 +1,4 @@
--- The waits at nodes, counted by pieces of their visits.
+-- The waits at nodes, counted in pieces of their visits.
 use Rattle.std.specs.List.{AllByRecursion}
 use Rattle.std.specs.Prelude.{◌≡◌, ◌+◌, ◌≤◌, ◌↔◌, ◌==◌, ℕ, IfSome, IsSome, List, Option, cond, length, Some, slice_get}
 use Rattle.mq_core.specs.declared.model.Visits.{Visits}
@@ -11,7 +11,8 @@ use Rattle.mq_stats.specs.Percentiles.{longest_wait, waits_at}
 use Rattle.mq_stats.specs.WaitCounts.{AreWaitCounts}
 use Rattle.mq_stats.specs.declared.wait_counts.WaitCounts.{WaitCounts}
 
--- visits to a node, a bound up to which a table can count, and how many visits a piece may have: no fewer than a table counts ticks
+-- visits to a node, the number of ticks up to which a table counts, and the number of visits in a piece, which is at least that
+-- number
 pub record IsWaited (node : NodeWaits) : Type 0 where
   pub visits : AreSeen node.rows.now node.kind.now node.visits
   pub most : node.most ≤ 1048576
@@ -19,7 +20,7 @@ pub record IsWaited (node : NodeWaits) : Type 0 where
   pub size : node.size ≤ 1048576
   pub whole : node.most ≤ node.size
 
--- how many pieces they make: none where no wait is counted
+-- the number of pieces: none if no wait is counted
 abbrev pub counted_pieces : NodeWaits → ℕ
 counted_pieces node = cond (node.most == 0) 0 (pieces_in node.size (length (visits_in node.visits).job))
 
@@ -29,11 +30,11 @@ visits_in_piece node b =
     let count = length (visits_in node.visits).job in
     visits_between (start_of node.size count b) (start_of node.size count (b + 1)) (visits_in node.visits)
 
--- and their waits
+-- the waits of a piece
 abbrev pub waits_in_piece : NodeWaits → ℕ → List ℕ
 waits_in_piece node b = waits_at node.rows.now node.kind.now (visits_in_piece node b)
 
--- the counts of these waits, exactly where none is longer than can be counted
+-- the counts of these waits, which are there if and only if no wait is longer than can be counted
 pub record IsPieceCounts (node : NodeWaits) (b : ℕ) (counts : Option WaitCounts) : Type 0 where
   pub told : IsSome counts ↔ (longest_wait node.rows.now node.kind.now (visits_in_piece node b) ≤ node.most)
   pub waits : IfSome counts (AreWaitCounts (waits_in_piece node b))
@@ -44,7 +45,7 @@ AreWaitsIn nodes v its =
     (node : NodeVisits) → slice_get nodes v ≡ Some node →
     waits_at its.rows.now its.kind.now (visits_in its.visits) ≡ waits_at node.rows.now node.kind.now (visits_in node.visits)
 
--- the visits to the first nodes, as many as this
+-- the visits to the first `count` nodes
 pub record AreNodeWaits (nodes : List NodeVisits) (count : ℕ) (all : List NodeWaits) : Type 0 where
   pub len : length all ≡ count
   pub waited : AllByRecursion IsWaited all

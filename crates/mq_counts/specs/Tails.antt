@@ -14,25 +14,25 @@ use Rattle.mq_stats.specs.declared.tails.Percentiles.{Percentiles}
 abbrev pub IsTailOf : NodeVisits → Percentiles → Type 0
 IsTailOf node tail = ArePercentiles (waits_at node.rows.now node.kind.now (visits_in node.visits)) tail
 
--- the same of the node at an index
+-- the percentiles of the waits at the node at an index
 abbrev pub IsTailIn : List NodeVisits → ℕ → Percentiles → Type 0
 IsTailIn nodes v tail = (node : NodeVisits) → slice_get nodes v ≡ Some node → IsTailOf node tail
 
--- of each node
+-- the percentiles of the waits at each node
 abbrev pub AreTailsOf : List NodeVisits → List Percentiles → Type 0
 AreTailsOf nodes tails = AreAll (IsTailIn nodes) (length nodes) tails
 
--- what was counted of the first nodes, as many as this: percentiles of their waits, where there are any
+-- what was counted at the first `count` nodes: percentiles of their waits, or nothing
 pub record AreCountedOf (nodes : List NodeVisits) (count : ℕ) (counted : List (Option Percentiles)) : Type 0 where
   pub len : length counted ≡ count
   pub each : (v : ℕ) (tail : Option Percentiles) → slice_get counted v ≡ Some tail → IfSome tail (IsTailIn nodes v)
 
--- visits to nodes, with what is counted of them
+-- visits to nodes, with the counts of these visits
 pub record AreKnown (known : KnownNodes) : Type 0 where
   pub visited : AllByRecursion IsVisited known.nodes.now
   pub sums : AreSumsOf known.nodes.now known.sums.now
 
--- the same of no more than 65,535 nodes, with what was counted
+-- at most 65,535 nodes with their counts, and with the percentiles that were counted
 pub record AreCounting (of : NodesTails) : Type 0 where
   pub few : length of.known.nodes.now < 2 ^ 16
   pub known : AreKnown of.known

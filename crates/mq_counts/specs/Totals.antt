@@ -1,4 +1,4 @@
--- What is counted of nodes, in a list, from their visits.
+-- Counts of nodes, in a list, from their visits.
 use Rattle.std.specs.Prelude.{◌≡◌, ◌+◌, ◌-◌, ◌*◌, ◌/◌, ℕ, Bool, List, cond, length, min, Some, slice_get}
 use Rattle.mq_crew.specs.Crew.{AreAll}
 use Rattle.mq_counts.specs.Seen.{AreSeen, visits_in}
@@ -6,7 +6,7 @@ use Rattle.mq_counts.specs.declared.totals.NodeVisits.{NodeVisits}
 use Rattle.mq_stats.specs.Blocks.{IsBlock, IsBlockOf}
 use Rattle.mq_stats.specs.declared.blocks.BlockCount.{BlockCount}
 
--- Pieces of this size. How many they are of so many visits, where the last one may have fewer.
+-- The number of pieces of this size in `count` visits. The last piece may be smaller.
 abbrev pub pieces_in : ℕ → ℕ → ℕ
 pieces_in size count = (count + (size - 1)) / size
 
@@ -18,28 +18,29 @@ start_of size count b = min count (b * size)
 abbrev pub IsVisited : NodeVisits → Type 0
 IsVisited node = AreSeen node.rows.now node.kind.now node.visits
 
--- how many pieces they make, of 16,384 visits each
+-- the number of their pieces, of 16,384 visits each
 abbrev pub pieces_of : NodeVisits → ℕ
 pieces_of node = pieces_in 16384 (length (visits_in node.visits).job)
 
--- up to how many ticks waits are counted with the totals: where percentiles are told as many as a piece has visits
+-- the number of ticks up to which waits are counted with the totals: if percentiles are asked for, the number of
+-- visits in a piece
 abbrev pub counted_to : Bool → ℕ
 counted_to tails = cond tails 16384 0
 
--- what is counted of the visits of a piece
+-- the counts of the visits of a piece
 abbrev pub IsPieceCount : NodeVisits → ℕ → BlockCount → Type 0
 IsPieceCount node b block =
     let count = length (visits_in node.visits).job in
     IsBlock node.rows.now node.kind.now (visits_in node.visits) node.last (counted_to node.tails) (start_of 16384 count b) (start_of 16384 count (b + 1)) block
 
--- what is counted of all of them
+-- the counts of all visits
 abbrev pub IsSumOf : NodeVisits → BlockCount → Type 0
 IsSumOf node sum = IsBlockOf node.rows.now node.kind.now (visits_in node.visits) node.last (counted_to node.tails) sum
 
--- the same of the node at an index
+-- the counts of the node at an index
 abbrev pub IsSumIn : List NodeVisits → ℕ → BlockCount → Type 0
 IsSumIn nodes v sum = (node : NodeVisits) → slice_get nodes v ≡ Some node → IsSumOf node sum
 
--- of each node
+-- the counts of each node
 abbrev pub AreSumsOf : List NodeVisits → List BlockCount → Type 0
 AreSumsOf nodes sums = AreAll (IsSumIn nodes) (length nodes) sums

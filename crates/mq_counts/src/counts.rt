@@ -1,4 +1,4 @@
-// What a report tells of nodes, of what came to them and what left.
+// What a report says of nodes, from what came to them and what left.
 ghost use Rattle.std.specs.Prelude.{◌≡◌, ◌<◌, ◌≤◌, ◌^◌, ◌==◌, ◌&&◌, ℕ, List as Items, length, IfOk};
 ghost use Rattle.std.specs.List.{AllByRecursion, list_any};
 ghost use Rattle.mq_core.specs.StandardTable.{run_of};
@@ -32,29 +32,29 @@ pub struct NodeSequences<'a> {
     pub streams: SeenStreams<'a>,
 }
 
-/// What is told of a node.
+/// What a report says of a node.
 #[derive(Drop)]
 pub struct NodeCount {
-    /// The totals up to the time of the last event at the node: held visits stay on (`totals_at`).
+    /// The totals up to the last event at the node. In a longer run its held visits stay on (`totals_at`).
     pub totals: NodeTotals,
-    /// That time, in ticks.
+    /// The time of that event, in ticks.
     pub last: u64,
-    /// The percentiles of the waits, where the report is of form 2.
+    /// The percentiles of the waits, if the report has form 2.
     pub tail: Percentiles,
-    /// What leaves by each output: nothing is told of one that some input reads.
+    /// What leaves by each output. For an output that an input reads, it says nothing.
     pub exits: List<Exit>,
 }
 
-/// What a run tells.
+/// What a report says of a run.
 #[derive(Drop)]
 pub struct Counts {
     /// The time of the last event, in ticks.
     pub span: u64,
-    /// What is told of each node, by order of declaration.
+    /// What it says of each node, by order of declaration.
     pub nodes: List<NodeCount>,
 }
 
-// Whether one of these inputs reads the output of the node.
+// Returns whether one of these inputs reads the output of the node.
 fn reads(inputs: &[Input], node: u32, output: usize) -> bool
     ensures { result ≡ list_any (λ i. (i.node == node) && (i.out == output)) inputs.now }
 {
@@ -63,7 +63,7 @@ fn reads(inputs: &[Input], node: u32, output: usize) -> bool
         .any(|input| input.node == node && input.out as usize == output)
 }
 
-/// Whether some input reads the output of the node.
+/// Returns whether some input reads the output of the node.
 pub fn is_read(nodes: &[Node], node: u32, output: usize) -> bool
     ensures { result ≡ reads_output nodes.now node output }
 {
@@ -72,7 +72,7 @@ pub fn is_read(nodes: &[Node], node: u32, output: usize) -> bool
         .any(|other| reads(other.inputs.as_slice(), node, output))
 }
 
-// The visits to a node, up to the last event there.
+// Returns the visits to a node, up to the last event there.
 fn node_visits<'a>(rows: &'a Rows, sequences: &NodeSequences<'a>, tails: bool) -> NodeVisits<'a>
     requires { AreCountable rows.now sequences.now }
     ensures visited { IsVisited result }
@@ -87,7 +87,7 @@ fn node_visits<'a>(rows: &'a Rows, sequences: &NodeSequences<'a>, tails: bool) -
     }
 }
 
-// The same of each node.
+// Returns the visits to each node, up to the last event there.
 fn all_visits<'a>(
     alloc: Global,
     rows: &'a Rows,
@@ -104,7 +104,7 @@ fn all_visits<'a>(
     Ok(visits)
 }
 
-// The percentiles of the waits at these nodes, where a report of this form tells them.
+// Returns the percentiles of the waits at these nodes if the form is 2, and an empty list otherwise.
 fn tails_told<R: Threads + Sync, G: Gate>(
     rt: &R,
     alloc: Global,
@@ -127,7 +127,7 @@ fn tails_told<R: Threads + Sync, G: Gate>(
     tails_of(rt, alloc, workers, nodes, sums, gate)
 }
 
-// Those at a node; none where a report of this form tells none.
+// Returns the percentiles at a node, or zeros if the form isn't 2.
 fn tail_told(tails: &List<Percentiles>, form: u8, at: usize) -> Percentiles
     requires { form ≡ 2 → at < length tails.now }
     ensures { (nodes : Items TheVisits) → (form ≡ 2 → AreTailsOf nodes tails.now) → form ≡ 2 → IsTailIn nodes at result }
@@ -138,7 +138,7 @@ fn tail_told(tails: &List<Percentiles>, form: u8, at: usize) -> Percentiles
     *tails.get(at)
 }
 
-// What is told of each node, of what is counted of its visits, the percentiles of their waits and the pieces of what leaves.
+// Returns what the report says of each node, from the counts of its visits, the percentiles and the pieces of what leaves.
 fn counts_at(
     alloc: Global,
     all: &List<NodeSequences>,
@@ -173,7 +173,7 @@ fn counts_at(
     Ok(counts)
 }
 
-// The same, where what is counted of them is there.
+// Returns what the report says of each node, from the counts of its visits.
 fn counts_with<R: Threads + Sync, G: Gate>(
     rt: &R,
     alloc: Global,
@@ -209,9 +209,9 @@ fn counts_with<R: Threads + Sync, G: Gate>(
     }
 }
 
-/// What is told of each of these nodes of a network, at most 65,535: totals, in form 2 percentiles (`tails_of`), and
-/// what leaves by each output that no input of the network reads (`parted_exits`). 1 to 64 workers work it out, who enter the gate. It refuses
-/// for want of memory alone.
+/// Returns what a report says of each of these nodes of a network, at most 65,535: totals, percentiles in form 2 (`tails_of`), and what leaves
+/// by each output that no input of the network reads (`parted_exits`). 1 to 64 workers compute it, and enter the gate with each piece. The
+/// only error is out of memory.
 pub fn counts_of<R: Threads + Sync, G: Gate>(
     rt: &R,
     alloc: Global,
@@ -245,7 +245,7 @@ pub fn counts_of<R: Threads + Sync, G: Gate>(
     }
 }
 
-// The time of the last event at any node of the run.
+// Returns the time of the last event at any node of the run, in ticks.
 fn last_of_all(plan: &Plan, rows: &Rows, nodes: &List<NodeCount>) -> u64
     requires read { IsReadFor plan.now.net rows.now }
     requires nodes { (form : ℕ) × AreNodeCounts plan.now rows.now form nodes.now }
@@ -260,7 +260,7 @@ fn last_of_all(plan: &Plan, rows: &Rows, nodes: &List<NodeCount>) -> u64
     span
 }
 
-/// What a run tells, of what is told of each of its nodes.
+/// Returns what a report says of a run, from what it says of each node.
 pub fn counted(plan: &Plan, rows: &Rows, nodes: List<NodeCount>) -> Counts
     requires read { IsReadFor plan.now.net rows.now }
     requires nodes { (form : ℕ) × AreNodeCounts plan.now rows.now form nodes }

@@ -1,11 +1,11 @@
-// The totals of a node by a later time, at which a run ends.
+// The totals of a node up to a later time, at which a run ends.
 ghost use Rattle.std.specs.Prelude.{◌≡◌, ◌-◌, ◌<◌, ◌≤◌, ◌^◌};
 ghost use Rattle.mq_stats.specs.Numbers.{AreSmall, totals_from};
 ghost use Rattle.mq_counts.specs.Later.{HeldStayOn, held_on};
 
 use mq_stats::NodeTotals;
 
-/// The totals of a node up to a later time, in ticks: held visits stay on.
+/// Returns the totals of a node up to a later time, in ticks. Held visits stay on.
 pub fn totals_until(totals: &NodeTotals, last: u64, span: u64) -> NodeTotals
     requires small { AreSmall totals.now }
     requires later { last ≤ span }
@@ -18,7 +18,8 @@ pub fn totals_until(totals: &NodeTotals, last: u64, span: u64) -> NodeTotals
     }
 }
 
-/// So are the totals of a node by a time at which all has happened there, and by a later one. It does nothing when it runs.
+/// Proves that the totals of a node up to a later time are the earlier ones with held visits staying on, if everything
+/// there has happened by the earlier time. It does nothing at run time.
 pub fn held_stay_on()
     ensures { HeldStayOn }
 {}

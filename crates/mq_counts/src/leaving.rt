@@ -1,4 +1,4 @@
-// What leaves nodes by the outputs that no input reads, by pieces of their streams.
+// What leaves nodes by the outputs that no input reads, in pieces of their streams.
 ghost use Rattle.std.specs.Prelude.{◌≡◌, ◌<◌, ◌≤◌, ◌^◌, false, length, slice_get, IfOk, Some};
 ghost use Rattle.std.specs.List.{AllByRecursion};
 ghost use Rattle.mq_core.specs.declared.model.Rows.{Rows as TheRows};
@@ -20,20 +20,20 @@ use mq_stats::{Exit, exits_added, exits_join};
 use std::alloc::Global;
 use std::thread::Threads;
 
-// What is told of an output that some input reads, and of no job.
+// The exit of an output that some input reads, and of one that no job leaves by.
 const NOTHING: Exit = Exit {
     count: 0,
     sojourn: 0,
 };
 
-/// What leaves a node, by output. A piece of it is what leaves by so many neighbours of each stream that no input reads.
+/// What leaves a node, by output. A piece covers one range of positions in each stream that no input reads.
 #[derive(Drop)]
 pub struct NodeStreams<'a> {
     pub rows: &'a Rows,
     pub streams: SeenStreams<'a>,
-    /// Whether some input reads it, by output.
+    /// For each output, whether some input reads it.
     pub read: List<bool>,
-    /// None of the others has more jobs than this.
+    /// The outputs that no input reads have at most this many jobs each.
     pub most: u32,
 }
 
@@ -68,7 +68,7 @@ impl<'a> Pieces for NodeStreams<'a> {
     }
 }
 
-// What leaves by an output in the piece at an index. Where another stream is longer it may have none.
+// Returns what leaves by an output in the piece at an index. It may be no job, if another stream is longer.
 fn exit_in(node: &NodeStreams, b: u32, output: usize) -> Exit
     requires fit { AreStreams node.now }
     requires piece { b < exit_pieces node.now }
@@ -84,7 +84,7 @@ fn exit_in(node: &NodeStreams, b: u32, output: usize) -> Exit
     exit_seen(node.rows, &node.streams, output, from, to)
 }
 
-// How many jobs that leave by an output are looked at: none where some input reads it.
+// Returns how many jobs that leave by an output are counted: none if some input reads it.
 fn told_of(streams: &SeenStreams, output: usize, read: bool) -> u32
     requires leaving { (rows : TheRows) × AllByRecursion (AreLeaving rows) (streams_in streams.now) }
     requires inside { output < length (streams_in streams.now) }
@@ -97,7 +97,7 @@ fn told_of(streams: &SeenStreams, output: usize, read: bool) -> u32
     leaving_count(streams, output)
 }
 
-// What leaves a node.
+// Returns what leaves a node.
 fn node_streams<'a>(
     alloc: Global,
     nodes: &[Node],
@@ -125,7 +125,7 @@ fn node_streams<'a>(
     })
 }
 
-// The same of each node.
+// Returns what leaves each node.
 fn all_streams<'a>(
     alloc: Global,
     nodes: &[Node],
@@ -148,9 +148,9 @@ fn all_streams<'a>(
     Ok(streams)
 }
 
-/// What leaves each of these nodes of a network, at most 65,535, by the outputs that no input of the network reads. The streams of
-/// a node are cut into pieces of 16,384 positions, and the pieces of all nodes are a list that 1 to 64 workers make, who enter the
-/// gate. It refuses for want of memory alone.
+/// Returns what leaves each of these nodes of a network, at most 65,535, by the outputs that no input of the network reads. The
+/// streams of a node are cut into pieces of 16,384 positions, and the pieces of all nodes form one list. 1 to 64 workers make it,
+/// and enter the gate with each piece. The only error is out of memory.
 pub fn parted_exits<'a, R: Threads + Sync, G: Gate>(
     rt: &R,
     alloc: Global,
@@ -180,7 +180,7 @@ pub fn parted_exits<'a, R: Threads + Sync, G: Gate>(
     }
 }
 
-// What leaves by an output, of its pieces one after another.
+// Returns what leaves by an output, from its pieces in order.
 fn exit_of(node: &NodeStreams, parts: &List<List<Exit>>, output: usize) -> Exit
     requires fit { AreStreams node.now }
     requires parts { AreAll (AreExitsIn node.now) (exit_pieces node.now) parts.now }
@@ -196,7 +196,7 @@ fn exit_of(node: &NodeStreams, parts: &List<List<Exit>>, output: usize) -> Exit
     sum
 }
 
-// The same, unless some input reads it.
+// Returns what leaves by an output, or nothing if some input reads it.
 fn exit_at(node: &NodeStreams, parts: &List<List<Exit>>, output: usize) -> Exit
     requires fit { AreStreams node.now }
     requires parts { AreAll (AreExitsIn node.now) (exit_pieces node.now) parts.now }
@@ -209,7 +209,7 @@ fn exit_at(node: &NodeStreams, parts: &List<List<Exit>>, output: usize) -> Exit
     exit_of(node, parts, output)
 }
 
-// The same of each output.
+// Returns what leaves by each output of a node.
 fn exits_of(
     alloc: Global,
     node: &NodeStreams,
@@ -226,7 +226,7 @@ fn exits_of(
     Ok(exits)
 }
 
-/// What leaves the node at an index by each output that no input reads.
+/// Returns what leaves the node at an index by each output that no input reads.
 pub fn exits_at(alloc: Global, parted: &PartedExits, at: usize) -> Result<List<Exit>, OutOfMemory>
     requires parted { AreParted parted.now }
     requires inside { at < length parted.now.nodes }

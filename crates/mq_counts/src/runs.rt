@@ -1,4 +1,4 @@
-// What a run that is kept tells.
+// What a report says of a run that is kept.
 ghost use Rattle.std.specs.Prelude.{◌≡◌, ◌≤◌, ◌<◌, ◌^◌, ℕ, length, IfOk, Some, slice_get};
 ghost use Rattle.mq_core.specs.Results.{totals_of};
 ghost use Rattle.mq_core.specs.Sequences.{IsRunOf};
@@ -21,7 +21,7 @@ use mq_stats::{NodeTotals, lasts_are_greatest, runs_give_streams, runs_give_visi
 use std::alloc::Global;
 use std::thread::Threads;
 
-// What came to a node over the run, and what left it.
+// Returns what came to a node over the run, and what left it.
 fn sequences_at<'a>(
     plan: &Plan,
     rows: &Rows,
@@ -47,7 +47,7 @@ fn sequences_at<'a>(
     }
 }
 
-// The same of each node, by node.
+// Returns what came to each node over the run, and what left it, by node.
 fn sequences_by_node<'a>(
     alloc: Global,
     plan: &'a Plan,
@@ -67,8 +67,8 @@ fn sequences_by_node<'a>(
     Ok(all)
 }
 
-/// What a run tells in a report of this form. No node has more than 1,048,576 visits. 1 to 64 workers work it out, who enter the
-/// gate. It refuses for want of memory alone.
+/// Returns what a report of this form says of a run. No node has more than 1,048,576 visits. 1 to 64 workers compute it, and
+/// enter the gate with each piece. The only error is out of memory.
 pub fn counts_of_run<R: Threads + Sync, G: Gate>(
     rt: &R,
     alloc: Global,
@@ -100,7 +100,7 @@ pub fn counts_of_run<R: Threads + Sync, G: Gate>(
     }
 }
 
-/// The totals of a node, from what a run tells: up to its end, so that held visits stay on up to then.
+/// Returns the totals of a node up to the end of the run, until which held visits stay on.
 pub fn totals_at(
     plan: &Plan,
     rows: &Rows,

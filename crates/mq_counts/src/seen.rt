@@ -1,5 +1,6 @@
-// What came to a node and left it, as it is looked at: as lists that are kept, or where all jobs leave by one output in the order in which
-// they came, of what came and when each job departs. Then no list is made of what each visit found: it is told of a part as that is counted.
+// What came to a node and what left it, in one of two forms: the lists that are kept, or, if all jobs leave by one output in order of
+// arrival, what came and when each job departs. The second form makes no list of what visits found: that is computed for a part when the
+// part is counted.
 ghost use Rattle.std.specs.Prelude.{◌≡◌, ◌↔◌, ◌<◌, ◌≤◌, length, slice_get, IfOk, IfSome, IsSome, Some};
 ghost use Rattle.std.specs.List.{AllByRecursion};
 ghost use Rattle.mq_core.specs.declared.model.Rows.{Rows as TheRows};
@@ -23,22 +24,22 @@ use std::alloc::Global;
 /// The visits to a node.
 #[derive(Clone, Copy)]
 pub enum SeenVisits<'a> {
-    /// As they are kept.
+    /// The visits as they are kept.
     Kept(&'a Visits),
-    /// By what came, all of which leaves by one output in the order in which it came, and when each job departs, in ticks.
+    /// What came, all of which leaves by one output in order of arrival, and when each job departs, in ticks.
     InTurn(&'a Stream, &'a List<u64>),
 }
 
 /// What leaves a node by each output.
 #[derive(Clone, Copy)]
 pub enum SeenStreams<'a> {
-    /// As it is kept.
+    /// The streams as they are kept.
     Kept(&'a List<Stream>),
-    /// By what came, all of which leaves by one output in the order in which it came, and when each job departs, in ticks.
+    /// What came, all of which leaves by one output in order of arrival, and when each job departs, in ticks.
     InTurn(&'a Stream, &'a List<u64>),
 }
 
-/// How many visits they are.
+/// Returns the number of visits.
 pub fn visit_count(visits: &SeenVisits) -> usize
     ensures { result ≡ length (visits_in visits.now).job }
 {
@@ -48,7 +49,7 @@ pub fn visit_count(visits: &SeenVisits) -> usize
     }
 }
 
-/// When they came, in ticks.
+/// Returns the arrival times of the visits, in ticks.
 pub fn arrivals_in<'a>(visits: &SeenVisits<'a>) -> &'a List<u64>
     ensures { result.now ≡ (visits_in visits.now).arrive }
 {
@@ -58,7 +59,7 @@ pub fn arrivals_in<'a>(visits: &SeenVisits<'a>) -> &'a List<u64>
     }
 }
 
-/// What `count_block` tells of them.
+/// Returns what `count_block` returns, for these visits.
 pub fn block_seen(
     alloc: Global,
     rows: &Rows,
@@ -83,7 +84,7 @@ pub fn block_seen(
     }
 }
 
-/// What `count_between` tells of them.
+/// Returns what `count_between` returns, for these visits.
 pub fn waits_seen(
     alloc: Global,
     rows: &Rows,
@@ -108,7 +109,7 @@ pub fn waits_seen(
     }
 }
 
-/// What `tail_below` tells of them.
+/// Returns what `tail_below` returns, for these visits.
 pub fn tail_seen(
     alloc: Global,
     rows: &Rows,
@@ -127,7 +128,7 @@ pub fn tail_seen(
     }
 }
 
-/// By how many outputs jobs leave.
+/// Returns the number of outputs by which jobs leave.
 pub fn output_count(streams: &SeenStreams) -> usize
     ensures { result ≡ length (streams_in streams.now) }
 {
@@ -137,7 +138,7 @@ pub fn output_count(streams: &SeenStreams) -> usize
     }
 }
 
-/// How many jobs leave by an output.
+/// Returns the number of jobs that leave by an output.
 pub fn leaving_count(streams: &SeenStreams, output: usize) -> u32
     requires leaving { (rows : TheRows) × AllByRecursion (AreLeaving rows) (streams_in streams.now) }
     requires inside { output < length (streams_in streams.now) }
@@ -150,7 +151,7 @@ pub fn leaving_count(streams: &SeenStreams, output: usize) -> u32
     }
 }
 
-/// What leaves by an output, from one position up to another.
+/// Returns what leaves by an output, from one position up to another.
 pub fn exit_seen(rows: &Rows, streams: &SeenStreams, output: usize, from: u32, to: u32) -> Exit
     requires leaving { AllByRecursion (AreLeaving rows.now) (streams_in streams.now) }
     requires inside { output < length (streams_in streams.now) }
@@ -166,7 +167,7 @@ pub fn exit_seen(rows: &Rows, streams: &SeenStreams, output: usize, from: u32, t
     }
 }
 
-/// The time of the last event at a node, to which these visits came and which these streams left, in ticks: 0 where there is none.
+/// Returns the time of the last event at a node with these visits and streams, in ticks, or 0 if there is none.
 pub fn last_seen(visits: &SeenVisits, streams: &SeenStreams) -> u64
     ensures { result ≡ last_event (visits_in visits.now) (streams_in streams.now) }
 {

@@ -1,4 +1,4 @@
-// The waits at nodes, counted by pieces of their visits, where they weren't with the totals.
+// The waits at nodes, counted in pieces of their visits if they weren't counted with the totals.
 ghost use Rattle.std.specs.Prelude.{◌≡◌, ◌↔◌, ◌<◌, ◌≤◌, ◌^◌, ℕ, List as Items, length, IfOk, IfSome, IsSome, None};
 ghost use Rattle.std.specs.List.{AllByRecursion};
 ghost use Rattle.mq_crew.specs.Crew.{AreAll, AreGroups};
@@ -21,8 +21,8 @@ use mq_stats::{
 use std::alloc::Global;
 use std::thread::Threads;
 
-/// The visits to a node of this kind. A piece of them is the counts of the waits of `size` neighbours, exactly where none has
-/// more than `most` ticks. Where that is 0 there are no pieces.
+/// The visits to a node of this kind. A piece is the counts of the waits of `size` neighbouring visits, or `None` if one has more than
+/// `most` ticks. If `most` is 0, there are no pieces.
 #[derive(Clone, Copy)]
 pub struct NodeWaits<'a> {
     pub rows: &'a Rows,
@@ -62,8 +62,8 @@ impl<'a> Pieces for NodeWaits<'a> {
     }
 }
 
-// Up to how many ticks the waits of so many visits are counted by a second look, where this is counted of them: 0 where they are by
-// now, and where the longest has more ticks than there are visits.
+// Returns the number of ticks up to which a second pass counts the waits of a node's visits. It is 0 if they are counted already, or if
+// the longest wait has more ticks than there are visits.
 fn looked_up_to(sum: &BlockCount, visits: u32) -> u32
     requires { visits ≤ 1048576 }
     ensures most { result ≤ 1048576 }
@@ -82,8 +82,8 @@ fn looked_up_to(sum: &BlockCount, visits: u32) -> u32
     }
 }
 
-// How many visits are a piece, where waits are counted up to so many ticks: no fewer, so that to make a table takes no longer than
-// to look at the visits of a whole piece, and the table of a short piece fits a processor's own memory.
+// Returns the number of visits in a piece if waits are counted up to `most` ticks. It is at least `most`, so that making a table takes
+// no longer than looking at the visits of a whole piece. The table for the least size fits a processor's cache.
 fn visits_in_piece(most: u32) -> u32
     requires { most ≤ 1048576 }
     ensures least { 16384 ≤ result }
@@ -93,7 +93,7 @@ fn visits_in_piece(most: u32) -> u32
     PIECE.max(most)
 }
 
-// The visits to a node of which this is counted.
+// Returns the visits to a node, with how far their waits are counted, from the counts so far.
 fn waits_of_node<'a>(node: &NodeVisits<'a>, sum: &BlockCount) -> NodeWaits<'a>
     requires visited { IsVisited node.now }
     ensures waited { IsWaited result }
@@ -109,7 +109,7 @@ fn waits_of_node<'a>(node: &NodeVisits<'a>, sum: &BlockCount) -> NodeWaits<'a>
     }
 }
 
-// The visits to each node, with how far their waits are counted.
+// Returns the visits to each node, with how far their waits are counted.
 fn waits_by_node<'a, 'b>(
     alloc: Global,
     known: &KnownNodes<'a, 'b>,
@@ -124,7 +124,7 @@ fn waits_by_node<'a, 'b>(
     Ok(List::from_vec(all))
 }
 
-// The percentiles of the waits of these counts, exactly where there are some.
+// Returns the percentiles of the counted waits, or `None` if there are no counts.
 fn tail_of(counts: &Option<WaitCounts>) -> Option<Percentiles>
     requires { (waits : Items ℕ) × IfSome counts.now (AreWaitCounts waits) }
     ensures told { IsSome result ↔ IsSome counts.now }
@@ -136,7 +136,7 @@ fn tail_of(counts: &Option<WaitCounts>) -> Option<Percentiles>
     }
 }
 
-// The percentiles of the waits at a node, where its pieces count them.
+// Returns the percentiles of the waits at a node, or `None` if its pieces don't count them.
 fn looked_at(
     alloc: Global,
     node: &NodeWaits,
@@ -163,7 +163,7 @@ fn looked_at(
     Ok(tail)
 }
 
-// The same, where they were counted with the totals or are by now.
+// Returns the percentiles of the waits at a node, or `None` if neither the totals nor its pieces count them.
 fn counted_at(
     alloc: Global,
     node: &NodeWaits,
@@ -181,7 +181,7 @@ fn counted_at(
     looked_at(alloc, node, group)
 }
 
-// The same of each node.
+// Returns these percentiles, or `None`, for each node.
 fn counted_of(
     alloc: Global,
     known: &KnownNodes,
@@ -206,9 +206,10 @@ fn counted_of(
     Ok(counted)
 }
 
-/// The percentiles of the waits at each of these nodes, where they were counted with the totals, or the longest has no more ticks than
-/// there are visits. Then the visits are cut into pieces, of as many visits as the longest wait has ticks and no fewer than 16,384, and
-/// 1 to 64 workers make them, who enter the gate. It refuses for want of memory alone.
+/// Returns the percentiles of the waits at each of these nodes, or `None` for a node whose waits weren't counted with the totals and
+/// whose longest wait has more ticks than the node has visits. A second pass cuts the visits into pieces of as many visits as the
+/// longest wait has ticks, and at least 16,384. 1 to 64 workers make the pieces, and enter the gate with each. The only error is out of
+/// memory.
 pub fn counted_tails<R: Threads + Sync, G: Gate>(
     rt: &R,
     alloc: Global,

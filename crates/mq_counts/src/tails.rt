@@ -13,7 +13,7 @@ use mq_stats::{BlockCount, Percentiles};
 use std::alloc::Global;
 use std::thread::Threads;
 
-// Where none are told.
+// The percentiles if there are none.
 pub const NO_WAIT: Percentiles = Percentiles {
     p50: 0,
     p90: 0,
@@ -27,11 +27,11 @@ pub struct KnownNodes<'a, 'b> {
     pub sums: &'a List<BlockCount>,
 }
 
-/// What the percentiles are told from: a piece is those of the waits at one node.
+/// What the percentiles come from. A piece is the percentiles of the waits at one node.
 #[derive(Clone, Copy)]
 pub struct NodesTails<'a, 'b> {
     pub known: KnownNodes<'a, 'b>,
-    /// Those that were counted, by node.
+    /// The percentiles that are counted already, by node.
     pub counted: &'a List<Option<Percentiles>>,
 }
 
@@ -54,7 +54,7 @@ impl<'a, 'b> Pieces for NodesTails<'a, 'b> {
     }
 }
 
-// The percentiles of the waits at a node, which are looked for only where they weren't counted.
+// Returns the percentiles of the waits at a node, and computes them only if they weren't counted.
 fn tail_at(
     alloc: Global,
     known: &KnownNodes,
@@ -74,7 +74,7 @@ fn tail_at(
     tail_seen(alloc, its.rows, its.kind, &its.visits, longest)
 }
 
-// The percentiles of the waits at each node, where all were counted.
+// Returns the percentiles of the waits at each node, or `None` unless all were counted.
 fn known_tails(alloc: Global, of: &NodesTails) -> Result<Option<List<Percentiles>>, OutOfMemory>
     requires { AreCounting of.now }
     ensures { IfOk result (λ known. IfSome known (AreTailsOf of.now.known.nodes.now)) }
@@ -90,10 +90,10 @@ fn known_tails(alloc: Global, of: &NodesTails) -> Result<Option<List<Percentiles
     Ok(Some(List::from_vec(tails)))
 }
 
-/// The percentiles of the waits at each of these nodes, at most 65,535, of which this is counted. Mostly the waits are counted by
-/// now, or are by a second look, by pieces of the visits; a node whose waits aren't is a piece of its own. 1 to 64 workers make the
-/// pieces, who enter the gate. Where no piece is left there are no workers. No node has more than 1,048,576 visits. It refuses for
-/// want of memory alone.
+/// Returns the percentiles of the waits at each of these nodes, at most 65,535, from the counts of their visits. Usually the waits
+/// are counted already, or a second pass over pieces of the visits counts them (`counted_tails`). Otherwise each node is a piece of
+/// another list. 1 to 64 workers make the pieces, and enter the gate with each; without pieces there are no workers. No node has
+/// more than 1,048,576 visits. The only error is out of memory.
 pub fn tails_of<R: Threads + Sync, G: Gate>(
     rt: &R,
     alloc: Global,

@@ -1,4 +1,4 @@
-// What is counted of nodes, by pieces of their visits.
+// Counts of nodes, in pieces of their visits.
 ghost use Rattle.std.specs.Prelude.{◌≡◌, ◌+◌, ◌≤◌, ◌<◌, ◌^◌, length, IfOk};
 ghost use Rattle.std.specs.List.{AllByRecursion};
 ghost use Rattle.mq_crew.specs.Crew.{AreAll, AreGroups};
@@ -14,10 +14,10 @@ use mq_stats::{BlockCount, blocks_added, waits_join};
 use std::alloc::Global;
 use std::thread::Threads;
 
-// How many visits are a piece: what is read of them fits a processor's own memory.
+// The number of visits in a piece: what is read of them fits a processor's cache.
 pub const PIECE: u32 = 16_384;
 
-/// The visits to a node of this kind. A piece of them is what is counted of so many neighbours.
+/// The visits to a node of this kind. A piece is the counts of `PIECE` neighbouring visits.
 #[derive(Clone, Copy)]
 pub struct NodeVisits<'a> {
     pub rows: &'a Rows,
@@ -25,7 +25,7 @@ pub struct NodeVisits<'a> {
     pub visits: SeenVisits<'a>,
     /// The time up to which they are counted, in ticks: that of the last event at the node.
     pub last: u64,
-    /// Whether the waits are counted with the totals, where none has more ticks than a piece has visits.
+    /// Whether a piece counts the waits with the totals, unless one has more ticks than a piece has visits.
     pub tails: bool,
 }
 
@@ -48,14 +48,14 @@ impl<'a> Pieces for NodeVisits<'a> {
     }
 }
 
-// Up to how many ticks waits are counted with the totals.
+// Returns the number of ticks up to which waits are counted with the totals.
 fn counted_up_to(tails: bool) -> u32
     ensures { result ≡ counted_to tails }
 {
     if tails { PIECE } else { 0 }
 }
 
-// What is counted of the visits from one position up to another.
+// Returns the counts of the visits from one position up to another.
 fn block_of(alloc: Global, node: &NodeVisits, from: u32, to: u32) -> Result<BlockCount, OutOfMemory>
     requires visited { IsVisited node.now }
     requires order { from ≤ to }
@@ -75,7 +75,7 @@ fn block_of(alloc: Global, node: &NodeVisits, from: u32, to: u32) -> Result<Bloc
     )
 }
 
-// How many pieces of this size so many visits make.
+// Returns the number of pieces of this size in `count` visits.
 pub fn piece_count(count: u32, size: u32) -> u32
     requires few { count ≤ 1048576 }
     requires some { 0 < size }
@@ -85,7 +85,7 @@ pub fn piece_count(count: u32, size: u32) -> u32
     (count + (size - 1)) / size
 }
 
-// Where the piece at an index begins and ends.
+// Returns where the piece at an index begins and ends.
 pub fn piece_ends(count: u32, size: u32, b: u32) -> (u32, u32)
     requires few { count ≤ 1048576 }
     requires some { 0 < size }
@@ -99,7 +99,7 @@ pub fn piece_ends(count: u32, size: u32, b: u32) -> (u32, u32)
     (from, count.min(next))
 }
 
-// What is counted of a node, of what is of its pieces one after another.
+// Returns the counts of a node, from those of its pieces in order.
 fn sum_of(
     alloc: Global,
     node: &NodeVisits,
@@ -117,7 +117,7 @@ fn sum_of(
     Ok(sum)
 }
 
-// The same of each node.
+// Returns the counts of each node.
 fn sums_of(
     alloc: Global,
     nodes: &List<NodeVisits>,
@@ -140,9 +140,9 @@ fn sums_of(
     Ok(sums)
 }
 
-/// What is counted of each of these nodes, at most 65,535. The visits to a node, at most 1,048,576, are cut into pieces
-/// of 16,384, and the pieces of all nodes are a list that 1 to 64 workers make, who enter the gate.
-/// It refuses for want of memory alone.
+/// Returns the counts of each of these nodes, at most 65,535. The visits to a node, at most 1,048,576, are cut into
+/// pieces of 16,384, and the pieces of all nodes form one list. 1 to 64 workers make it, and enter the gate with each
+/// piece. The only error is out of memory.
 pub fn sums_by_node<R: Threads + Sync, G: Gate>(
     rt: &R,
     alloc: Global,

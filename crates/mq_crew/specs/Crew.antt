@@ -1,4 +1,4 @@
--- What a worker hands back, and what the gate asks of a seat.
+-- What a worker returns, and what the gate requires of a seat.
 use Rattle.std.specs.Prelude.{◌≡◌, ◌≢◌, ℕ, ◌+◌, ◌-◌, ◌<◌, ◌≤◌, List, [], ◌∷◌, ◌++◌, length, map, filter, All, Contains, nat_lt, Some, slice_get, slice_index_or}
 use Rattle.std.specs.List.{AllByRecursion, flat_map}
 use Rattle.mq_claims.specs.Counts.{late}
@@ -28,7 +28,7 @@ module _ {X : Type 0} where
     pub len : length items ≡ count
     pub each : (b : ℕ) (d : X) → b < count → is_piece b (slice_index_or items b d)
 
-  -- A worker of the machine that has ended: its draws are the numbers of its pieces, and one that has reached the count
+  -- A worker of the machine that has ended: it drew the numbers of its pieces, and one that has reached the count
   pub record HasWorked (count : ℕ) (w : Worker X) : Type 0 where
     pub late : ℕ
     pub drew : w.draws ≡ indices w.done ++ late ∷ []
@@ -36,7 +36,7 @@ module _ {X : Type 0} where
     pub early : AllByRecursion (λ d. d < count) (indices w.done)
     pub rise : Rise w.draws
 
-  -- the draws and the pieces are those of so many workers, one behind the other
+  -- the draws and the pieces are those of `many` workers, one after another
   pub record AreWorked (count many : ℕ) (draws : List ℕ) (made : List (ℕ × X)) : Type 0 where
     pub workers : List (Worker X)
     pub many_are : length workers ≡ many
@@ -44,7 +44,7 @@ module _ {X : Type 0} where
     pub made_are : flat_map (λ w. w.done) workers ≡ made
     pub each : AllByRecursion (HasWorked count) workers
 
-  -- A schedule of the machine has ended, of at most so many workers and no more than there are pieces but one at least. The items are the pieces that they recorded, each at its index
+  -- A schedule of the machine has ended, with at least one worker, and otherwise at most `most` and one per piece. The items are the pieces that they recorded, each at its index
   pub record AreRecorded (most count : ℕ) (items : List X) : Type 0 where
     pub next : ℕ
     pub state : Name → Worker X
@@ -55,18 +55,18 @@ module _ {X : Type 0} where
     pub each : (x : ℕ) (d : X) → x < count → (w : Name) × Contains (state w).draws x × Contains (state w).done (x, slice_index_or items x d)
 
 module _ {P : Type 0} (size : P → ℕ) where
-  -- how many pieces these have together
+  -- the number of pieces of all these parts
   abbrev pub total_size : List P → ℕ
   total_size [] = 0
   total_size (part ∷ parts) = size part + total_size parts
 
 module _ {P X : Type 0} (size : P → ℕ) (is_piece : P → ℕ → X → Type 0) where
-  -- the piece at an index of these, whose indices follow one another
+  -- the piece at an index of these parts, whose indices follow one another
   abbrev pub IsPieceOf : List P → ℕ → X → Type 0
   IsPieceOf [] b piece = ⊥
   IsPieceOf (part ∷ parts) b piece = (b < size part → is_piece part b piece) × (size part ≤ b → IsPieceOf parts (b - size part) piece)
 
-  -- the pieces of each of these, in its own list
+  -- the pieces of each of these parts, in a list of its own
   pub record AreGroups (parts : List P) (groups : List (List X)) : Type 0 where
     pub len : length groups ≡ length parts
     pub each : (i : ℕ) (part : P) (group : List X) → slice_get parts i ≡ Some part → slice_get groups i ≡ Some group → AreAll (is_piece part) (size part) group

@@ -11,7 +11,7 @@ use mq_claims::{ClaimSeat, Claims};
 use std::alloc::Global;
 use std::thread::{Threads, join};
 
-// One worker draws numbers until one has reached the count, and makes a piece for each that has not.
+// One worker draws numbers until one has reached the count, and makes the piece of each below it.
 fn work<P: Pieces, G: Gate>(
     alloc: Global,
     claims: &Claims,
@@ -47,7 +47,7 @@ fn work<P: Pieces, G: Gate>(
     }
 }
 
-// The workers are halved at each step, and one half goes to a new thread.
+// Each step halves the workers and starts a new thread for one half.
 #[cycle(crew)]
 fn crew<P: Pieces, G: Gate, R: Threads + Sync>(
     rt: &R,
@@ -89,10 +89,10 @@ fn crew<P: Pieces, G: Gate, R: Threads + Sync>(
     (mine, merged(a, b))
 }
 
-/// All pieces, each at its index, made by 1 to 64 workers that draw the indices, of which no more start
-/// than there are pieces. Each worker enters the gate with a number that it drew, and then makes that
-/// piece. They are those that such a schedule of the machine of workers records. It refuses for want of
-/// memory alone.
+/// Returns all pieces, each at its index. They are made by 1 to 64 workers, which draw the indices;
+/// no more workers start than there are pieces, but at least one. Each worker enters the gate with a
+/// number that it drew, and then makes that piece. Some schedule of the machine of workers records
+/// these pieces. The only error is that memory runs out.
 pub fn run_pieces<P: Pieces, G: Gate, R: Threads + Sync>(
     rt: &R,
     alloc: Global,
@@ -114,8 +114,8 @@ pub fn run_pieces<P: Pieces, G: Gate, R: Threads + Sync>(
     placed(alloc, count, made?)
 }
 
-/// All pieces, as `run_pieces` gives them. Where there are fewer than two, they are made at once, with
-/// no worker and no gate. It refuses for want of memory alone.
+/// Returns all pieces, each at its index. Fewer than two are made directly, without workers or gate;
+/// others by `run_pieces`. The only error is that memory runs out.
 pub fn made<P: Pieces, G: Gate, R: Threads + Sync>(
     rt: &R,
     alloc: Global,

@@ -1,10 +1,10 @@
-// Pieces that come with their numbers, put at their indices.
+// Puts pieces at their indices, given their numbers.
 ghost use Rattle.std.specs.Prelude.{◌≡◌, ℕ, ◌<◌, length, map, All, Contains, IfOk, Some, slice_index_or, replicate, None, ◌++◌, IsOkAnd};
 
 use mq_base::{List, OutOfMemory};
 use std::alloc::Global;
 
-// Indices that hold nothing yet.
+// Indices that are still empty.
 fn vacant<T: Drop>(alloc: Global, count: u32) -> Result<Vec<Option<T>>, OutOfMemory>
     ensures { IfOk result (λ v. v.items ≡ replicate count None) }
 {
@@ -15,7 +15,7 @@ fn vacant<T: Drop>(alloc: Global, count: u32) -> Result<Vec<Option<T>>, OutOfMem
     Ok(slots)
 }
 
-/// Both lists, one after the other, or the refusal of either. It refuses for want of memory alone.
+/// Returns both lists, one after the other. The only error, of either, is that memory ran out.
 pub fn merged<T: Drop>(
     first: Result<Vec<T>, OutOfMemory>,
     second: Result<Vec<T>, OutOfMemory>,
@@ -28,8 +28,8 @@ pub fn merged<T: Drop>(
     Ok(all)
 }
 
-/// The items at the indices that their numbers say. Each number below the count is that of an item,
-/// and no other number is. It refuses for want of memory alone.
+/// Returns the items at the indices that their numbers give. The numbers must be exactly those
+/// below `count`. The only error is that memory runs out.
 pub fn placed<T: Drop>(
     alloc: Global,
     count: u32,

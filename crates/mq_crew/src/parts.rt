@@ -1,4 +1,4 @@
-// Pieces of several kinds or stations, as one list.
+// The pieces of several parts, made as one list.
 ghost use Rattle.std.specs.Prelude.{◌≡◌, ◌<◌, ◌≤◌, ◌^◌, drop, length, take, IfOk, OnOk};
 ghost use Rattle.std.specs.List.{AllByRecursion};
 ghost use Rattle.std.specs.Vec.Iter.{into_iter_items, into_iter_len};
@@ -10,7 +10,7 @@ use std::alloc::Global;
 use std::thread::Threads;
 use std::vec::IntoIter;
 
-// The pieces of each of these, one after another.
+// The pieces of several parts, one part after another.
 #[derive(Clone, Copy)]
 struct Parts<'a, P> {
     parts: &'a [P],
@@ -46,9 +46,9 @@ impl<'a, P: Pieces> Pieces for Parts<'a, P> {
     }
 }
 
-/// All pieces of each of these parts, in a list of its own, made as one list: the indices of the first
-/// part come first, and those of the others follow. There are 1 to 64 workers, and fewer than 2^32
-/// indices. It refuses for want of memory alone.
+/// Returns the pieces of each part, in a list of its own. All are made as one list by 1 to 64 workers:
+/// the indices of the first part come first, then those of the others. There must be fewer than 2^32
+/// indices. The only error is that memory runs out.
 pub fn run_parts<P: Pieces, G: Gate, R: Threads + Sync>(
     rt: &R,
     alloc: Global,
@@ -66,7 +66,7 @@ pub fn run_parts<P: Pieces, G: Gate, R: Threads + Sync>(
     grouped(alloc, parts, made)
 }
 
-// The pieces of each of these, in its own list.
+// The pieces of each part, in a list of its own.
 fn grouped<P: Pieces>(
     alloc: Global,
     parts: &[P],
@@ -85,7 +85,7 @@ fn grouped<P: Pieces>(
     Ok(groups)
 }
 
-// The first items of these, as many as this.
+// Takes the next `count` items.
 fn taken<T: Drop>(
     alloc: Global,
     count: u32,

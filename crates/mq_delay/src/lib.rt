@@ -1,4 +1,4 @@
-//! The delay: each job is served from its arrival on, however many others are.
+//! The delay: each job is served from its arrival on, however many others are there.
 #![tactic(auto)]
 
 ghost use Rattle.std.specs.Prelude.{◌≡◌, length, IfOk};
@@ -17,19 +17,19 @@ use std::alloc::Global;
 use std::thread::Threads;
 pub use step::DelayStep;
 
-/// What a delay does with its arrivals.
+/// What leaves a delay.
 #[derive(Drop)]
 pub struct Delayed {
-    /// When each job leaves, in ticks: one departure a job, by position.
+    /// When each job leaves, in ticks: one departure per job, by position.
     pub departs: List<u64>,
-    /// The jobs as they leave: by departure, those of one departure by position.
+    /// The jobs as they leave: by departure, those with the same departure by position.
     pub leaving: Stream,
 }
 
-/// When each job leaves a delay, and in which order they do. A job leaves its demand, in ticks of
-/// service, after its arrival, and may overtake others. The stream has one job and one time an
-/// item, and there is one demand a job, by position. The order is that of a stable sort, in threads
-/// where they can be had. It refuses for want of memory alone.
+/// Returns when each job leaves a delay, and in which order they leave. A job leaves its demand, in
+/// ticks of service, after its arrival, and may overtake others. The stream has one job and one
+/// time per item, and there is one demand per job, by position. The order is that of a stable sort,
+/// in several threads if they can be started. The only error is that memory runs out.
 pub fn delay<R: Threads + Sync>(
     rt: &R,
     alloc: Global,
@@ -48,8 +48,8 @@ pub fn delay<R: Threads + Sync>(
     Ok(Delayed { departs, leaving })
 }
 
-/// When each job leaves a delay, in ticks, by position: its demand, in ticks of service, after its
-/// arrival. There is one demand a job. It refuses for want of memory alone.
+/// Returns when each job leaves a delay, in ticks, by position: its demand, in ticks of service,
+/// after its arrival. There is one demand per job. The only error is that memory runs out.
 pub fn delay_departures(
     alloc: Global,
     stream: &Stream,
@@ -65,9 +65,9 @@ pub fn delay_departures(
     Ok(List::from_vec(departs))
 }
 
-/// The jobs of a delay as they leave: by departure, those of one departure by position. There is
-/// one departure a job, in ticks, by position. The order is that of a stable sort, in threads where
-/// they can be had. It refuses for want of memory alone.
+/// Returns the jobs of a delay as they leave: by departure, those with the same departure by
+/// position. There is one departure per job, in ticks, by position. The order is that of a stable
+/// sort, in several threads if they can be started. The only error is that memory runs out.
 pub fn delay_leaving<R: Threads + Sync>(
     rt: &R,
     alloc: Global,

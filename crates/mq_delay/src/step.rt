@@ -6,19 +6,19 @@ use mq_base::List;
 use mq_core::Stream;
 use mq_scan::{Step, Timed};
 
-/// The jobs of a delay, of each when it departs, in ticks: it asks for nothing of those before it. Before the first
-/// job it is 0.
+/// The jobs of a delay as steps: each gives its departure, in ticks, whatever came before it. Before the first
+/// job the value is 0.
 #[derive(Clone, Copy)]
 pub struct DelayStep<'a> {
-    /// When the jobs come, by position, in ticks.
+    /// The arrival times, by position, in ticks.
     pub arrive: &'a List<u64>,
-    /// What they ask for, by position, in ticks.
+    /// The demands, by position, in ticks.
     pub demands: &'a List<u64>,
     ghost load: { IsSoundLoad arrive.now demands.now },
 }
 
 impl<'a> DelayStep<'a> {
-    /// The jobs of a stream, with their demands in ticks. It takes no memory.
+    /// Returns the jobs of a stream, with their demands in ticks. Takes no memory.
     pub fn new(stream: &'a Stream, demands: &'a List<u64>) -> DelayStep<'a>
         requires { IsSoundLoad stream.now.time demands.now }
         ensures arrive { result.arrive.now ≡ stream.now.time }

@@ -1,4 +1,4 @@
--- Laws that the step's ghost members cite: ranges of jobs meet, and the departures of a fork-join fit a u64.
+-- Laws that the step's ghost members cite: neighbouring ranges of jobs join, and the departures of a fork-join fit in a u64.
 use Rattle.std.proofs.Common.{◌≡◌, ℕ, zero, suc, ◌+◌, ◌-◌, ◌*◌, ◌^◌, ◌<◌, ◌≤◌, Bool, true, false, cond, List, [], ◌∷◌, length, get_or, map, max, refl, sym, ap, ◌∙◌, subst, arith}
 use Rattle.std.specs.Prelude.{All, replicate}
 use Rattle.std.specs.List.{AllByRecursion as Each}
@@ -15,7 +15,7 @@ use Rattle.mq_forkjoin.specs.declared.scan.Jobs.{Jobs}
 pub joins : (a b c : Jobs) → jobs_join (jobs_join a b) c ≡ jobs_join a (jobs_join b c)
 joins a b c = refl
 
--- a range behind another
+-- a range after another
 pub range-split : (arrive : List ℕ) (begins : List Bool) (demands : List (List ℕ)) (from n m : ℕ) (last : List ℕ) → range_run arrive begins demands from (n + m) last ≡ range_run arrive begins demands (from + n) m (range_run arrive begins demands from n last)
 range-split arrive begins demands from n zero last = ap (λ (k : ℕ). range_run arrive begins demands from k last) {x = n + 0} {y = n} (omega arith)
 range-split arrive begins demands from n (suc m) last =
@@ -36,7 +36,7 @@ acts a b c can =
     ∙ (range-split s.arrive.now s.begins.now s.demands.now a.from (a.to - a.from) (b.to - b.from) c
     ∙ (λ i. range_run (step i).arrive.now (step i).begins.now (step i).demands.now (index i) (b.to - b.from) (jobs_act a c)))
 
--- what neighbouring jobs are together
+-- the summary of neighbouring jobs
 span-is : (s : ForkJoinStep) (from n : ℕ) → span jobs_join (one_job s) from n ≡ record { step = s; from = from; to = from + n + 1 }
 span-is s from zero = ap (λ (k : ℕ). record { step = s; from = from; to = k }) {x = from + 1} {y = from + 0 + 1} (omega arith)
 span-is s from (suc n) = (λ i. record { step = (span-is s from n i).step; from = (span-is s from n i).from; to = from + suc n + 1 })
@@ -53,7 +53,7 @@ one-acts s k last =
     let index : k + 0 ≡ k = omega arith in
     ap (λ (n : ℕ). range_run s.arrive.now s.begins.now s.demands.now k n last) one ∙ (λ i. job_run (get_or s.arrive.now (index i) 0) 0 s.begins.now (asked_at s.demands.now (index i)) last)
 
--- the fold is what all jobs before an index make
+-- the fold is what all jobs before an index make of the start
 pub fold-is : (s : ForkJoinStep) (n : ℕ) → fold_to jobs_act (replicate 8 0) (one_job s) n ≡ range_run s.arrive.now s.begins.now s.demands.now 0 n (replicate 8 0)
 fold-is s zero = refl
 fold-is s (suc n) =
@@ -70,7 +70,8 @@ begun-within : (b : Bool) (came time bound : ℕ) → came ≤ bound → time �
 begun-within true came time bound a h = a
 begun-within false came time bound a h = h
 
--- a job that comes no later than a bound, to servers that it finds no later either, leaves each no later than that and its demands
+-- if a job comes, and leaves the server before, no later than a bound, and finds the latest departures no later, then it leaves
+-- each server no later than the bound plus its demands
 within-run : (came : ℕ) (begins : List Bool) (demands last : List ℕ) (time bound : ℕ) → came ≤ bound → time ≤ bound → Each (λ d. d ≤ 2 ^ 36) demands → Each (λ t. t ≤ bound) last → Each (λ t. t ≤ bound + length demands * 2 ^ 36) (job_run came time begins demands last)
 within-run came [] demands last time bound a b d l = Each-weaker (λ t. t ≤ bound) (λ t. t ≤ bound + length demands * 2 ^ 36) (λ t h. omega arith) last l
 within-run came (begins ∷ more) [] last time bound a b d l = Each-weaker (λ t. t ≤ bound) (λ t. t ≤ bound + 0 * 2 ^ 36) (λ t h. omega arith) last l
@@ -84,7 +85,7 @@ within-run came (begins ∷ more) (demand ∷ demands) (left ∷ last) time boun
     let behind = within-run came more demands last done (bound + 2 ^ 36) (omega arith) here d.1 (Each-weaker (λ t. t ≤ bound) (λ t. t ≤ bound + 2 ^ 36) (λ t h. omega arith) last l.1) in
     (omega arith, Each-weaker (λ t. t ≤ (bound + 2 ^ 36) + length demands * 2 ^ 36) (λ t. t ≤ bound + suc (length demands) * 2 ^ 36) (λ t h. omega arith) (job_run came done more demands last) behind)
 
--- as many as before
+-- a run keeps the number of latest departures
 run-length : (came : ℕ) (begins : List Bool) (demands last : List ℕ) (time : ℕ) → length (job_run came time begins demands last) ≡ length last
 run-length came [] demands last time = refl
 run-length came (begins ∷ more) [] last time = refl
@@ -95,7 +96,7 @@ range-length : (arrive : List ℕ) (begins : List Bool) (demands : List (List �
 range-length arrive begins demands from zero last = refl
 range-length arrive begins demands from (suc n) last = run-length (get_or arrive (from + n) 0) begins (asked_at demands (from + n)) (range_run arrive begins demands from n last) 0 ∙ range-length arrive begins demands from n last
 
--- what a job asks for is in its limit
+-- a job's demands are within their limit
 asked-small : (arrive : List ℕ) (demands : List (List ℕ)) (at : ℕ) → at < length arrive → Each (λ column. IsSoundLoad arrive column) demands → Each (λ d. d ≤ 2 ^ 36) (asked_at demands at)
 asked-small arrive [] at l h = tt
 asked-small arrive (column ∷ demands) at l h = let each = h.0.each in (All-get_or (λ d. d ≤ 2 ^ 36) column at 0 (omega arith) h.0.small, asked-small arrive demands at l h.1)

@@ -21,7 +21,7 @@ pub record CanJoin (a b : Jobs) : Type 0 where
   pub first : a.from ≤ a.to
   pub second : b.from ≤ b.to
 
--- the jobs of a range may act: they are there, and all departures fit
+-- the jobs of a range may act: they exist, and all departures fit
 pub record CanServe (s : Jobs) (last : List ℕ) : Type 0 where
   pub order : s.from ≤ s.to
   pub inside : s.to ≤ length s.step.arrive.now

@@ -1,8 +1,8 @@
--- What a job leaves to the next in a fork-join: the latest departure from each server, branch after branch, 0 behind the last.
+-- What a job leaves to the next in a fork-join: the latest departure from each server, branch by branch, and 0 after the last.
 use Rattle.std.specs.Prelude.{◌+◌, ◌≡◌, ◌≤◌, ◌^◌, All, Bool, if◌then◌else◌, ℕ, zero, suc, List, [], ◌∷◌, length, map, max, slice_index}
 use Rattle.mq_core.specs.Sequences.{IsSoundLoad}
 
--- the departures of a job that comes at this time: of each server whether it is the first of its branch, the demand there, and the latest departure before it; the job left the server before at this time
+-- the departures of a job that comes at this time and left the server before at that time; for each server there is whether it begins a branch, the demand there, and the latest departure before it
 abbrev pub job_run : ℕ → ℕ → List Bool → List ℕ → List ℕ → List ℕ
 job_run came time [] demands last = last
 job_run came time (begins ∷ more) [] last = last
@@ -10,11 +10,11 @@ job_run came time (begins ∷ more) (demand ∷ demands) [] = []
 job_run came time (begins ∷ more) (demand ∷ demands) (left ∷ last) =
     let done = max (if begins then came else time) left + demand in done ∷ job_run came done more demands last
 
--- what the job at an index asks for at each server
+-- the demands of the job at an index, by server
 abbrev pub asked_at : List (List ℕ) → ℕ → List ℕ
 asked_at demands at = map (λ column. slice_index column at) demands
 
--- what so many jobs make of the latest departures, the first at this index
+-- what n jobs make of the latest departures, the first at this index
 abbrev pub range_run : List ℕ → List Bool → List (List ℕ) → ℕ → ℕ → List ℕ → List ℕ
 range_run arrive begins demands from zero last = last
 range_run arrive begins demands from (suc n) last =

@@ -1,4 +1,4 @@
--- The servers of a fork-join in one list, branch after branch, and that the carries of its scan hold its departures.
+-- The servers of a fork-join in one list, branch by branch; and the law that its scan's carries give its departures.
 use Rattle.std.specs.Prelude.{◌≡◌, ◌≤◌, ◌++◌, Bool, true, false, ℕ, List, [], ◌∷◌, fold, length, map, max, replicate}
 use Rattle.std.specs.List.{flat_map}
 use Rattle.mq_core.specs.Recurrences.{forkjoin_departs}
@@ -6,11 +6,11 @@ use Rattle.mq_forkjoin.specs.Fronts.{jobs_act, one_job}
 use Rattle.mq_forkjoin.specs.declared.step.ForkJoinStep.{ForkJoinStep}
 use Rattle.mq_scan.specs.Folds.{carries_after}
 
--- what the jobs ask for at each server, by branch, in one list
+-- the demands of the jobs at each server, by branch, in one list
 abbrev pub servers_of : List (List (List ℕ)) → List (List ℕ)
 servers_of branches = flat_map (λ branch. branch) branches
 
--- of each server of a branch, and of all, whether it is the first of its branch
+-- for each server of a branch, and of all branches, whether it is the first of its branch
 module _ {X : Type 0} where
   abbrev pub begins_in : List X → List Bool
   begins_in [] = []
@@ -20,7 +20,7 @@ module _ {X : Type 0} where
   begins_of [] = []
   begins_of (branch ∷ branches) = begins_in branch ++ begins_of branches
 
--- the carries of the scan of a fork-join of these branches, of which one has a server, are its departures
+-- in a fork-join with these branches, at least one server in all, the carries of its scan give its departures
 abbrev pub CarriesHoldDepartures : ForkJoinStep → Type 0
 CarriesHoldDepartures step =
     (branches : List (List (List ℕ))) → step.demands.now ≡ servers_of branches → step.begins.now ≡ begins_of branches → 1 ≤ length (servers_of branches) →

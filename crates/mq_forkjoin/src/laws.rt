@@ -3,7 +3,7 @@ ghost use Rattle.mq_forkjoin.specs.Servers.{CarriesHoldDepartures};
 
 use crate::step::ForkJoinStep;
 
-/// Law. The carries of the fold of a fork-join's jobs, of each the time, are its departures. It does nothing when it runs.
+/// Law: the times of the carries of the fold of a fork-join's jobs are its departures. It does nothing when it runs.
 pub fn carries_hold_departures(step: &ForkJoinStep)
     ensures { CarriesHoldDepartures step.now }
 {

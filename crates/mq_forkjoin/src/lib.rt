@@ -1,4 +1,4 @@
-//! The fork-join station: a job goes into every branch at once, and leaves when it is done in all.
+//! The fork-join station: a job enters every branch at once, and leaves when it has left all of them.
 #![tactic(auto)]
 
 ghost use Rattle.std.specs.Prelude.{◌≡◌, ◌^◌, ◌≤◌, All, length, IfOk};
@@ -19,14 +19,13 @@ pub use scan::Jobs;
 use std::alloc::Global;
 pub use step::ForkJoinStep;
 
-/// When each job leaves a fork-join: one departure a job, by position, in ticks. A job comes to
-/// every branch at once, goes through the servers of each one after the other, and leaves when it
-/// has gone through all branches. Each server serves the jobs one by one in the order of the stream
-/// (Lindley's recurrence).
+/// Returns when each job leaves a fork-join: one departure per job, by position, in ticks. A job enters
+/// every branch at once, passes the servers of each one after another, and leaves when it has left all
+/// branches. Each server serves the jobs one by one in the order of the stream (Lindley's recurrence).
 ///
-/// There is one list of demands a server, branch after branch, with one demand a job, in ticks of
-/// service. `branches` says how many servers each branch has: there is at least one branch, each
-/// has at least one server, and they have at most 8 in all. It refuses for want of memory alone.
+/// There is one list of demands per server, branch by branch, with one demand per job, in ticks of
+/// service. `branches` gives the number of servers of each branch: there is at least one branch, each
+/// has at least one server, and they have at most 8 in all. The only error is that memory runs out.
 pub fn fork_departures(
     alloc: Global,
     stream: &Stream,
@@ -38,7 +37,7 @@ pub fn fork_departures(
     ensures { IfOk result (λ departs. departs ≡ forkjoin_departs stream.now.time (branches_of branches.now demands.now)) }
 {
     let mut departs = copy_of(alloc, &stream.time)?;
-    // From the last branch to the first, as the greatest of all is the later of one and the rest.
+    // From the last branch to the first: the greatest of all is the later of one and the rest.
     let (mut branch, mut end) = (branches.len(), demands.len());
     while branch > 0 {
         branch -= 1;
@@ -50,7 +49,7 @@ pub fn fork_departures(
     Ok(departs)
 }
 
-// When each job leaves a branch of these servers, to which it comes at these times.
+// When each job leaves a branch with these servers, to which it comes at these times.
 fn branch_departures(
     alloc: Global,
     arrive: &List<u64>,
@@ -68,8 +67,8 @@ fn branch_departures(
     Ok(departs)
 }
 
-/// Index by index the later of two times, in ticks. The lists are of one length. It refuses for want of
-/// memory alone.
+/// Returns the later of two times, in ticks, index by index. The lists must have the same length. The
+/// only error is that memory runs out.
 pub fn later_times(
     alloc: Global,
     one: &List<u64>,
@@ -85,7 +84,7 @@ pub fn later_times(
     Ok(List::from_vec(later))
 }
 
-/// The same times once more, in ticks. It refuses for want of memory alone.
+/// Returns a copy of these times, in ticks. The only error is that memory runs out.
 pub fn copy_of(alloc: Global, times: &List<u64>) -> Result<List<u64>, OutOfMemory>
     ensures { IfOk result (λ copy. copy ≡ times.now) }
 {

@@ -6,7 +6,7 @@ ghost use Rattle.mq_forkjoin.specs.Bounds.{acts as acts_law, joins as joins_law,
 use crate::step::ForkJoinStep;
 use mq_scan::{Step, Timed};
 
-/// Neighbouring jobs of a fork-join, from one index up to another. What they do together isn't worked out before they act.
+/// Neighbouring jobs of a fork-join, from one index up to another. What they do together isn't computed before they act.
 #[derive(Clone, Copy)]
 pub struct Jobs<'a> {
     pub step: ForkJoinStep<'a>,
@@ -85,7 +85,7 @@ impl<'a> Timed for ForkJoinStep<'a> {
 
     ghost can_time = { λ s carry. Unit {0} };
 
-    // A job has gone through all servers, and leaves when it has left the last of each branch: the greatest of all.
+    // A job leaves when it has left the last server of each branch, which is the greatest of all its departures.
     fn time(&self, carry: &[u64; 8]) -> u64 {
         let mut latest = 0u64;
         for time in carry {

@@ -6,21 +6,21 @@ use mq_asked::Asked;
 use mq_base::List;
 use mq_core::Stream;
 
-/// The jobs of a fork-join, which act on the latest departure from each of its servers, branch after branch: before the
+/// The jobs of a fork-join, which act on the latest departure from each of its servers, branch by branch: before the
 /// first job each is 0.
 #[derive(Clone, Copy)]
 pub struct ForkJoinStep<'a> {
-    /// When the jobs come, by position, in ticks.
+    /// The arrival times, by position, in ticks.
     pub arrive: &'a List<u64>,
-    /// What they need at each server, branch after branch, by position, in ticks of service.
+    /// The demands at each server, branch by branch, by position, in ticks of service.
     pub demands: &'a List<Asked<'a>>,
-    /// Of each server, 8 at most, whether it is the first of its branch.
+    /// For each server, at most 8, whether it is the first of its branch.
     pub begins: &'a List<bool>,
     ghost load: { IsForkJoinLoad arrive.now begins.now demands.now },
 }
 
 impl<'a> ForkJoinStep<'a> {
-    /// The jobs of a stream. It takes no memory.
+    /// Returns the jobs of a stream. Takes no memory.
     pub fn new(
         stream: &'a Stream,
         demands: &'a List<Asked<'a>>,
@@ -38,7 +38,7 @@ impl<'a> ForkJoinStep<'a> {
         }
     }
 
-    /// Lets the job at an index go through all branches.
+    /// Lets the job at an index pass all branches, and updates the latest departures.
     pub fn serve(&self, last: &mut [u64; 8], at: usize)
         requires inside { at < length self.now.arrive.now }
         requires fits { All (λ time. time < 2 ^ 64) (job_run (slice_index self.now.arrive.now at) 0 self.now.begins.now (asked_at self.now.demands.now at) last.old) }

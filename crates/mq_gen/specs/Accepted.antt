@@ -1,4 +1,4 @@
--- The made input of each number is accepted, and its run isn't refused.
+-- The made input of each number is valid, and its run isn't refused.
 use Rattle.std.specs.Prelude.{◌≡◌, ◌<◌, ◌^◌, ℕ, List, None}
 use Rattle.mq_core.specs.NetworkRun.{refusal_in}
 use Rattle.mq_gen.specs.Made.{made_model, made_trace}
@@ -6,7 +6,7 @@ use Rattle.mq_model.specs.Model.{model_fault}
 use Rattle.mq_model.specs.NetworkOf.{network_in}
 use Rattle.mq_trace.specs.Trace.{rows_in, trace_fault}
 
--- the two texts have no fault, and a run over them has no departure past the bound and no node with too many visits
+-- the two texts are valid, and in their run no visit departs after the bound and no node has too many visits
 pub record IsAccepted (model_text trace_text : List ℕ) : Type 0 where
   pub model : model_fault model_text ≡ None
   pub trace : trace_fault (network_in model_text) trace_text ≡ None

@@ -1,4 +1,5 @@
--- What the code has of drawn sections.
+-- The sections as the code has them, which
+-- keeps the generator apart.
 use Rattle.rand_pcg.specs.Lcg.{Lcg}
 use Rattle.mq_gen.specs.Made as made
 use Rattle.mq_gen.specs.declared.model.Sections.{Sections}

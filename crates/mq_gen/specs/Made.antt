@@ -45,7 +45,7 @@ column_b = codes "b"
 abbrev pub stage_said : ℕ → SaidDemand → SaidStage
 stage_said places demand = record { places = places; demand = demand }
 
--- what the line of a section says behind its name, by its draw, with these places where it has any
+-- what the line of a section says after its name, from its draw, with this number of places if it has any
 abbrev pub said_by : ℕ → ℕ → SaidKind
 said_by places drawn =
     let a = Column column_a in
@@ -57,15 +57,15 @@ said_by places drawn =
     else if drawn == 4 then ForkJoin ((a ∷ []) ∷ (b ∷ b ∷ []) ∷ [])
     else Split (Turn 2)
 
--- the columns that a section mentions, in order, by its draw
+-- the columns that a section names, in order, from its draw
 abbrev pub mentions_of : ℕ → List Word
 mentions_of drawn = mentions_of_kind (said_by 0 drawn)
 
--- the kind of a section by its draw, over these columns, with these places where it has any
+-- the kind of a section from its draw, over these columns, with this number of places if it has any
 abbrev pub kind_by : List Word → ℕ → ℕ → Kind
 kind_by columns places drawn = kind_in columns (said_by places drawn)
 
--- the places of a section: a loss station and a tandem draw 1 to 4, and the others draw nothing
+-- the number of places of a section: a loss station and a tandem draw 1 to 4, the others draw nothing
 abbrev pub places_by : ℕ → Lcg → ℕ × Lcg
 places_by drawn generator =
     if (drawn == 2) || (drawn == 3) then ((draw 4 generator).0 + 1, (draw 4 generator).1) else (0, generator)
@@ -76,7 +76,7 @@ outputs_from node kind =
     if outputs_in kind == 2 then record { node = node; out = 0 } ∷ record { node = node; out = 1 } ∷ []
     else record { node = node; out = 0 } ∷ []
 
--- the nodes so far, the columns that they mention, the outputs that the next section reads, and the generator
+-- the nodes so far, the columns that they name, the outputs that the next section reads, and the generator
 pub record Sections : Type 0 where
   pub nodes : List Node
   pub columns : List (List ℕ)
@@ -97,7 +97,7 @@ no_sections generator =
       generator = generator;
     }
 
--- one section more, which reads each output of the section before it
+-- another section, which reads each output of the section before it
 abbrev pub next_section : Sections → Sections
 next_section s =
     let drawn = draw 6 s.generator in
@@ -125,7 +125,7 @@ sections_from generator =
 abbrev pub sections_of : ℕ → Sections
 sections_of number = sections_from (generator_of number)
 
--- the network of these sections, in the first version of the models' language
+-- the network of these sections, in version 1 of the model language
 abbrev pub network_from : Sections → Network
 network_from s = record { nodes = s.nodes; columns = s.columns; bound = 2 ^ 60; version = 1 }
 
@@ -153,7 +153,7 @@ next_record last generator =
     let b = draw 6 a.1 in
     (record { source = source.0; time = last + step.0; a = a.0; b = b.0 }, b.1)
 
--- so many records after this time
+-- `count` records after this time
 unfoldable pub records_after : ℕ → ℕ → Lcg → List Drawn
 records_after zero last generator = []
 records_after (suc count) last generator =
@@ -178,7 +178,7 @@ header_fields = codes "source" ∷ codes "time" ∷ column_a ∷ column_b ∷ []
 abbrev pub fields_of : Drawn → List (List ℕ)
 fields_of r = source_name r.source ∷ decimal r.time ∷ decimal r.a ∷ decimal r.b ∷ []
 
--- the fields with a comma between each two, and a line feed
+-- the fields with a comma between each two, and a line feed at the end
 abbrev pub record_text : List (List ℕ) → List ℕ
 record_text fields = join_with_byte 44 fields ++ 10 ∷ []
 

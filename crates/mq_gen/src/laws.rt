@@ -1,4 +1,4 @@
-// What holds of the definitions.
+// What holds for made inputs.
 ghost use Rattle.mq_gen.specs.Accepted.{MadeInputsAreAccepted};
 
 use mq_core::{departures_are_bounded, first_version_copies_nothing};
@@ -6,7 +6,8 @@ use mq_graph::cycles_are_left;
 use mq_model::printed_models_are_read;
 use mq_trace::traces_are_read;
 
-/// The model and the trace of each number have no fault, and their run isn't refused.
+/// Proves that the model and the trace of each number are valid, and that their run
+/// isn't refused.
 pub fn made_inputs_are_accepted()
     ensures { MadeInputsAreAccepted }
 {

@@ -1,10 +1,10 @@
-//! Made inputs: for each number a model and a trace, always the same, which are accepted.
+//! Made inputs: for each number a valid model and a valid trace for it, always the same.
 //!
-//! One generator (PCG32, on stream 1, from the number) draws both: first the model of two sources
-//! and 1 to 12 other nodes, then 20,000 to 40,000 records.
+//! One generator (PCG32, on stream 1, from the number) draws both: first the model, with two sources and 1 to 12 other nodes, then
+//! 20,000 to 40,000 records.
 #![tactic(auto)]
 
-// Where a call of `drop` lets go of what is left, that spares proof: a call is proved once for a type, the end of a scope anew at each exit.
+// Calls of `drop` spare proof: a call is proved once for a type, but what the end of a scope drops is proved again at each exit.
 
 mod draws;
 mod laws;
@@ -30,7 +30,7 @@ pub struct MadeInput {
     pub trace: List<u8>,
 }
 
-// The text of the model that a generator draws, which is left after its last draw.
+// Returns the text of the model that a generator draws, and leaves the generator after its last draw.
 fn made_text(alloc: Global, generator: &mut Lcg64Xsh32) -> Result<List<u8>, OutOfMemory>
     ensures text { IfOk result (λ text. text ≡ printed (network_from (sections_from generator.old))) }
     ensures moved { OnOk result (generator.new ≡ (sections_from generator.old).generator) }
@@ -41,7 +41,7 @@ fn made_text(alloc: Global, generator: &mut Lcg64Xsh32) -> Result<List<u8>, OutO
     text
 }
 
-/// The made input of a number. It refuses for want of memory alone.
+/// Returns the made input of a number. The only error is out of memory.
 pub fn made(alloc: Global, number: u64) -> Result<MadeInput, OutOfMemory>
     ensures model { IfOk result (λ input. input.model ≡ made_model number) }
     ensures trace { IfOk result (λ input. input.trace ≡ made_trace number) }

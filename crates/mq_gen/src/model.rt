@@ -16,7 +16,7 @@ use rand_pcg::Lcg64Xsh32;
 use std::alloc::Global;
 use std::mem;
 
-// The nodes so far, the columns that they mention, and the outputs that the next section reads.
+// The nodes so far, the columns that they name, and the outputs that the next section reads.
 #[derive(Drop)]
 struct Sections {
     nodes: List<Node>,
@@ -24,7 +24,7 @@ struct Sections {
     ends: List<Input>,
 }
 
-// A letter and a number.
+// Returns a letter and a number as a name.
 fn numbered(alloc: Global, letter: u8, number: usize) -> Result<List<u8>, OutOfMemory>
     ensures { IfOk result (λ name. name ≡ letter ∷ decimal number) }
 {
@@ -34,7 +34,7 @@ fn numbered(alloc: Global, letter: u8, number: usize) -> Result<List<u8>, OutOfM
     Ok(List::from_vec(name))
 }
 
-// Adds a source, and its output, which the first section reads.
+// Adds a source, and its output to those that the first section reads.
 fn add_source(alloc: Global, sections: &mut Sections, node: u32) -> Result<(), OutOfMemory>
     ensures nodes { OnOk result (sections.new.nodes ≡ sections.old.nodes ++ source_node node ∷ []) }
     ensures columns { OnOk result (sections.new.columns ≡ sections.old.columns) }
@@ -49,7 +49,7 @@ fn add_source(alloc: Global, sections: &mut Sections, node: u32) -> Result<(), O
     sections.ends.push(Input { node, out: 0 })
 }
 
-// Adds two sources to no sections, and their outputs, which the first section reads.
+// Adds two sources to empty sections, and their outputs to those that the first section reads.
 fn add_sources(alloc: Global, sections: &mut Sections) -> Result<(), OutOfMemory>
     requires nodes { sections.old.nodes ≡ [] }
     requires columns { sections.old.columns ≡ [] }
@@ -60,7 +60,7 @@ fn add_sources(alloc: Global, sections: &mut Sections) -> Result<(), OutOfMemory
     add_source(alloc, sections, 1)
 }
 
-// The index of a column, or the number of columns.
+// Returns the index of a column, or the number of columns if it isn't among them.
 fn column_of(columns: &[List<u8>], name: &[u8]) -> usize
     ensures at { result ≡ number_in columns.now name.now }
     ensures within { result ≤ length columns.now }
@@ -77,7 +77,7 @@ fn column_of(columns: &[List<u8>], name: &[u8]) -> usize
     index
 }
 
-// Adds a column where it isn't there.
+// Adds a column unless it is there already.
 #[tactic(auto, using(crate::proofs::Columns::added_behind, crate::proofs::Columns::added_among))]
 fn mention(alloc: Global, columns: &mut List<List<u8>>, name: &[u8]) -> Result<(), OutOfMemory>
     ensures ok { OnOk result (columns.new ≡ added columns.old name.now) }
@@ -89,7 +89,7 @@ fn mention(alloc: Global, columns: &mut List<List<u8>>, name: &[u8]) -> Result<(
     Ok(())
 }
 
-// Adds the columns that a section of this draw mentions.
+// Adds the columns that a section with this draw names.
 fn mention_all(alloc: Global, columns: &mut List<List<u8>>, drawn: u32) -> Result<(), OutOfMemory>
     ensures ok { OnOk result (columns.new ≡ columns_after columns.old (mentions_of drawn)) }
     ensures few { OnOk result (length columns.new ≤ length columns.old + 2) }
@@ -105,7 +105,7 @@ fn mention_all(alloc: Global, columns: &mut List<List<u8>>, drawn: u32) -> Resul
     }
 }
 
-// A job's value in the column of this name.
+// Returns the demand that is a job's value in the column of this name.
 fn demand_in(columns: &[List<u8>], name: &[u8]) -> Demand
     requires { length columns.now ≤ 16 }
     ensures { result ≡ Demand.Column (number_in columns.now name.now) }
@@ -113,7 +113,7 @@ fn demand_in(columns: &[List<u8>], name: &[u8]) -> Demand
     Demand::Column(column_of(columns, name) as u8)
 }
 
-// Two stages, of which the second has these places.
+// Returns two stages, the second with this number of places.
 fn stages(
     alloc: Global,
     first: Demand,
@@ -135,7 +135,7 @@ fn stages(
     Ok(List::from_vec(Vec::from_slice(alloc, &all)?))
 }
 
-// A branch of one server, and one of two.
+// Returns a branch of one server and a branch of two.
 fn branches(
     alloc: Global,
     single: Demand,
@@ -149,7 +149,8 @@ fn branches(
     Ok(List::from_vec(all))
 }
 
-// The kind of a section by its draw, over these columns, with these places where it has any.
+// Returns the kind of a section from its draw, over these columns, with this number of places if
+// it has any.
 fn kind_by(
     alloc: Global,
     columns: &[List<u8>],
@@ -172,7 +173,8 @@ fn kind_by(
     }
 }
 
-// The places of a section: a loss station and a tandem draw 1 to 4, and the others draw nothing.
+// Returns the number of places of a section: a loss station and a tandem draw 1 to 4, the others
+// draw nothing.
 fn places_by(drawn: u32, generator: &mut Lcg64Xsh32) -> u32
     ensures drawn { result ≡ (places_by drawn generator.old).0 }
     ensures moved { generator.new ≡ (places_by drawn generator.old).1 }
@@ -184,7 +186,7 @@ fn places_by(drawn: u32, generator: &mut Lcg64Xsh32) -> u32
     }
 }
 
-// The outputs of a node, one or two.
+// Returns the outputs of a node, one or two.
 fn outputs_from(alloc: Global, node: u32, kind: &Kind) -> Result<List<Input>, OutOfMemory>
     requires { outputs_in kind.now ≤ 8 }
     ensures { IfOk result (λ ends. ends ≡ outputs_from node kind.now) }
@@ -222,7 +224,7 @@ fn add_section(
     sections.nodes.push(Node { name, kind, inputs })
 }
 
-// Adds all sections that a generator draws, 1 to 12, to none.
+// Adds the 1 to 12 sections that a generator draws to empty sections.
 fn add_sections(
     alloc: Global,
     sections: &mut Sections,
@@ -241,7 +243,8 @@ fn add_sections(
     Ok(())
 }
 
-/// The plan of the network that a generator draws. The generator is left after its last draw.
+/// Returns the plan of the network that a generator draws, and leaves the generator after its
+/// last draw.
 pub(crate) fn made_plan(alloc: Global, generator: &mut Lcg64Xsh32) -> Result<Plan, OutOfMemory>
     ensures net { IfOk result (λ plan. plan.net ≡ network_from (sections_from generator.old)) }
     ensures moved { OnOk result (generator.new ≡ (sections_from generator.old).generator) }

@@ -8,7 +8,7 @@ use mq_base::{List, OutOfMemory};
 use rand_pcg::Lcg64Xsh32;
 use std::alloc::Global;
 
-// Adds a number and what ends its field.
+// Adds a number and the byte that ends its field.
 fn push_field(text: &mut Vec<u8>, number: u32, end: u8) -> Result<(), OutOfMemory>
     ensures { OnOk result (text.new.items ≡ text.old.items ++ decimal number ++ end ∷ []) }
 {
@@ -17,7 +17,7 @@ fn push_field(text: &mut Vec<u8>, number: u32, end: u8) -> Result<(), OutOfMemor
     Ok(())
 }
 
-// Draws the next record after a time and adds it. The answer is its time.
+// Draws the next record after a time, adds it, and returns its time.
 fn push_record(
     text: &mut Vec<u8>,
     generator: &mut Lcg64Xsh32,
@@ -41,7 +41,8 @@ fn push_record(
     Ok(time)
 }
 
-/// The text of 20,000 to 40,000 records that the generator draws, after their header.
+/// Returns the text of the 20,000 to 40,000 records that the generator draws, after
+/// their header.
 pub(crate) fn made_records(
     alloc: Global,
     generator: &mut Lcg64Xsh32,

@@ -1,6 +1,6 @@
 ghost use Rattle.mq_graph.specs.Cycle.{CyclesAreLeft};
 
-/// The ranking leaves a node exactly where the inputs hold a cycle.
+/// Law. The ranking leaves a node out exactly if the inputs contain a cycle.
 pub fn cycles_are_left()
     ensures { CyclesAreLeft }
 {}

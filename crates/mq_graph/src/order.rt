@@ -11,8 +11,8 @@ use std::alloc::Global;
 /// Why a network has no order.
 #[derive(Clone, Copy, PartialEq, Eq)]
 pub enum RankFault {
-    /// The inputs hold a cycle. The node is the first declared one that the ranking leaves: it
-    /// stands on a cycle or behind one.
+    /// The inputs contain a cycle. The node is the first declared one that the ranking leaves out: it
+    /// is on a cycle or downstream of one.
     Cycle { node: u32 },
     /// Memory ran out.
     Memory,
@@ -46,7 +46,7 @@ fn is_ready(node: &Node, order: &[u32]) -> bool
         .all(|input| is_ranked(order, input.node))
 }
 
-// The first declared node that isn't ranked yet and all of whose inputs are.
+// The first declared node that isn't ranked yet and whose inputs all are.
 #[tactic(auto, using(crate::proofs::RankSteps::ready_here, crate::proofs::RankSteps::ready_later, crate::proofs::RankSteps::none_ready))]
 fn first_ready(nodes: &[Node], order: &[u32]) -> Option<u32>
     requires { length nodes.now ≤ 64 }
@@ -67,11 +67,12 @@ fn first_outside(order: &[u32], count: u32) -> Option<u32>
     (0..count).find(|node| !is_ranked(order, *node))
 }
 
-/// The nodes by rank: again and again the first declared node that isn't ranked yet and all of
-/// whose inputs are gets the next rank.
+/// Returns the nodes by rank: the next rank always goes to the first declared node that isn't ranked
+/// yet and whose inputs all are.
 ///
-/// `Cycle` comes exactly where this stops before all nodes are ranked, which is where the inputs hold
-/// a cycle, and names the first declared node that is left.
+/// The network has at most 64 nodes, and each input names one of them. Returns `Cycle`, with the
+/// first declared node left out, exactly if this stops before all nodes are ranked. That happens
+/// exactly if the inputs contain a cycle. Returns `Memory` if memory runs out.
 pub fn rank(alloc: Global, net: &Network) -> Result<List<u32>, RankFault>
     requires few { length net.now.nodes ≤ 64 }
     requires wired { AreWired net.now.nodes }

@@ -1,4 +1,4 @@
--- That times rise is one fact.
+-- `Rises` of times is a proposition: any two of its proofs are equal.
 use Rattle.std.specs.Coded.{Unit-prop, le_prop, ×_prop}
 use Rattle.std.specs.List.{AllByRecursion-prop}
 use Rattle.std.specs.Prelude.{List, [], ◌∷◌, ℕ, ◌≤◌}

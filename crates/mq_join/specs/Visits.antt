@@ -1,4 +1,4 @@
--- What a join gives.
+-- The result of a join.
 use Rattle.std.specs.Prelude.{◌≡◌}
 use Rattle.mq_core.specs.Came.{Came}
 use Rattle.mq_core.specs.Sequences.{sequence_stream, sequence_visits}

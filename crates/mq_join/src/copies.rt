@@ -1,4 +1,4 @@
-// Streams with the items of another.
+// Copies of streams.
 ghost use Rattle.std.specs.Prelude.{◌≡◌, IfOk, replicate};
 ghost use Rattle.mq_core.specs.Came.{came_in};
 ghost use Rattle.mq_join.specs.Copies.{AreForked};
@@ -7,7 +7,7 @@ use mq_base::{List, OutOfMemory};
 use mq_core::Stream;
 use std::alloc::Global;
 
-// The stream of these jobs and a copy of these times.
+// A stream of these jobs and a copy of these times.
 pub fn with_times(alloc: Global, job: List<u32>, times: &List<u64>) -> Result<Stream, OutOfMemory>
     ensures job { IfOk result (λ stream. stream.job ≡ job) }
     ensures time { IfOk result (λ stream. stream.time ≡ times.now) }
@@ -16,7 +16,7 @@ pub fn with_times(alloc: Global, job: List<u32>, times: &List<u64>) -> Result<St
     Ok(Stream { job, time })
 }
 
-// A stream with the same items.
+// A copy of a stream.
 pub fn copy_of(alloc: Global, stream: &Stream) -> Result<Stream, OutOfMemory>
     ensures { IfOk result (λ copy. copy ≡ stream.now) }
 {
@@ -24,8 +24,8 @@ pub fn copy_of(alloc: Global, stream: &Stream) -> Result<Stream, OutOfMemory>
     with_times(alloc, job, &stream.time)
 }
 
-/// The streams that leave a fork to which this stream comes: one an output, each with all items of the
-/// stream, in their order. It refuses for want of memory alone.
+/// Returns the streams that leave a fork to which this stream comes: one per output, each with all
+/// items of the stream, in their order. The only error is that memory runs out.
 pub fn fork_copies(alloc: Global, stream: &Stream, outputs: u8) -> Result<List<Stream>, OutOfMemory>
     ensures copies { IfOk result (λ streams. streams ≡ replicate outputs stream.now) }
     ensures leaving { IfOk result (λ streams. AreForked (came_in stream.now) outputs streams) }

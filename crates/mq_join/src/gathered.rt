@@ -1,4 +1,4 @@
-// What comes to a join by its ports, gathered port after port.
+// What comes to a join by its ports, gathered port by port.
 ghost use Rattle.std.specs.Prelude.{◌≡◌, ◌+◌, ◌<◌, ◌≤◌, [], length, OnOk, OnErr};
 ghost use Rattle.mq_core.specs.Laws.{Rises};
 ghost use Rattle.mq_core.specs.Sequences.{IsStream};
@@ -10,18 +10,18 @@ use mq_base::{List, OutOfMemory};
 use mq_core::Stream;
 use std::alloc::Global;
 
-/// What comes to a join by its ports, by time; of one time the items of an earlier port come first,
-/// and those of one port in their order.
+/// What comes to a join by its ports, in order of time. For equal times the items of an earlier port
+/// come first, and those of one port keep their order.
 ///
-/// The type keeps that the stream's times never fall, and that there is a port for each of its items,
-/// of which there are at most 1,048,576.
+/// The type guarantees that the stream's times never fall, and that each of its items, at most
+/// 1,048,576, has a port.
 #[derive(Drop)]
 pub struct Gathered {
     /// The job of each item, and its time in ticks.
     pub stream: Stream,
     /// The port of each item, from 0, below the number of ports.
     pub port: List<u8>,
-    /// How many ports there are, at most 8.
+    /// The number of ports, at most 8.
     pub ports: u8,
     ghost jobs: { length stream.job ≡ length port },
     ghost times: { length stream.time ≡ length port },
@@ -34,7 +34,7 @@ pub struct Gathered {
 impl Gathered {
     ghost use Rattle.mq_join.specs.Gathers.{AddsPort, arrivals_of};
 
-    /// What comes by no port, which is nothing. It takes no memory.
+    /// Returns the arrivals at a join without ports: none. Takes no memory.
     pub fn new(alloc: Global) -> Self
         ensures ports { result.ports ≡ 0 }
         ensures items { result.port ≡ [] }
@@ -50,9 +50,9 @@ impl Gathered {
         }
     }
 
-    /// Adds a port, by which this stream comes: its items are put among the others by time, behind those
-    /// of the same time. There are fewer than 8 ports so far, and at most 1,048,576 items together. It
-    /// refuses for want of memory alone, and then nothing is added.
+    /// Adds a port, by which this stream comes: its items are sorted in by time, after those of the same
+    /// time. There must be fewer than 8 ports so far, and at most 1,048,576 items in all. The only error
+    /// is that memory runs out; then nothing is added.
     pub fn add(&mut self, alloc: Global, stream: &Stream) -> Result<(), OutOfMemory>
         requires stream { IsStream stream.now }
         requires free { self.old.ports < 8 }

@@ -1,7 +1,7 @@
-//! Forks and joins of a network: the copies of a stream, and what comes by several ports put together.
+//! Forks and joins of a network: the copies of a stream, and the matches of what comes by several ports.
 #![tactic(auto)]
 
-// Where a call of `drop` lets go of what is left, that spares proof: a call is proved once for a type, the end of a scope anew at each exit.
+// A call of `drop` before an exit shortens the proof: the call is proved once per type, but the end of a scope is proved again at each exit.
 
 mod copies;
 mod gathered;

@@ -1,4 +1,4 @@
-// Where the match of each item is whole: the items of a job with the same index, one at each port.
+// Where the match of each item is whole: the items of a job with the same index, one from each port.
 ghost use Rattle.std.specs.Prelude.{◌≡◌, ◌+◌, ◌<◌, ◌≤◌, ℕ, ◌++◌, List, [], ◌∷◌, IfOk, OnOk, count_by, length, nat_lt, replicate, slice_get, slice_index, take};
 ghost use Rattle.std.specs.List.{list_all};
 ghost use Rattle.mq_core.specs.Kinds.Join.{is_item, matches_of as matches_in};
@@ -11,7 +11,7 @@ use mq_base::{List, OutOfMemory};
 use smallvec::SmallVec;
 use std::alloc::Global;
 
-// What came of a job so far: how many items by each port, and where its matches are whole, in turn. Most
+// The items of a job so far: their number by port, and where its matches became whole, in turn. Most
 // jobs have one match, which takes no allocation.
 #[derive(Drop)]
 struct Row {
@@ -41,7 +41,7 @@ impl Row {
             .all(|count| matched < *count as usize)
     }
 
-    // Takes an item at this position, by a port: how many came by it before.
+    // Takes the item at this position, by a port. Returns how many items of the job came by it before.
     fn take(&mut self, ports: u8, port: u8, at: u32) -> Result<u32, OutOfMemory>
         requires ports { ports ≤ 8 }
         requires port { port < ports }
@@ -56,7 +56,7 @@ impl Row {
         Ok(index)
     }
 
-    // Where the match of this index is whole, if it is.
+    // The position at which the match with this index is whole, if it is.
     fn place(&self, index: u32) -> Option<u32>
         ensures { result ≡ slice_get self.now.places.items index }
     {
@@ -64,7 +64,7 @@ impl Row {
     }
 }
 
-// One more than the greatest of these jobs, or 0.
+// One more than the greatest of these jobs, or 0 if there are none.
 fn jobs_in(jobs: &List<u32>) -> usize
     ensures { AreBelow result jobs.now }
 {
@@ -75,7 +75,7 @@ fn jobs_in(jobs: &List<u32>) -> usize
     count
 }
 
-// So many rows of which nothing came.
+// `count` rows without items.
 fn new_rows(alloc: Global, count: usize) -> Result<Vec<Row>, OutOfMemory>
     ensures many { IfOk result (λ rows. length rows.items ≡ count) }
     ensures fresh { IfOk result (λ rows. AreFresh rows.items) }
@@ -87,7 +87,8 @@ fn new_rows(alloc: Global, count: usize) -> Result<Vec<Row>, OutOfMemory>
     Ok(rows)
 }
 
-// Takes all items into the rows of their jobs: how many of the same job and port stand before each.
+// Counts all items in the rows of their jobs. Returns for each item how many of the same job and port
+// come before it.
 fn count_items(
     alloc: Global,
     gathered: &Gathered,
@@ -106,7 +107,7 @@ fn count_items(
     Ok(indices)
 }
 
-// Where the match of each item is whole, by what was counted.
+// Where the match of each item is whole, given the counts.
 fn places_of(
     alloc: Global,
     gathered: &Gathered,
@@ -126,7 +127,7 @@ fn places_of(
     Ok(List::from_vec(matches))
 }
 
-// Where the match of each item is whole, if it is: the position of its last item.
+// Returns for each item where its match is whole, if it is: the position of the match's last item.
 pub fn matches_of(alloc: Global, gathered: &Gathered) -> Result<List<Option<u32>>, OutOfMemory>
     ensures matches { IfOk result (λ matches. matches ≡ matches_in (came_to gathered.now)) }
     ensures many { IfOk result (λ matches. length matches ≡ length gathered.now.port) }

@@ -1,4 +1,4 @@
-// The items of two lists put one behind the other: their indices by time, and what stands at indices.
+// Two lists, one after the other: the indices of their items by time, and the items at indices.
 ghost use Rattle.std.specs.Prelude.{◌≡◌, ◌+◌, ◌<◌, ◌≤◌, ◌++◌, IfOk, length, map, slice_index};
 ghost use Rattle.std.specs.List.{range_with_len, zip};
 ghost use Rattle.mq_core.specs.Laws.{Rises};
@@ -13,7 +13,7 @@ use mq_core::Stream;
 use mq_merge::merge_two;
 use std::alloc::Global;
 
-// So many indices, from this one on.
+// `count` indices, from `first` on.
 fn indices_from(alloc: Global, first: usize, count: usize) -> Result<List<u32>, OutOfMemory>
     requires { first + count ≤ 1048576 }
     ensures { IfOk result (λ indices. indices ≡ range_with_len first count) }
@@ -25,7 +25,7 @@ fn indices_from(alloc: Global, first: usize, count: usize) -> Result<List<u32>, 
     Ok(List::from_vec(indices))
 }
 
-// The stream of these times, in which each item has its index, from this one on, in place of a job.
+// The stream of these times, with the index of each item, from `first` on, in place of a job.
 fn numbered(alloc: Global, times: &List<u64>, first: usize) -> Result<Stream, OutOfMemory>
     requires { first + length times.now ≤ 1048576 }
     ensures job { IfOk result (λ stream. stream.job ≡ range_with_len first (length times.now)) }
@@ -35,8 +35,8 @@ fn numbered(alloc: Global, times: &List<u64>, first: usize) -> Result<Stream, Ou
     with_times(alloc, job, times)
 }
 
-// The indices of the items of two lists, of which those of the second stand behind those of the first, by
-// these times; those of one time in their order.
+// Returns the indices of the items of two lists, one list after the other, sorted by these times; those
+// with equal times keep their order.
 pub fn indices_by_time(
     alloc: Global,
     first: &List<u64>,
@@ -61,7 +61,7 @@ pub fn indices_by_time(
     order
 }
 
-// The job at an index of two lists, one behind the other.
+// The job at an index of two lists, one after the other.
 fn job_of(first: &List<u32>, second: &List<u32>, index: usize) -> u32
     requires { index < length first.now + length second.now }
     ensures { result ≡ slice_index (first.now ++ second.now) index }
@@ -90,7 +90,7 @@ pub fn jobs_at(
     Ok(List::from_vec(jobs))
 }
 
-// The port of the item at an index, where all items behind these have come by a further one.
+// The port of the item at an index, if all items after those in `first` come by a further port.
 fn port_of(first: &List<u8>, further: u8, index: usize) -> u8
     ensures { result ≡ port_at first.now further index }
 {

@@ -17,16 +17,16 @@ use mq_base::{List, OutOfMemory};
 use mq_core::{Fate, Fates, Stream, Visits};
 use std::alloc::Global;
 
-/// What a join gives for what comes to it.
+/// The result of a join.
 #[derive(Drop)]
 pub struct Joined {
-    /// The visits, one an item.
+    /// The visits, one per item.
     pub visits: Visits,
-    /// What leaves: one item for each match, when its last item comes.
+    /// What leaves: one item per match, when its last item comes.
     pub leaving: Stream,
 }
 
-// How a visit fares: it departs when its match is whole, or is held.
+// The fate of a visit: it departs when its match is whole, or is held.
 fn fate_of(arrive: &List<u64>, place: Option<u32>) -> Fate
     requires { ForSome place (λ at. at < length arrive.now) }
     ensures { result ≡ fate_by_match arrive.now place }
@@ -37,7 +37,7 @@ fn fate_of(arrive: &List<u64>, place: Option<u32>) -> Fate
     }
 }
 
-// How each visit fares.
+// The fate of each visit.
 fn fates_of(
     alloc: Global,
     arrive: &List<u64>,
@@ -68,7 +68,7 @@ fn count_closings(closings: &mut [u32], matches: &List<Option<u32>>)
     }
 }
 
-// How many visits leave with each.
+// How many visits leave at each position.
 fn closings_of(alloc: Global, matches: &List<Option<u32>>) -> Result<Vec<u32>, OutOfMemory>
     requires behind { AreBehind matches.now }
     requires few { length matches.now ≤ 1048576 }
@@ -80,8 +80,8 @@ fn closings_of(alloc: Global, matches: &List<Option<u32>>) -> Result<Vec<u32>, O
     Ok(closings)
 }
 
-// How many earlier visits are still there when each comes, where so many leave with each: all but those
-// that left before.
+// How many earlier visits are still there when each comes, given how many leave with each: all but
+// those that left before.
 fn founds_by(
     alloc: Global,
     matches: &List<Option<u32>>,
@@ -131,7 +131,7 @@ fn append_item(stream: &mut Stream, job: u32, time: u64) -> Result<(), OutOfMemo
     Ok(())
 }
 
-// The items with which a match is whole.
+// The items that complete a match.
 fn leaving_of(
     alloc: Global,
     stream: &Stream,
@@ -154,7 +154,7 @@ fn leaving_of(
     Ok(leaving)
 }
 
-// The visits of these items, whose matches are these.
+// The visits of these items, given their matches.
 fn visits_of(
     alloc: Global,
     gathered: &Gathered,
@@ -184,9 +184,10 @@ fn visits_of(
     })
 }
 
-/// What a join gives for what comes to it: the i-th items of a job by all ports are a match, and
-/// depart when the last of them comes; an item without a match is held. It takes time and memory in
-/// proportion to the items and the greatest job. It refuses for want of memory alone.
+/// Returns the visits of a join and what leaves it. The i-th items of a job by all ports are a match,
+/// and depart when the last of them comes; an item whose match is never whole is held. Takes time and
+/// memory in proportion to the number of items and the greatest job. The only error is that memory
+/// runs out.
 pub fn join_visits(alloc: Global, gathered: &Gathered) -> Result<Joined, OutOfMemory>
     ensures { IfOk result (λ joined. AreJoined (came_to gathered.now) joined) }
 {

@@ -1,10 +1,10 @@
--- What departs from a loss station by a guess.
+-- What departs from a loss station, given a guess.
 use Rattle.std.specs.Prelude.{◌≡◌, ℕ, Bool, true, false, List, [], ◌∷◌, length}
 use Rattle.mq_core.specs.Recurrences.{lindley}
 use Rattle.mq_loss.specs.Rounds.{departure_behind}
 use Rattle.mq_rounds.specs.Rounds.{departures_of}
 
--- of these items, those that the guess admits
+-- those of these items that the guess admits
 abbrev pub guessed : List Bool → List ℕ → List ℕ
 guessed [] items = []
 guessed (admit ∷ guess) [] = []

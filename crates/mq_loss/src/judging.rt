@@ -6,7 +6,7 @@ ghost use Rattle.mq_rounds.specs.Rounds.{departures_from};
 use mq_base::{List, OutOfMemory, Steps};
 use std::sync::ledger::Ledger;
 
-// Whether an arrival finds a place, by the departures of those admitted before it, in order.
+// Whether an arrival finds a place, given the departures of those admitted before it, in order.
 pub fn finds_place(departs: &[u64], places: u32, arrive: u64) -> bool
     requires { 1 ≤ places }
     ensures { result ≡ is_admitted places (reverse departs.now) arrive }
@@ -15,7 +15,7 @@ pub fn finds_place(departs: &[u64], places: u32, arrive: u64) -> bool
     count < places as usize || departs[count - places as usize] <= arrive
 }
 
-// The same, which counts one step.
+// Whether an arrival finds a place, as `finds_place` says; counts one step.
 pub fn judge_behind<L: Ledger>(
     departs: &[u64],
     places: u32,
@@ -30,10 +30,10 @@ pub fn judge_behind<L: Ledger>(
     finds_place(departs, places, arrive)
 }
 
-/// Whether an arrival is admitted: fewer than `places` were admitted before it, or the last of
-/// them but `places` - 1 has departed by then. `departs` has the departures of those admitted
-/// before it, in order; times are in ticks. It counts one step, takes no memory and refuses
-/// nothing.
+/// Returns whether an arrival is admitted: fewer than `places` were admitted before it, or the
+/// `places`-th last of them has departed by then. `departs` contains the departures of those
+/// admitted before it, in order; times are in ticks. Counts one step, takes no memory and can't
+/// fail.
 pub fn judge<L: Ledger>(departs: &List<u64>, places: u32, arrive: u64, steps: &mut Steps<L>) -> bool
     requires { 1 ≤ places }
     ensures answer { result ≡ is_admitted places (reverse departs.now) arrive }
@@ -42,7 +42,7 @@ pub fn judge<L: Ledger>(departs: &List<u64>, places: u32, arrive: u64, steps: &m
     judge_behind(departs.as_slice(), places, arrive, steps)
 }
 
-// The last of these departures, or 0.
+// The last of these departures, or 0 if there are none.
 pub fn last_of(departs: &[u64]) -> u64
     ensures { result ≡ time_or_none (slice_get (reverse departs.now) 0) }
 {
@@ -52,7 +52,7 @@ pub fn last_of(departs: &[u64]) -> u64
     departs[departs.len() - 1]
 }
 
-// Puts the departure of one more job behind these.
+// Appends the departure of one more job.
 pub fn serve(departs: &mut List<u64>, arrive: u64, demand: u64) -> Result<(), OutOfMemory>
     requires last { time_or_none (slice_get (reverse departs.old) 0) ≤ 2 ^ 61 }
     requires arrive { arrive ≤ 2 ^ 60 }
@@ -63,7 +63,7 @@ pub fn serve(departs: &mut List<u64>, arrive: u64, demand: u64) -> Result<(), Ou
     departs.push(begins + demand)
 }
 
-// The same where the job is admitted; else the departures stay.
+// Appends the departure of a job if it is admitted, and otherwise changes nothing.
 pub fn follow(
     departs: &mut List<u64>,
     admit: bool,

@@ -1,6 +1,6 @@
 //! The loss station: one server and a number of places; an arrival that finds them all taken is
-//! lost. Which arrivals are admitted is settled by rounds of guesses (Greenberg, Lubachevsky and
-//! Mitrani 1991): each round judges every arrival by the departures that a guess gives.
+//! lost. Rounds of guesses settle which arrivals are admitted (Greenberg, Lubachevsky and Mitrani
+//! 1991): each round judges every arrival by the departures that a guess gives.
 #![tactic(auto)]
 
 mod judging;

@@ -9,18 +9,19 @@ use mq_core::Stream;
 use mq_rounds::Settled;
 use std::alloc::Global;
 
-// As many arrivals, all guessed admitted.
+// A guess that admits `count` arrivals.
 fn all_of(alloc: Global, count: usize) -> Result<List<bool>, OutOfMemory>
     ensures { IfOk result (λ guess. guess ≡ all_admitted count) }
 {
     Ok(List::from_vec(vec![in alloc; true; count]?))
 }
 
-/// One round: which arrivals of the stream a loss station with these places admits where, of those
-/// before each, the ones that the guess admits were admitted and follow the server's recurrence.
+/// Makes one round. Returns which arrivals of the stream a loss station with these places admits
+/// if, of those before each, the ones that the guess admits were admitted and follow the server's
+/// recurrence.
 ///
-/// Times are in ticks and demands ticks of service; there is one demand and one guess per item of
-/// the stream, and at least one place. It refuses for want of memory alone.
+/// Times are in ticks and demands in ticks of service; there is one demand and one guess per item
+/// of the stream, and at least one place. The only error is that memory runs out.
 pub fn round(
     alloc: Global,
     stream: &Stream,
@@ -45,7 +46,7 @@ pub fn round(
     Ok(answer)
 }
 
-// When those depart that are admitted.
+// The departures of the admitted arrivals.
 fn departures(
     alloc: Global,
     stream: &Stream,
@@ -74,13 +75,13 @@ fn same(guess: &List<bool>, other: &List<bool>) -> bool
     guess.as_slice() == other.as_slice()
 }
 
-/// Which arrivals of the stream a loss station with these places admits, and when they depart:
-/// settled by rounds over all arrivals, from all admitted up to and with the first round that
-/// changes nothing. There is at most one round more than arrivals, and each has one judgement per
-/// arrival.
+/// Returns which arrivals of the stream a loss station with these places admits, and when they
+/// depart. Rounds over all arrivals settle this: they begin with all guessed admitted, and end with
+/// the first round that changes nothing. There is at most one more round than there are arrivals,
+/// and each makes one judgement per arrival.
 ///
-/// Times and departures are in ticks, demands are ticks of service; there is one demand per item
-/// of the stream, and at least one place. It refuses for want of memory alone.
+/// Times and departures are in ticks, demands in ticks of service; there is one demand per item
+/// of the stream, and at least one place. The only error is that memory runs out.
 pub fn settle_whole(
     alloc: Global,
     stream: &Stream,

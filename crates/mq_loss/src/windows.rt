@@ -13,8 +13,8 @@ use mq_rounds::{Judge, Settled, settle_windows};
 use std::alloc::Global;
 use std::sync::ledger::Ledger;
 
-// One round over the arrivals from `from` up to `to`, all guessed admitted: whether each is
-// admitted, and the departures that the guess gives, are put behind those of the settled.
+// Makes one round over the arrivals from `from` up to `to`, all guessed admitted: appends whether
+// each is admitted, and the departures that the guess gives, to those of the settled arrivals.
 fn judge_all<L: Ledger>(
     stream: &Stream,
     demands: &List<u64>,
@@ -47,7 +47,7 @@ fn judge_all<L: Ledger>(
     }
 }
 
-// How many arrivals come before the first that the round changed.
+// The number of arrivals before the first that the round changed.
 fn unchanged_of(outcome: &[bool]) -> usize
     ensures { result ≡ unchanged_in outcome.now }
 {
@@ -59,7 +59,7 @@ fn unchanged_of(outcome: &[bool]) -> usize
     outcome.len()
 }
 
-// A loss station has these places, at least one. It judges its windows whole.
+// A loss station with this many places, at least one. It judges all arrivals of a window.
 #[derive(Drop)]
 struct Places {
     places: u32,
@@ -102,17 +102,17 @@ impl Judge for Places {
     ghost adds = { λ settled judged more others. refl };
 }
 
-/// Which arrivals of the stream a loss station with these places admits, and when they depart:
-/// settled by rounds over windows, one round a window, the first of `first` arrivals. Those of a
-/// window are guessed admitted; its round settles them up to the first that it changes, or all.
-/// The next window begins behind the settled arrivals, and is twice as long where all were
-/// settled; else it has as many arrivals as were settled.
+/// Returns which arrivals of the stream a loss station with these places admits, and when they
+/// depart. Rounds over windows settle the arrivals, one round per window; the first window has
+/// `first` arrivals. All arrivals of a window are guessed admitted; its round settles them up to
+/// the first that it changes, or all. The next window begins after the settled arrivals. It is
+/// twice as long if all were settled; otherwise it has as many arrivals as were settled.
 ///
-/// Times and departures are in ticks, demands are ticks of service; one demand per item of the
-/// stream. There are at least one place and a first window of at least 1. Each judgement counts
-/// one step: `judged` in all where it answers, and at most twice the arrivals and `first` also
-/// where it refuses. There are at most as many rounds as arrivals. It refuses for want of memory
-/// alone.
+/// Times and departures are in ticks, demands in ticks of service; there is one demand per item of
+/// the stream. `places` and `first` must be at least 1. Each judgement counts one step: `judged` in
+/// all, or, if there is an error, at most twice the number of arrivals plus `first`, which also
+/// bounds `judged`. There are at most as many rounds as arrivals. The only error is that memory
+/// runs out.
 pub fn settle<L: Ledger>(
     alloc: Global,
     stream: &Stream,

@@ -1,11 +1,11 @@
--- A vector as it is kept, and a matrix, with the laws that their ghost members cite: the value that a contract sees gives back
--- what is kept.
+-- A vector and a matrix as they are stored, with the laws that their ghost members cite: what is stored can be recovered from the
+-- value that a contract sees.
 use Rattle.std.specs.Prelude.{◌≡◌, ℕ, ◌-◌, ◌≤◌, All, List, ◌++◌, length, take, drop, replicate}
 use Rattle.std.proofs.Common.{arith, sym, ap, ◌∙◌, take-append-drop, length-take-le}
 use Rattle.mq_maxplus.specs.declared.mp.Mp.{Mp}
 use Rattle.mq_maxplus.specs.Matrices.{voids}
 
--- 16 numbers, of which those behind the last row are minus infinity
+-- 16 numbers, all minus infinity after the last row
 pub record IsPadded (size : ℕ) (items : List Mp) : Type 0 where
   pub some : 1 ≤ size
   pub few : size ≤ 16
@@ -20,7 +20,7 @@ items-back size items h =
     ap (λ n. take size items ++ voids (16 - n)) (size-back size items h)
     ∙ (ap (λ xs. take size items ++ xs) (sym h.padded) ∙ take-append-drop size items)
 
--- 16 vectors of one size, of which those behind the last column are minus infinity everywhere
+-- 16 vectors of one size, all minus infinity everywhere after the last column
 pub record IsPaddedMatrix (size : ℕ) (columns : List (List Mp)) : Type 0 where
   pub some : 1 ≤ size
   pub few : size ≤ 16

@@ -1,5 +1,5 @@
-//! Numbers under max and plus, with minus infinity, and the maps that a job makes of the departures
-//! before it: affine maps of one number, and matrices.
+//! Numbers under max and plus, with minus infinity, and the maps by which a job acts on the
+//! departures before it: affine maps of one number, and matrices.
 #![tactic(auto)]
 
 mod affine;

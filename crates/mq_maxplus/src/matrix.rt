@@ -7,8 +7,8 @@ ghost use Rattle.mq_maxplus.specs.Matrices.{entry, greatest_sum, matrix_act, mat
 use crate::{Mp, Vector};
 use std::marker::Model;
 
-/// A square matrix of 1 to 16 rows, a map of vectors of its size: what it makes of a vector is the
-/// greatest of its columns, each with the vector's number of its index added.
+/// A square matrix of 1 to 16 rows, which maps vectors of its size: the result is the greatest, row by
+/// row, of its columns, each with the vector's number of that index added.
 #[derive(Clone, Copy)]
 pub struct Matrix {
     size: u8,
@@ -25,7 +25,7 @@ impl Model for Matrix {
 
     ghost view = { λ m. take m.size m.columns };
 
-    // Behind the last column there is minus infinity.
+    // After the last column there is only minus infinity.
     ghost invariant = { λ m. IsPaddedMatrix m.size m.columns };
 
     ghost inverse = { λ cs. record { size = length cs; columns = cs ++ replicate (16 - length cs) (voids (length cs)) } };
@@ -34,8 +34,8 @@ impl Model for Matrix {
 }
 
 impl Matrix {
-    /// The matrix of this size, 1 to 16, that leaves each vector as it is: a zero on the diagonal, else
-    /// minus infinity.
+    /// Returns the matrix of this size, 1 to 16, that leaves each vector unchanged: zero on the
+    /// diagonal, minus infinity elsewhere.
     pub fn unit(size: u8) -> Matrix
         requires some { 1 ≤ size }
         requires few { size ≤ 16 }
@@ -50,7 +50,7 @@ impl Matrix {
         Matrix { size, columns }
     }
 
-    /// The number of rows, which is that of the columns.
+    /// Returns the number of rows, which is also the number of columns.
     #[inline]
     pub fn size(&self) -> u8
         ensures size { result ≡ length self.now }
@@ -60,7 +60,7 @@ impl Matrix {
         self.size
     }
 
-    /// The number in a row and a column, from 0, which are below the size.
+    /// Returns the number in a row and a column, both from 0 and below the size.
     #[inline]
     pub fn get(&self, row: u8, column: u8) -> Mp
         requires row { row < length self.now }
@@ -70,7 +70,7 @@ impl Matrix {
         self.columns[column as usize].get(row)
     }
 
-    /// Writes the number in a row and a column, which are below the size.
+    /// Writes the number in a row and a column, both below the size.
     pub fn set(&mut self, row: u8, column: u8, value: Mp)
         requires row { row < length self.old }
         requires column { column < length self.old }
@@ -81,7 +81,7 @@ impl Matrix {
         self.set_column(column, &changed);
     }
 
-    /// A column, from 0, which is below the size.
+    /// Returns a column, from 0 and below the size.
     #[inline]
     pub fn column(&self, column: u8) -> &Vector
         requires { column < length self.now }
@@ -91,7 +91,7 @@ impl Matrix {
         &self.columns[column as usize]
     }
 
-    /// Writes a column, which is below the size, by a vector of that size.
+    /// Replaces a column, below the size, by a vector of that size.
     #[inline]
     pub fn set_column(&mut self, column: u8, value: &Vector)
         requires column { column < length self.old }
@@ -101,8 +101,8 @@ impl Matrix {
         self.columns[column as usize] = *value;
     }
 
-    /// The composition in which this one acts first, with a matrix of the same size. The sums that it
-    /// makes fit.
+    /// Returns the composition in which this matrix acts first, with a matrix of the same size. The sums
+    /// in it must fit.
     pub fn then(&self, next: &Matrix) -> Matrix
         requires { CanMatrixThen self.now next.now }
         ensures { result ≡ matrix_then self.now next.now }
@@ -116,8 +116,7 @@ impl Matrix {
         all
     }
 
-    /// Puts what the matrix makes of a vector of its size in the vector's place. The sums that it
-    /// makes fit.
+    /// Replaces a vector of the matrix's size by what the matrix makes of it. The sums in it must fit.
     pub fn act(&self, on: &mut Vector)
         requires { CanMatrixAct self.now on.old }
         ensures acted { on.new ≡ matrix_act self.now on.old }
@@ -131,11 +130,12 @@ impl Matrix {
     }
 }
 
-/// Laws. What a matrix makes of a vector has in each row the greatest, over the columns, of the number
-/// there and the vector's number of that index together; a composition has that in each row and column,
-/// with the column of the first matrix as the vector. Acting by a composition of matrices is acting by
-/// one and then the other, and the composition is associative. A column of the unit matrix has a zero in
-/// the row of its index, and else minus infinity; the matrix leaves each vector of its size as it is.
+/// Laws. Each row of what a matrix makes of a vector is the greatest, over the columns, of the sum of
+/// the number there and the vector's number of the column's index. Each entry of a composition is that
+/// greatest sum of the second matrix in that row, with the column of the first matrix as the vector.
+/// Acting by a composition is acting by its first matrix and then by its second, and composition is
+/// associative. A column of the unit matrix has a zero in the row of its index and minus infinity
+/// elsewhere; the unit matrix leaves each vector of its size unchanged.
 pub fn matrix_laws()
     ensures rows { (s : Items (Items Number)) (x : Items Number) (row : ℕ) → entry (matrix_act s x) row ≡ greatest_sum s x row }
     ensures acts { (s t : Items (Items Number)) (x : Items Number) → matrix_act (matrix_then s t) x ≡ matrix_act t (matrix_act s x) }

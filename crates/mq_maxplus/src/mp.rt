@@ -5,14 +5,14 @@ ghost use Rattle.mq_maxplus.specs.Maxplus.{mp_max, mp_or_zero, mp_plus, Fits};
 /// A time in ticks, or minus infinity.
 #[derive(Clone, Copy, PartialEq, Eq)]
 pub enum Mp {
-    /// Minus infinity: no time, as where nothing has happened yet.
+    /// Minus infinity: no time, for example when nothing has happened yet.
     Void,
     /// A time in ticks.
     At(u64),
 }
 
 impl Mp {
-    /// The greater of two.
+    /// Returns the greater of two.
     #[inline]
     pub fn max(self, other: Mp) -> Mp
         ensures { result ≡ mp_max self other }
@@ -24,7 +24,7 @@ impl Mp {
         }
     }
 
-    /// The sum of two, which fits; minus infinity and anything is minus infinity.
+    /// Returns the sum of two, which must fit; minus infinity plus anything is minus infinity.
     #[inline]
     pub fn plus(self, other: Mp) -> Mp
         requires { Fits (mp_plus self other) }
@@ -36,7 +36,7 @@ impl Mp {
         }
     }
 
-    /// The number, or 0 at minus infinity.
+    /// Returns the number, or 0 for minus infinity.
     #[inline]
     pub fn or_zero(self) -> u64
         ensures { result ≡ mp_or_zero self }

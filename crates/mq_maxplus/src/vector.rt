@@ -23,7 +23,7 @@ impl Model for Vector {
 
     ghost view = { λ v. take v.size v.items };
 
-    // Behind the last row there is minus infinity.
+    // After the last row there is only minus infinity.
     ghost invariant = { λ v. IsPadded v.size v.items };
 
     ghost inverse = { λ xs. record { size = length xs; items = xs ++ voids (16 - length xs) } };
@@ -32,7 +32,7 @@ impl Model for Vector {
 }
 
 impl Vector {
-    /// A vector of this size, 1 to 16, that is minus infinity everywhere.
+    /// Returns a vector of this size, 1 to 16, that is minus infinity everywhere.
     pub fn new(size: u8) -> Vector
         requires some { 1 ≤ size }
         requires few { size ≤ 16 }
@@ -44,7 +44,7 @@ impl Vector {
         }
     }
 
-    /// The number of rows.
+    /// Returns the number of rows.
     #[inline]
     pub fn size(&self) -> u8
         ensures size { result ≡ length self.now }
@@ -54,7 +54,7 @@ impl Vector {
         self.size
     }
 
-    /// The number in a row, from 0, which is below the size.
+    /// Returns the number in a row, from 0 and below the size.
     #[inline]
     pub fn get(&self, row: u8) -> Mp
         requires { row < length self.now }
@@ -63,7 +63,7 @@ impl Vector {
         self.items[row as usize]
     }
 
-    /// Writes the number in a row, which is below the size.
+    /// Writes the number in a row, below the size.
     #[inline]
     pub fn set(&mut self, row: u8, value: Mp)
         requires { row < length self.old }
@@ -72,7 +72,7 @@ impl Vector {
         self.items[row as usize] = value;
     }
 
-    // Row by row the greater of this one and another with a number added.
+    // Takes, row by row, the greater of this vector and of another with a number added.
     pub(crate) fn cover(&mut self, other: &Vector, by: Mp)
         requires same { length other.now ≡ length self.old }
         requires sums { (row : ℕ) → Fits (mp_plus by (entry other.now row)) }

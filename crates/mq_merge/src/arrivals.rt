@@ -7,14 +7,14 @@ use mq_core::Stream;
 /// The jobs that came to a node and when, in order of time.
 #[derive(Drop)]
 pub enum Arrivals<'a> {
-    /// The rows of a source, or what several ports read, merged: nothing, where a node has no port.
+    /// The rows of a source, or the merged streams that several ports read; empty without a port.
     Merged(Stream),
-    /// What the one port of a node reads.
+    /// The stream that the node's only port reads.
     Read(&'a Stream),
 }
 
 impl<'a> Arrivals<'a> {
-    /// They, as a stream.
+    /// Returns the arrivals as a stream.
     pub fn stream(&self) -> &Stream
         ensures { result.now ≡ stream_in self.now }
     {

@@ -1,4 +1,4 @@
-// Jobs put in order of the times at which they come by.
+// Sorts jobs by their times.
 ghost use Rattle.std.specs.Prelude.{◌≡◌, ◌≤◌, length, IfOk};
 ghost use Rattle.std.specs.List.{zip};
 ghost use Rattle.mq_core.specs.Sequences.{IsStream};
@@ -11,9 +11,9 @@ use mq_core::Stream;
 use std::alloc::Global;
 use std::thread::Threads;
 
-/// The stream of these jobs, which come by at these times: the jobs by time, those of one time in their
-/// order. The times, in ticks, may stand in any order; there is a job for each. It refuses for want
-/// of memory alone.
+/// Returns the stream of these jobs at these times, in order of time; jobs with the same time keep
+/// their order. The times, in ticks, may be in any order; there must be a job for each. The only
+/// error is that memory runs out.
 pub fn by_time(alloc: Global, jobs: &List<u32>, times: &List<u64>) -> Result<Stream, OutOfMemory>
     requires { length times.now ≤ length jobs.now }
     ensures stream { IfOk result (λ stream. IsStream stream) }
@@ -24,8 +24,8 @@ pub fn by_time(alloc: Global, jobs: &List<u32>, times: &List<u64>) -> Result<Str
     stream_from_items(alloc, &items)
 }
 
-/// The stream that `by_time` gives, sorted in threads where they can be had. It refuses for want of
-/// memory alone.
+/// Returns the stream that `by_time` returns, sorted in several threads if they can be started. The
+/// only error is that memory runs out.
 pub fn par_by_time<R: Threads + Sync>(
     rt: &R,
     alloc: Global,
@@ -57,7 +57,7 @@ fn items_of(
     Ok(items)
 }
 
-// The stream of items that are by time.
+// The stream of items that are in order of time.
 fn stream_from_items(alloc: Global, items: &[(u64, u32)]) -> Result<Stream, OutOfMemory>
     requires { Rises (λ p q. p.0 ≤ q.0) items.now }
     ensures stream { IfOk result (λ stream. IsStream stream) }

@@ -1,4 +1,4 @@
--- Texts, each with its first fault.
+-- Example texts, each with its first error; and three with their networks.
 use Rattle.std.specs.Prelude.{◌≡◌, ◌^◌, ◌∷◌, ◌++◌, [], ℕ, zero, suc, List, replicate, Option, Some, None, codes}
 use Rattle.std.specs.Fmt.{decimal}
 use Rattle.mq_core.specs.declared.model.Demand.TheVariants.{Column, Fixed}
@@ -94,7 +94,7 @@ input_examples =
 abbrev pub one_source : Network
 one_source = record { nodes = record { name = codes "s"; kind = Source; inputs = [] } ∷ []; columns = []; bound = 2 ^ 60; version = 1 }
 
--- the text of a fork whose outputs a join puts together again, and its network
+-- the text of a fork whose outputs a join combines, and its network
 abbrev pub forked_text : List ℕ
 forked_text = codes "# parts\n\nmodel 2\nsource s\nfork f 2 from s\njoin j from f.1 f\n"
 
@@ -113,7 +113,7 @@ forked = record {
   version = 2;
 }
 
--- the text of two trunk groups, of which the second takes what the first loses, and its network
+-- the text of two trunk groups, the second for calls that the first loses, and its network
 abbrev pub trunked_text : List ℕ
 trunked_text = codes "model 2\nsource s\ntrunk t 024 call from s\ntrunk u 1 =7 from t.1\n"
 

@@ -14,7 +14,7 @@ use Rattle.mq_model.specs.declared.fault.ModelFault.TheVariants.{BadLine, NameTw
 use Rattle.mq_model.specs.declared.front.Front.{Front}
 use Rattle.mq_model.specs.declared.said.Said.{Said}
 
--- the numbers of the lines that say something, the first line having number n
+-- the numbers of the lines that say something, if the first line has number n
 abbrev pub numbers_from : ℕ → List (List ℕ) → List ℕ
 numbers_from n [] = []
 numbers_from n (l ∷ ls) = elim (said_of l) [ None ↦ numbers_from (suc n) ls | Some said ↦ n ∷ numbers_from (suc n) ls ]
@@ -31,18 +31,18 @@ pub record IsFront (before : List (List ℕ)) (front : Front) : Type 0 where
   pub few_names : length front.names ≤ 64
   pub few_columns : length front.columns ≤ 16
 
--- the fault of a name, behind these names
+-- the error in the name of line n, after lines that declare these names
 abbrev pub name_fault : ℕ → List Word → Said → Option ModelFault
 name_fault n names said =
     if list_any (is_among names) (declared said) then Some (NameTwice n)
     else if nat_le 64 (length names) && not (length (declared said) == 0) then Some (TooMany n)
     else None
 
--- the fault of columns
+-- the error in the columns of line n
 abbrev pub columns_fault : ℕ → List Word → Option ModelFault
 columns_fault n columns = if nat_lt 16 (length columns) then Some (TooMany n) else None
 
--- the fault of words that are no line of a text of this version, where an earlier line began as a bound does or not
+-- the error in the words of a line that isn't in the grammar; in `grammar_fault` also of a barred line
 abbrev pub unread_fault : ℕ → List Word → Result Said (List Word) → Option ModelFault
 unread_fault n ws (Err left) = Some (BadLine n (length ws - length left + 1))
 unread_fault n ws (Ok said) = None
@@ -50,7 +50,7 @@ unread_fault n ws (Ok said) = None
 abbrev pub grammar_fault : ℕ → Bool → ℕ → List Word → Option ModelFault
 grammar_fault n has_bound version ws = if is_barred has_bound version ws then Some (BadLine n 1) else unread_fault n ws (whole (read line ws))
 
--- The names that a line declares and mentions are added.
+-- with the names that a line declares and mentions
 abbrev pub with_names : Front → Said → Front
 with_names old said = record {
   has_head = old.has_head;
@@ -62,7 +62,7 @@ with_names old said = record {
   columns = columns_after old.columns (mentioned said);
 }
 
--- What a line says is added.
+-- with all that a line says
 abbrev pub with_said : Front → ℕ → Said → Front
 with_said old number said = record {
   has_head = old.has_head;
@@ -77,7 +77,7 @@ with_said old number said = record {
 abbrev pub added_fault : Front → ℕ → Said → Option ModelFault
 added_fault old number said = option_or (name_fault number old.names said) (columns_fault number (columns_after old.columns (mentioned said)))
 
--- A line is added to those before it, or its fault is told.
+-- either the line is added to those before it, or the result is its error
 abbrev pub TakesLine : Result (Unit {0}) ModelFault → Option ModelFault → List (List ℕ) → Front → Type 0
 TakesLine (Ok _) fault lines new = (fault ≡ None) × IsFront lines new
 TakesLine (Err e) fault lines new = Tells e fault

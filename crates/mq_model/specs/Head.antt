@@ -1,4 +1,4 @@
--- Lines that are skipped, and the head, which says the version of the language that a text is written in.
+-- Lines that are skipped, and the head, which gives the version of the language that a text is written in.
 use Rattle.std.specs.Prelude.{◌∷◌, ◌||◌, ◌&&◌, ◌==◌, [], ℕ, List, Bool, true, false, if◌then◌else◌, codes}
 use Rattle.std.specs.Str.{bytes_eq}
 use Rattle.mq_base.specs.Text.{words_of}
@@ -25,13 +25,13 @@ is_head (w ∷ []) = false
 is_head (w ∷ v ∷ []) = bytes_eq w (codes "model") && is_version v
 is_head (w ∷ v ∷ u ∷ ws) = false
 
--- the version that the words of a head say
+-- the version that the words of a head give
 abbrev pub version_said : List Word → ℕ
 version_said [] = 1
 version_said (w ∷ []) = 1
 version_said (w ∷ v ∷ ws) = if bytes_eq v (codes "2") then 2 else 1
 
--- the version of a text: what its first line that isn't skipped says, which is the head of a text without a fault
+-- the version of a text: the one in its first line that isn't skipped, which is the head if the text has no error
 abbrev pub version_in : List (List ℕ) → ℕ
 version_in [] = 1
 version_in (l ∷ ls) = if is_skipped l then version_in ls else version_said (words_of l)

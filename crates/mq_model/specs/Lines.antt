@@ -16,11 +16,11 @@ use Rattle.mq_model.specs.declared.said.Said.{Said}
 use Rattle.mq_model.specs.declared.said.Said.TheVariants.{Bound, Node}
 use Rattle.mq_model.specs.Form.{◌>>=◌, Form, Word, stop, word, maybe, one, up_to}
 
--- Classes of words. A number of at most this.
+-- Classes of words: a number of at most this.
 abbrev pub is_up_to : ℕ → Word → Bool
 is_up_to limit w = is_number w limit
 
--- from this to that
+-- a number in this range
 abbrev pub is_from_to : ℕ → ℕ → Word → Bool
 is_from_to least most w = is_number w most && nat_le least (digits_value 10 w)
 
@@ -33,7 +33,7 @@ is_key key w = bytes_eq w key
 abbrev pub greatest_demand : ℕ
 greatest_demand = 2 ^ 36
 
--- a column, or an equals sign and a number
+-- a column's name, or an equals sign and a number
 abbrev pub is_demand : Word → Bool
 is_demand [] = false
 is_demand (b ∷ more) = if b == 61 then is_number more greatest_demand else is_name (b ∷ more)
@@ -49,14 +49,14 @@ last_byte w = get_or w (length w - 1) 0
 abbrev pub ends_in_output : Word → Bool
 ends_in_output w = nat_le 2 (length w) && (get_or w (length w - 2) 0 == 46) && nat_le 48 (last_byte w) && nat_le (last_byte w) 55
 
--- a name, or a name, a point and a digit from 0 to 7
+-- a name, or a name, a dot and a digit from 0 to 7
 abbrev pub is_input : Word → Bool
 is_input w = is_name w || (ends_in_output w && is_name (take (length w - 2) w))
 
 abbrev pub input_of : Word → SaidInput
 input_of w = if is_name w then record { name = w; out = 0 } else record { name = take (length w - 2) w; out = last_byte w - 48 }
 
--- Parts of lines. A word that is this one.
+-- Parts of lines: this word.
 abbrev pub key : Word → Form (Unit {0})
 key k = word (is_key k) (λ _. stop tt)
 
@@ -66,7 +66,7 @@ a_name = one is_name (λ w. w)
 abbrev pub a_demand : Form SaidDemand
 a_demand = one is_demand demand_of
 
--- the inputs, which end a line
+-- the inputs, which end a line: 1 to 8
 unfoldable pub inputs : Form (List SaidInput)
 inputs = do
   _ ← key (codes "from")
@@ -74,7 +74,7 @@ inputs = do
   more ← up_to 7 is_input input_of
   stop (first ∷ more)
 
--- the inputs of a join, which end a line: at least two
+-- the inputs of a join, which end a line: 2 to 8
 unfoldable pub joined_inputs : Form (List SaidInput)
 joined_inputs = do
   _ ← key (codes "from")
@@ -83,11 +83,11 @@ joined_inputs = do
   more ← up_to 6 is_input input_of
   stop (first ∷ second ∷ more)
 
--- a threshold above this one
+-- a threshold greater than the last
 abbrev pub is_above : ℕ → Word → Bool
 is_above last w = is_number w greatest_demand && nat_lt last (digits_value 10 w)
 
--- at most n further thresholds, each above the one before
+-- at most n further thresholds, each greater than the one before
 unfoldable pub rising : ℕ → ℕ → Form (List ℕ)
 rising zero last = stop []
 rising (suc n) last =
@@ -117,7 +117,7 @@ counted_route = one (is_from_to 2 8) value_of >>= way_of
 unfoldable pub a_route : Form SaidRoute
 a_route = maybe (is_key (codes "cut")) (λ _. cut_route) counted_route
 
--- The kinds: what stands between the name and the inputs.
+-- The kinds: the words between the name and the inputs.
 abbrev pub server_kind : Form SaidKind
 server_kind = a_demand >>= λ demand. stop (Server demand)
 
@@ -130,7 +130,7 @@ loss_kind = do
   demand ← a_demand
   stop (Loss places demand)
 
--- the places and the demand of a stage behind a slash
+-- the places and the demand of a stage, after its slash
 unfoldable pub a_stage : Form SaidStage
 a_stage = do
   places ← one (is_from_to 1 4) value_of
@@ -142,7 +142,7 @@ unfoldable pub stages : ℕ → Form (List SaidStage)
 stages zero = stop []
 stages (suc n) = maybe (is_key (codes "/")) (λ _. a_stage >>= λ stage. stages n >>= λ more. stop (stage ∷ more)) (stop [])
 
--- the stages of a tandem whose first has this demand
+-- the stages of a tandem, given the demand of the first
 unfoldable pub stages_behind : SaidDemand → Form (List SaidStage)
 stages_behind first = do
   _ ← key (codes "/")
@@ -156,7 +156,7 @@ tandem_kind = do
   all ← stages_behind first
   stop (Tandem all)
 
--- how many demands may stand behind the first of a branch, where so many are left of the 8 of a line
+-- how many demands may follow the first of a branch, if this many of the line's 8 are left
 abbrev pub room_of : ℕ → ℕ
 room_of left = if nat_lt 3 left then 3 else left - 1
 
@@ -167,7 +167,7 @@ a_branch left = do
   more ← up_to (room_of left) is_demand demand_of
   stop (first ∷ more)
 
--- at most n further branches, each behind a bar
+-- at most n further branches, each after a bar
 unfoldable pub branches : ℕ → ℕ → Form (List (List SaidDemand))
 branches zero left = stop []
 branches (suc n) left =
@@ -189,11 +189,11 @@ forkjoin_kind = all_branches >>= λ all. stop (ForkJoin all)
 abbrev pub split_kind : Form SaidKind
 split_kind = a_route >>= λ route. stop (Split route)
 
--- how many outputs a fork has
+-- the number of outputs of a fork
 abbrev pub fork_kind : Form SaidKind
 fork_kind = one (is_from_to 2 4) (λ w. Fork (value_of w))
 
--- how many servers a trunk group has, and its demand
+-- the number of servers of a trunk group, and its demand
 unfoldable pub trunk_kind : Form SaidKind
 trunk_kind = do
   servers ← one (is_from_to 1 255) value_of
@@ -207,21 +207,21 @@ node_line kind = do
   reads ← inputs
   stop (Node name said reads)
 
--- what stands behind `bound`
+-- the words after `bound`
 abbrev pub bound_line : Form Said
 bound_line = one (is_up_to (2 ^ 60)) (λ w. Bound (value_of w))
 
 abbrev pub source_line : Form Said
 source_line = a_name >>= λ name. stop (Node name Source [])
 
--- a join has nothing between its name and its inputs, of which it has two at least
+-- a join has nothing between its name and its inputs, of which it has at least two
 unfoldable pub join_line : Form Said
 join_line = do
   name ← a_name
   reads ← joined_inputs
   stop (Node name Join reads)
 
--- The table: a line by its first word. Of the kinds that read inputs.
+-- The table of lines by their first word: first the kinds with inputs.
 unfoldable pub kind_line : Form Said
 kind_line =
     maybe (is_key (codes "server")) (λ _. node_line server_kind)
@@ -235,7 +235,7 @@ kind_line =
 unfoldable pub first_line : Form Said
 first_line = maybe (is_key (codes "bound")) (λ _. bound_line) (maybe (is_key (codes "source")) (λ _. source_line) kind_line)
 
--- those of version 2, which has three more
+-- all lines of version 2, which has three more
 unfoldable pub line : Form Said
 line =
     maybe (is_key (codes "fork")) (λ _. node_line fork_kind)

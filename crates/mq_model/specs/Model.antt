@@ -1,4 +1,4 @@
--- The first fault of a text.
+-- The first error in a text.
 use Rattle.std.specs.Prelude.{◌≡◌, ◌≢◌, ◌+◌, ◌-◌, ◌∷◌, ◌++◌, ◌||◌, ◌&&◌, ◌==◌, [], ℕ, List, length, map, get_or, Bool, false, not, if◌then◌else◌, nat_le, nat_lt, Option, Some, None, Result, Ok, Err, option_map, codes}
 use Rattle.std.specs.List.{list_all, list_any, flat_map, enumerate_from}
 use Rattle.std.specs.Option.{option_or}
@@ -28,7 +28,7 @@ abbrev pub begins_later : List Word → Bool
 begins_later [] = false
 begins_later (w ∷ ws) = bytes_eq w (codes "fork") || (bytes_eq w (codes "join") || bytes_eq w (codes "trunk"))
 
--- a line that begins as none may: as a second bound, behind an earlier one, or as a line of version 2 in a text of version 1
+-- a line whose first word is barred: a second `bound`, or a word of version 2 in a text of version 1
 abbrev pub is_barred : Bool → ℕ → List Word → Bool
 is_barred has_bound version ws = (has_bound && begins_bound ws) || (nat_lt version 2 && begins_later ws)
 
@@ -36,14 +36,14 @@ is_barred has_bound version ws = (has_bound && begins_bound ws) || (nat_lt versi
 abbrev pub is_too_many : List Said → Said → Bool
 is_too_many before said = (nat_le 64 (length (names_of before)) && not (length (declared said) == 0)) || nat_lt 16 (length (columns_of (before ++ said ∷ [])))
 
--- the fault of line n, which says this behind lines without a fault
+-- the error in line n, which says this after lines without an error
 abbrev pub said_fault : ℕ → List Said → Said → Option ModelFault
 said_fault n before said =
     if list_any (is_among (names_of before)) (declared said) then Some (NameTwice n)
     else if is_too_many before said then Some (TooMany n)
     else None
 
--- the fault of a line's words, as the table reads them, behind these lines
+-- the error in a line's words, as the table reads them, after these lines
 abbrev pub read_fault : List (List ℕ) → List Word → Result Said (List Word) → Option ModelFault
 read_fault before ws (Err left) = Some (BadLine (length before + 1) (length ws - length left + 1))
 read_fault before ws (Ok said) = said_fault (length before + 1) (saids_of before) said
@@ -53,7 +53,7 @@ words_fault before ws =
     if is_barred (list_any (λ l. begins_bound (words_of l)) before) (version_in before) ws then Some (BadLine (length before + 1) 1)
     else read_fault before ws (whole (read line ws))
 
--- the fault of a line behind these lines, which have none
+-- the error in a line after these lines, which have none
 unfoldable pub line_fault : List (List ℕ) → List ℕ → Option ModelFault
 line_fault before l =
     if is_skipped l then None
@@ -75,7 +75,7 @@ reads_of_line (i, l) = elim (said_of l) [ None ↦ [] | Some said ↦ map (λ (p
 abbrev pub reads_of_text : List (List ℕ) → List PlacedInput
 reads_of_text lines = flat_map reads_of_line (enumerate_from 1 lines)
 
--- the first fault of these inputs, behind those that are taken
+-- the first error in these inputs, if these outputs are taken already
 unfoldable pub inputs_fault : List Said → List SaidInput → List PlacedInput → Option ModelFault
 inputs_fault saids taken [] = None
 inputs_fault saids taken (read ∷ more) =
@@ -107,6 +107,6 @@ text_fault lines =
 abbrev pub model_fault : List ℕ → Option ModelFault
 model_fault text = if nat_lt 65536 (length text) then Some TooLong else text_fault (lines_of (without_mark text))
 
--- Unless memory ran out, the error is this fault.
+-- Unless memory ran out, this is the error.
 abbrev pub Tells : ModelFault → Option ModelFault → Type 0
 Tells e fault = e ≢ Memory → fault ≡ Some e

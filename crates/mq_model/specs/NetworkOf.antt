@@ -35,7 +35,7 @@ said_of l = elim (whole (read line (words_of l))) [ Ok said ↦ Some said | Err 
 abbrev pub saids_of : List (List ℕ) → List Said
 saids_of lines = filter_map said_of lines
 
--- a text without a byte order mark at its start
+-- a text without the byte order mark at its start, if it has one
 abbrev pub without_mark : List ℕ → List ℕ
 without_mark text = if bytes_eq (take 3 text) (0xEF ∷ 0xBB ∷ 0xBF ∷ []) then drop 3 text else text
 
@@ -70,7 +70,7 @@ kind_in columns (Trunk servers d) = kind.Trunk servers (demand_in columns d)
 abbrev pub input_in : List Word → SaidInput → Input
 input_in names input = record { node = number_in names input.name; out = input.out }
 
--- the node that a line declares, by the names of the nodes and of the columns
+-- the node that a line declares, given the names of the nodes and of the columns
 abbrev pub nodes_in : List Word → List Word → Said → List Node
 nodes_in names columns (said.Bound n) = []
 nodes_in names columns (said.Node name kind reads) = record { name = name; kind = kind_in columns kind; inputs = map (input_in names) reads } ∷ []
@@ -78,13 +78,13 @@ nodes_in names columns (said.Node name kind reads) = record { name = name; kind 
 abbrev pub nodes_of : List Said → List Node
 nodes_of saids = flat_map (nodes_in (names_of saids) (columns_of saids)) saids
 
--- the bound of the first line that says one, or 2^60
+-- the bound in the first line that gives one, or 2^60
 abbrev pub bound_of : List Said → ℕ
 bound_of [] = 2 ^ 60
 bound_of (said.Bound n ∷ saids) = n
 bound_of (said.Node name kind reads ∷ saids) = bound_of saids
 
--- the network that is said in a text of this version
+-- the network that a text of this version declares
 abbrev pub network_of : ℕ → List Said → Network
 network_of version saids = record { nodes = nodes_of saids; columns = columns_of saids; bound = bound_of saids; version = version }
 

@@ -21,7 +21,7 @@ abbrev pub demand_word : SaidDemand → Word
 demand_word (Column name) = name
 demand_word (Fixed n) = 61 ∷ decimal n
 
--- output 0 of a node is its name; behind it, for an output above 0, a point and the output's number
+-- an input is the node's name, followed, for an output above 0, by a dot and the output's number
 abbrev pub input_word : SaidInput → Word
 input_word input = if input.out == 0 then input.name else input.name ++ 46 ∷ decimal input.out
 
@@ -37,7 +37,7 @@ route_words (Cut column thresholds) = codes "cut" ∷ column ∷ map decimal thr
 abbrev pub stage_words : SaidStage → List Word
 stage_words stage = codes "/" ∷ decimal stage.places ∷ demand_word stage.demand ∷ []
 
--- the first stage is its demand, and each further one a slash, its places and its demand
+-- the demand of the first stage; then for each further stage a slash, its places and its demand
 abbrev pub stages_words : List SaidStage → List Word
 stages_words [] = []
 stages_words (stage ∷ stages) = demand_word stage.demand ∷ flat_map stage_words stages
@@ -64,7 +64,7 @@ first_word (Fork outputs) = codes "fork"
 first_word Join = codes "join"
 first_word (Trunk servers d) = codes "trunk"
 
--- what stands between the name and the inputs
+-- the words between the name and the inputs
 abbrev pub kind_words : SaidKind → List Word
 kind_words Source = []
 kind_words (Server d) = demand_word d ∷ []
@@ -77,7 +77,7 @@ kind_words (Fork outputs) = decimal outputs ∷ []
 kind_words Join = []
 kind_words (Trunk servers d) = decimal servers ∷ demand_word d ∷ []
 
--- a source has no inputs to be read
+-- a source has no inputs to read
 abbrev pub reads_words : SaidKind → List SaidInput → List Word
 reads_words Source reads = []
 reads_words (Server d) reads = inputs_words reads
@@ -94,7 +94,7 @@ abbrev pub said_words : Said → List Word
 said_words (Bound n) = codes "bound" ∷ decimal n ∷ []
 said_words (Node name kind reads) = first_word kind ∷ name ∷ (kind_words kind ++ reads_words kind reads)
 
--- a line: the words with one space between each two, and a line feed
+-- a line: the words, separated by one space, and a line feed
 abbrev pub line_text : List Word → List ℕ
 line_text words = join_with_byte 32 words ++ 10 ∷ []
 
@@ -105,6 +105,6 @@ head_words version = codes "model" ∷ decimal version ∷ []
 abbrev pub printed : Network → List ℕ
 printed net = flat_map line_text (head_words net.version ∷ map said_words (saids_in net))
 
--- words behind others in a line: each behind a space
+-- words after others in a line: each after a space
 abbrev pub spaced : List Word → List ℕ
 spaced words = flat_map (λ word. 32 ∷ word) words

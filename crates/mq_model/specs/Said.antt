@@ -1,4 +1,4 @@
--- What the lines of a model say together: names, columns, inputs and sources.
+-- What the lines of a model say: names, columns, inputs and sources.
 use Rattle.std.specs.Prelude.{◌+◌, ◌∷◌, ◌++◌, ◌&&◌, ◌==◌, [], ℕ, List, length, Bool, true, false, if◌then◌else◌, nat_lt}
 use Rattle.std.specs.List.{list_any, flat_map}
 use Rattle.std.specs.Str.{bytes_eq}
@@ -51,7 +51,7 @@ mentioned (Node name kind reads) = mentions_of_kind kind
 abbrev pub is_among : List Word → Word → Bool
 is_among names name = list_any (λ other. bytes_eq other name) names
 
--- each of these names that isn't among the earlier ones once, where it stands first
+-- the names that aren't among the earlier ones, each once, where it first appears
 unfoldable pub distinct_after : List Word → List Word → List Word
 distinct_after before [] = []
 distinct_after before (name ∷ more) = if is_among before name then distinct_after before more else name ∷ distinct_after (before ++ name ∷ []) more
@@ -60,7 +60,7 @@ distinct_after before (name ∷ more) = if is_among before name then distinct_af
 abbrev pub columns_of : List Said → List Word
 columns_of saids = distinct_after [] (flat_map mentioned saids)
 
--- columns, and a name behind them where it isn't among them
+-- columns, with a name added unless it is among them
 abbrev pub added : List Word → Word → List Word
 added columns name = if is_among columns name then columns else columns ++ name ∷ []
 
@@ -73,7 +73,7 @@ abbrev pub reads_of : Said → List SaidInput
 reads_of (Bound n) = []
 reads_of (Node name kind reads) = reads
 
--- how many outputs a node has
+-- the number of outputs of a node
 abbrev pub outputs_of_route : SaidRoute → ℕ
 outputs_of_route (Modulo outputs column) = outputs
 outputs_of_route (Turn outputs) = outputs

@@ -22,7 +22,7 @@ use Rattle.mq_model.specs.declared.said.SaidKind.TheVariants.{Source, Server, De
 use Rattle.mq_model.specs.declared.said.Said.{Said}
 use Rattle.mq_model.specs.declared.said.Said.TheVariants as said
 
--- the name of this number; where there is none, it is empty
+-- the name with this number; empty if there is none
 abbrev pub name_at : List Word → ℕ → Word
 name_at names n = get_or names n []
 

@@ -1,4 +1,4 @@
-// What the lines so far say, and one line more.
+// What the lines read so far say, and how the next line is added.
 ghost use Rattle.std.specs.Prelude.{◌≡◌, ◌≤◌, ◌++◌, IfErr, IfOk, None, Ok, length};
 ghost use Rattle.std.specs.List.{flat_map, list_all};
 ghost use Rattle.mq_base.specs.Text.{words_of, texts};
@@ -16,9 +16,9 @@ use crate::word::{copied, is_key};
 use mq_base::{List, OutOfMemory, next_word};
 use std::alloc::Global;
 
-/// What the lines so far say: their heads and bounds, each line of the grammar with its number,
-/// and the names of nodes and columns in order of declaration and of first mention. The version is 1
-/// until there is a head.
+/// What the lines read so far say: whether there are a head and a bound, each line of the grammar
+/// with its number, and the names of nodes and columns in order of declaration and of first mention.
+/// The version is 1 until a head gives it.
 #[derive(Drop)]
 pub struct Front {
     pub has_head: bool,
@@ -30,7 +30,7 @@ pub struct Front {
     pub columns: List<List<u8>>,
 }
 
-/// The words of a line.
+/// Splits a line into its words.
 pub fn split_words<'a>(alloc: Global, line: &'a [u8]) -> Result<Vec<&'a [u8]>, OutOfMemory>
     ensures words { IfOk result (λ v. texts v.items ≡ words_of line.now) }
     ensures few { IfOk result (λ v. length v.items ≤ length line.now) }
@@ -44,14 +44,14 @@ pub fn split_words<'a>(alloc: Global, line: &'a [u8]) -> Result<Vec<&'a [u8]>, O
     Ok(words)
 }
 
-// Whether a line may hold these bytes.
+// Whether a line may contain these bytes.
 fn all_allowed(line: &[u8]) -> bool
     ensures { result ≡ list_all is_allowed line.now }
 {
     line.iter().all(|b| *b == b'\t' || (*b >= 32 && *b <= 126))
 }
 
-// Whether the words of a line are none, or those of a comment.
+// Whether a line with these words is empty or a comment.
 fn begins_comment(words: &[&[u8]]) -> bool
     ensures { result ≡ begins_comment (texts words.now) }
 {
@@ -74,7 +74,7 @@ fn is_version(word: &[u8]) -> bool
     is_key(b"2", word)
 }
 
-// Whether these are the words of a head.
+// Whether these words are a head.
 fn is_head(words: &[&[u8]]) -> bool
     ensures { result ≡ is_head (texts words.now) }
 {
@@ -87,7 +87,7 @@ fn is_head(words: &[&[u8]]) -> bool
     is_version(words[1])
 }
 
-// The version that the words of a head say.
+// The version that the words of a head give.
 fn version_said(words: &[&[u8]]) -> u8
     ensures { result ≡ version_said (texts words.now) }
 {
@@ -97,7 +97,7 @@ fn version_said(words: &[&[u8]]) -> u8
     if is_key(b"2", words[1]) { 2 } else { 1 }
 }
 
-// Whether a line begins as a bound does.
+// Whether a line begins with `bound`.
 fn begins_bound(words: &[&[u8]]) -> bool
     ensures { result ≡ begins_bound (texts words.now) }
 {
@@ -107,7 +107,7 @@ fn begins_bound(words: &[&[u8]]) -> bool
     is_key(b"bound", word)
 }
 
-// Whether a line begins as one that version 1 doesn't have.
+// Whether a line begins with a word that version 1 doesn't have.
 fn begins_later(words: &[&[u8]]) -> bool
     ensures { result ≡ begins_later (texts words.now) }
 {
@@ -123,7 +123,7 @@ fn begins_later(words: &[&[u8]]) -> bool
     is_key(b"trunk", word)
 }
 
-// Whether a line begins as none may: as a bound behind an earlier one, or as a line of version 2
+// Whether the first word of a line is barred: `bound` after an earlier bound, or a word of version 2
 // in a model of version 1.
 fn is_barred(words: &[&[u8]], has_bound: bool, version: u8) -> bool
     ensures { result ≡ is_barred has_bound version (texts words.now) }
@@ -164,7 +164,7 @@ fn add_name(
     Ok(())
 }
 
-// Adds a column, where it isn't among these.
+// Adds a column, unless it is among these.
 fn add_column(
     alloc: Global,
     name: &List<u8>,
@@ -178,7 +178,7 @@ fn add_column(
     Ok(())
 }
 
-// Adds the column of a demand, where it has one.
+// Adds the column of a demand, if it has one.
 fn add_of_demand(
     alloc: Global,
     demand: &SaidDemand,
@@ -256,7 +256,7 @@ fn add_columns(alloc: Global, said: &Said, columns: &mut List<List<u8>>) -> Resu
     }
 }
 
-// What the words of a line say.
+// Returns what the words of a line say, or the line's error.
 fn read_words(
     alloc: Global,
     words: &[&[u8]],
@@ -311,7 +311,7 @@ fn add_said(alloc: Global, said: Said, number: u32, front: &mut Front) -> Result
     Ok(())
 }
 
-// Adds one line more, whose words these are.
+// Adds the next line, given its words.
 fn add_line(
     alloc: Global,
     line: &[u8],
@@ -342,7 +342,7 @@ fn add_line(
     add_said(alloc, said, number, front)
 }
 
-/// Reads one line more.
+/// Reads the next line and adds what it says.
 pub fn read_next(
     alloc: Global,
     line: &[u8],

@@ -1,4 +1,4 @@
-// The inputs of a text, and its sources.
+// Checks the inputs and the sources of a text.
 ghost use Rattle.std.specs.Prelude.{◌≡◌, ◌≤◌, ◌||◌, [], length, nat_lt};
 ghost use Rattle.std.specs.List.{flat_map, list_any};
 ghost use Rattle.mq_model.specs.Model.{inputs_fault};
@@ -91,7 +91,7 @@ fn is_taken(saids: &[Said], reads: &[SaidInput], input: &SaidInput) -> bool
     is_read(reads, input)
 }
 
-// The first fault of the inputs of a line, which stands behind these lines.
+// The first error in the inputs of a line that follows these lines.
 fn reads_fault(
     saids: &[Said],
     before: &[Said],
@@ -118,7 +118,7 @@ fn reads_fault(
     None
 }
 
-/// The first fault of the inputs of these lines, which have these numbers.
+/// Returns the first error in the inputs of these lines, which have these numbers.
 pub fn inputs_fault(saids: &[Said], lines: &[u32]) -> Option<ModelFault>
     requires beside { length lines.now ≡ length saids.now }
     requires narrow { AreNarrow saids.now }
@@ -145,7 +145,7 @@ fn is_source(said: &Said) -> bool
     }
 }
 
-/// Whether a source is declared.
+/// Returns whether a line declares a source.
 pub fn has_source(saids: &[Said]) -> bool
     ensures { result ≡ list_any is_source saids.now }
 {

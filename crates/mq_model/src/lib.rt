@@ -1,7 +1,7 @@
-//! The model text: its grammar, its first fault, and the network that it declares.
+//! Models as text: the grammar, the first error in a text, and the network that it declares.
 #![tactic(auto)]
 
-// Where a call of `drop` lets go of what is left, that spares proof: a call is proved once for a type, the end of a scope anew at each exit.
+// A call of `drop` before an exit shortens the proof: the call is proved once per type, but the end of a scope is proved again at each exit.
 
 mod fault;
 mod front;

@@ -1,4 +1,4 @@
-// A line, by its first word.
+// Reads a line, by its first word.
 ghost use Rattle.std.specs.Prelude.{◌≡◌, ◌∷◌, List, Err, MatchOption};
 ghost use Rattle.mq_model.specs.Form.{Word, read, whole};
 ghost use Rattle.mq_model.specs.Lines.{first_line, fork_kind, join_line, kind_line, line, node_line, source_line};
@@ -51,7 +51,7 @@ fn kind_word(word: &[u8]) -> Option<KindWord>
     None
 }
 
-// Reads how many outputs a fork has.
+// Reads the number of outputs of a fork.
 fn read_fork(words: &mut &[&[u8]]) -> Result<SaidKind, Stop>
     ensures { Reads result (texts words.new.now) (read fork_kind (texts words.old.now)) }
 {
@@ -61,7 +61,7 @@ fn read_fork(words: &mut &[&[u8]]) -> Result<SaidKind, Stop>
     })
 }
 
-// Reads what stands between the name and the inputs.
+// Reads the words between the name and the inputs.
 fn read_kind(alloc: Global, words: &mut &[&[u8]], first: KindWord) -> Result<SaidKind, Stop>
     ensures { Reads result (texts words.new.now) (read (form_of first) (texts words.old.now)) }
 {
@@ -77,7 +77,7 @@ fn read_kind(alloc: Global, words: &mut &[&[u8]], first: KindWord) -> Result<Sai
     }
 }
 
-// Reads what stands behind the first word, where the node reads inputs.
+// Reads the words after the first word of a node with inputs.
 fn read_node(alloc: Global, words: &mut &[&[u8]], first: KindWord) -> Result<Said, Stop>
     ensures { Reads result (texts words.new.now) (read (node_line (form_of first)) (texts words.old.now)) }
 {
@@ -92,7 +92,7 @@ fn read_node(alloc: Global, words: &mut &[&[u8]], first: KindWord) -> Result<Sai
     }
 }
 
-// Reads what stands behind `source`.
+// Reads the words after `source`.
 fn read_source(alloc: Global, words: &mut &[&[u8]]) -> Result<Said, Stop>
     ensures { Reads result (texts words.new.now) (read source_line (texts words.old.now)) }
 {
@@ -104,7 +104,7 @@ fn read_source(alloc: Global, words: &mut &[&[u8]]) -> Result<Said, Stop>
     })
 }
 
-// Reads what stands behind `join`.
+// Reads the words after `join`.
 fn read_join(alloc: Global, words: &mut &[&[u8]]) -> Result<Said, Stop>
     ensures { Reads result (texts words.new.now) (read join_line (texts words.old.now)) }
 {
@@ -163,15 +163,15 @@ fn read_any(alloc: Global, words: &mut &[&[u8]]) -> Result<Said, Stop>
     read_first(alloc, words)
 }
 
-/// Why a line is none.
+/// Why words aren't a line.
 #[derive(Clone, Copy)]
 pub enum LineFault {
-    /// The least number of words that begin no line.
+    /// The number of the first wrong word, from 1: the words up to it begin no line.
     Word(usize),
     Memory,
 }
 
-/// Reads a line.
+/// Reads the words of a line. An error gives the number of the first wrong word.
 pub fn read_line(alloc: Global, words: &[&[u8]]) -> Result<Said, LineFault>
     ensures { ReadsLine result (texts words.now) (whole (read line (texts words.now))) }
 {

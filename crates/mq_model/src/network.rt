@@ -10,7 +10,7 @@ use mq_base::{List, OutOfMemory};
 use mq_core::{Demand, Input, Kind, Network, Node, Route, Stage};
 use std::alloc::Global;
 
-// The index of a name among these, or their number.
+// The index of a name among these, or their count if it isn't among them.
 fn number_in(names: &[List<u8>], name: &[u8]) -> usize
     ensures at { result ≡ number_in names.now name.now }
     ensures within { result ≤ length names.now }
@@ -21,7 +21,7 @@ fn number_in(names: &[List<u8>], name: &[u8]) -> usize
         .count()
 }
 
-// The index of a column among these, or their number.
+// The index of a column among these, or their count if it isn't among them.
 fn column_in(columns: &[List<u8>], name: &List<u8>) -> u8
     requires { length columns.now ≤ 16 }
     ensures { result ≡ number_in columns.now name.now }
@@ -40,7 +40,7 @@ fn demand_in(columns: &[List<u8>], demand: &SaidDemand) -> Demand
     }
 }
 
-// What a split goes by, its column by number.
+// The route of a split, its column by number.
 fn route_in(alloc: Global, columns: &[List<u8>], route: &SaidRoute) -> Result<Route, OutOfMemory>
     requires { length columns.now ≤ 16 }
     ensures { IfOk result (λ r. r ≡ route_in columns.now route.now) }
@@ -157,7 +157,7 @@ fn inputs_in(
     Ok(inputs)
 }
 
-// The node that a line declares by this name, by the names of the nodes and of the columns.
+// The node that a line declares, given its name and the names of all nodes and columns.
 fn node_in(
     alloc: Global,
     names: &[List<u8>],
@@ -176,7 +176,7 @@ fn node_in(
     Ok(Node { name, kind, inputs })
 }
 
-// Adds the node that a line declares, where it declares one.
+// Adds the node that a line declares, if it declares one.
 fn add_node(
     alloc: Global,
     names: &[List<u8>],
@@ -195,7 +195,7 @@ fn add_node(
     Ok(())
 }
 
-// The nodes that lines declare, by the names of the nodes and of the columns.
+// The nodes that lines declare, given the names of all nodes and columns.
 fn nodes_in(
     alloc: Global,
     names: &[List<u8>],
@@ -213,7 +213,7 @@ fn nodes_in(
     Ok(nodes)
 }
 
-// The bound that the first line of this kind says, or 2^60.
+// The bound from the first line that gives one, or 2^60.
 fn bound_of(saids: &[Said]) -> u64
     ensures { result ≡ bound_of saids.now }
 {
@@ -225,7 +225,8 @@ fn bound_of(saids: &[Said]) -> u64
     1 << 60
 }
 
-/// The network that lines of a text of this version declare, whose nodes and columns have these names.
+/// Returns the network that the lines of a text declare, given its version and the names of its nodes
+/// and columns.
 pub fn network_of(
     alloc: Global,
     version: u8,

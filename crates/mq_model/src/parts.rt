@@ -1,4 +1,5 @@
-// The parts of a line that several kinds share.
+// Readers of the parts of a line that several kinds share. Each takes its words from the front of
+// `words`.
 ghost use Rattle.std.specs.Prelude.{◌≡◌, ◌<◌, ◌≤◌, IfOk};
 ghost use Rattle.mq_model.specs.Form.{one, read, up_to};
 ghost use Rattle.mq_model.specs.Lines.{a_demand, a_name, input_of, inputs, is_from_to, is_input, joined_inputs, key, value_of};
@@ -10,10 +11,10 @@ use crate::word::{copied, demand_said, input_said, is_demand, is_input, is_key, 
 use mq_base::{List, OutOfMemory, read_number};
 use std::alloc::{AllocError, Global};
 
-/// Why no line was read.
+/// Why reading stopped.
 #[derive(Clone, Copy)]
 pub enum Stop {
-    /// The word at hand goes no way.
+    /// The next word doesn't fit, or is missing.
     Word,
     Memory,
 }
@@ -72,7 +73,7 @@ pub fn read_demand(alloc: Global, words: &mut &[&[u8]]) -> Result<SaidDemand, St
     Ok(demand)
 }
 
-/// Reads this word.
+/// Reads this key.
 #[tactic(auto, using(crate::proofs::ReadFacts::choices))]
 pub fn read_key(words: &mut &[&[u8]], text: &[u8]) -> Result<(), Stop>
     ensures { Reads result (texts words.new.now) (read (key text.now) (texts words.old.now)) }
@@ -87,7 +88,7 @@ pub fn read_key(words: &mut &[&[u8]], text: &[u8]) -> Result<(), Stop>
     Ok(())
 }
 
-/// Reads a number from this least one to this greatest.
+/// Reads a number between `least` and `most`.
 #[tactic(auto, using(crate::proofs::ReadFacts::choices))]
 pub fn read_within(words: &mut &[&[u8]], least: u64, most: u64) -> Result<u64, Stop>
     ensures reads { Reads result (texts words.new.now) (read (one (is_from_to least most) value_of) (texts words.old.now)) }
@@ -106,7 +107,7 @@ pub fn read_within(words: &mut &[&[u8]], least: u64, most: u64) -> Result<u64, S
     Ok(number)
 }
 
-// Adds the inputs at hand, at most 8; there may be none.
+// Adds the next inputs, at most 8 and perhaps none.
 fn add_inputs(alloc: Global, words: &mut &[&[u8]], reads: &mut List<SaidInput>) -> Result<(), Stop>
     ensures { ReadsMore result reads.old reads.new (texts words.new.now) (read (up_to 8 is_input input_of) (texts words.old.now)) }
 {
@@ -123,7 +124,7 @@ fn add_inputs(alloc: Global, words: &mut &[&[u8]], reads: &mut List<SaidInput>) 
     Ok(())
 }
 
-/// Reads the inputs that end a line.
+/// Reads `from` and the 1 to 8 inputs that end a line.
 pub fn read_inputs(alloc: Global, words: &mut &[&[u8]]) -> Result<List<SaidInput>, Stop>
     ensures { Reads result (texts words.new.now) (read inputs (texts words.old.now)) }
 {
@@ -136,7 +137,7 @@ pub fn read_inputs(alloc: Global, words: &mut &[&[u8]]) -> Result<List<SaidInput
     Ok(reads)
 }
 
-/// Reads the inputs that end the line of a join, at least two.
+/// Reads `from` and the 2 to 8 inputs that end the line of a join.
 pub fn read_joined_inputs(alloc: Global, words: &mut &[&[u8]]) -> Result<List<SaidInput>, Stop>
     ensures { Reads result (texts words.new.now) (read joined_inputs (texts words.old.now)) }
 {

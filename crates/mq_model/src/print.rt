@@ -1,4 +1,4 @@
-// The canonical text of a plan.
+// Prints the canonical text of a plan.
 ghost use Rattle.std.specs.Prelude.{◌≡◌, ◌∷◌, ◌++◌, [], IfOk, List, OnOk, codes, decimal, map};
 ghost use Rattle.std.specs.List.{flat_map};
 ghost use Rattle.mq_model.specs.Form.{Word};
@@ -10,7 +10,7 @@ use mq_base::{List, OutOfMemory};
 use mq_core::{Demand, Input, Kind, Network, Node, Plan, Route, Stage};
 use std::alloc::Global;
 
-// The name of a node, by its number; where there is no such node, it is empty.
+// The name of a node, given its number; empty if there is no such node.
 fn node_name(net: &Network, node: u32) -> &[u8]
     ensures { result.now ≡ name_at (names_in net.now) node }
 {
@@ -20,7 +20,7 @@ fn node_name(net: &Network, node: u32) -> &[u8]
     }
 }
 
-// The name of a column, by its number; where there is no such column, it is empty.
+// The name of a column, given its number; empty if there is no such column.
 fn column_name(net: &Network, column: u8) -> &[u8]
     ensures { result.now ≡ name_at net.now.columns column }
 {
@@ -38,7 +38,7 @@ fn push_digits(text: &mut Vec<u8>, number: u64) -> Result<(), OutOfMemory>
     Ok(())
 }
 
-// Adds a word behind a space.
+// Adds a space and a word.
 fn push_word(text: &mut Vec<u8>, word: &[u8]) -> Result<(), OutOfMemory>
     ensures { OnOk result (text.new.items ≡ text.old.items ++ 32 ∷ word.now) }
 {
@@ -47,7 +47,7 @@ fn push_word(text: &mut Vec<u8>, word: &[u8]) -> Result<(), OutOfMemory>
     Ok(())
 }
 
-// Adds a number behind a space.
+// Adds a space and a number.
 fn push_number(text: &mut Vec<u8>, number: u64) -> Result<(), OutOfMemory>
     ensures { OnOk result (text.new.items ≡ text.old.items ++ 32 ∷ decimal number) }
 {
@@ -55,7 +55,7 @@ fn push_number(text: &mut Vec<u8>, number: u64) -> Result<(), OutOfMemory>
     push_digits(text, number)
 }
 
-// Adds a demand behind a space: the name of its column, or `=` and its ticks.
+// Adds a space and a demand: the name of its column, or `=` and its ticks.
 fn push_demand(text: &mut Vec<u8>, net: &Network, demand: &Demand) -> Result<(), OutOfMemory>
     ensures { OnOk result (text.new.items ≡ text.old.items ++ 32 ∷ demand_word (demand_by net.now.columns demand.now)) }
 {
@@ -68,7 +68,7 @@ fn push_demand(text: &mut Vec<u8>, net: &Network, demand: &Demand) -> Result<(),
     }
 }
 
-// Adds an input behind a space: the name of its node, and a dot and its output where that isn't 0.
+// Adds a space and an input: the name of its node, then a dot and its output unless that is 0.
 fn push_input(text: &mut Vec<u8>, net: &Network, input: &Input) -> Result<(), OutOfMemory>
     ensures { OnOk result (text.new.items ≡ text.old.items ++ 32 ∷ input_word (input_by (names_in net.now) input.now)) }
 {
@@ -80,7 +80,7 @@ fn push_input(text: &mut Vec<u8>, net: &Network, input: &Input) -> Result<(), Ou
     push_digits(text, input.out as u64)
 }
 
-// Adds `from` and the inputs, each behind a space.
+// Adds `from` and the inputs, each after a space.
 fn push_inputs(text: &mut Vec<u8>, net: &Network, inputs: &[Input]) -> Result<(), OutOfMemory>
     ensures { OnOk result (text.new.items ≡ text.old.items ++ spaced (inputs_words (map (input_by (names_in net.now)) inputs.now))) }
 {
@@ -91,7 +91,7 @@ fn push_inputs(text: &mut Vec<u8>, net: &Network, inputs: &[Input]) -> Result<()
     Ok(())
 }
 
-// Adds numbers, each behind a space.
+// Adds numbers, each after a space.
 fn push_numbers(text: &mut Vec<u8>, numbers: &[u64]) -> Result<(), OutOfMemory>
     ensures { OnOk result (text.new.items ≡ text.old.items ++ spaced (map decimal numbers.now)) }
 {
@@ -101,7 +101,7 @@ fn push_numbers(text: &mut Vec<u8>, numbers: &[u64]) -> Result<(), OutOfMemory>
     Ok(())
 }
 
-// Adds what a split goes by.
+// Adds the route of a split.
 fn push_route(text: &mut Vec<u8>, net: &Network, route: &Route) -> Result<(), OutOfMemory>
     ensures { OnOk result (text.new.items ≡ text.old.items ++ spaced (route_words (route_by net.now.columns route.now))) }
 {
@@ -132,7 +132,7 @@ fn push_stage(text: &mut Vec<u8>, net: &Network, stage: &Stage) -> Result<(), Ou
     push_demand(text, net, &stage.demand)
 }
 
-// Adds the stages behind the first.
+// Adds the stages after the first.
 fn push_further(text: &mut Vec<u8>, net: &Network, stages: &[Stage]) -> Result<(), OutOfMemory>
     ensures { OnOk result (text.new.items ≡ text.old.items ++ spaced (flat_map stage_words (map (stage_by net.now.columns) stages.now))) }
 {
@@ -153,7 +153,7 @@ fn push_stages(text: &mut Vec<u8>, net: &Network, stages: &[Stage]) -> Result<()
     push_further(text, net, further)
 }
 
-// Adds demands, each behind a space.
+// Adds demands, each after a space.
 fn push_demands(text: &mut Vec<u8>, net: &Network, demands: &[Demand]) -> Result<(), OutOfMemory>
     ensures { OnOk result (text.new.items ≡ text.old.items ++ spaced (map demand_word (map (demand_by net.now.columns) demands.now))) }
 {
@@ -171,7 +171,7 @@ fn push_barred(text: &mut Vec<u8>, net: &Network, demands: &[Demand]) -> Result<
     push_demands(text, net, demands)
 }
 
-// Adds the branches behind the first.
+// Adds the branches after the first.
 fn push_further_branches(
     text: &mut Vec<u8>,
     net: &Network,
@@ -218,7 +218,7 @@ fn first_word(kind: &Kind) -> &[u8]
     }
 }
 
-// Adds what stands between the name and the inputs.
+// Adds the words between the name and the inputs.
 fn push_kind(text: &mut Vec<u8>, net: &Network, kind: &Kind) -> Result<(), OutOfMemory>
     ensures { OnOk result (text.new.items ≡ text.old.items ++ spaced (kind_words (kind_by net.now.columns kind.now))) }
 {
@@ -240,7 +240,7 @@ fn push_kind(text: &mut Vec<u8>, net: &Network, kind: &Kind) -> Result<(), OutOf
     }
 }
 
-// Adds the inputs of a node, which a source has none of.
+// Adds the inputs of a node, unless it is a source.
 fn push_reads(text: &mut Vec<u8>, net: &Network, node: &Node) -> Result<(), OutOfMemory>
     ensures { OnOk result (text.new.items ≡ text.old.items ++ spaced (reads_words (kind_by net.now.columns node.now.kind) (map (input_by (names_in net.now)) node.now.inputs))) }
 {
@@ -274,11 +274,11 @@ fn push_head(text: &mut Vec<u8>, version: u8, bound: u64) -> Result<(), OutOfMem
     Ok(())
 }
 
-/// The canonical text of a plan, which `read_model` reads as the plan again.
+/// Returns the canonical text of a plan, which `read_model` reads as the same network.
 ///
-/// It has the head, the bound, and a line for each node in order of declaration. Each line's words
-/// have one space between each two, and numbers have no leading zeros. It refuses for want of memory
-/// alone.
+/// The text contains the head, the bound, and one line per node in order of declaration. Words are
+/// separated by one space, and numbers have no leading zeros. The only error is that memory runs
+/// out.
 pub fn print_model(alloc: Global, plan: &Plan) -> Result<List<u8>, OutOfMemory>
     ensures { IfOk result (λ text. text ≡ printed plan.now.net) }
 {

@@ -1,4 +1,4 @@
-// The reader of a model text.
+// Reads a model from its text.
 ghost use Rattle.std.specs.Prelude.{◌≡◌, ◌≤◌, [], IfErr, IfOk, IsTrue, None, get_or, length, nat_lt};
 ghost use Rattle.std.specs.Option.{option_or};
 ghost use Rattle.mq_core.specs.Sound.{is_sound};
@@ -21,7 +21,7 @@ use mq_graph::{RankFault, rank};
 use std::alloc::Global;
 use std::mem;
 
-/// A text without a byte order mark at its start.
+/// Returns a text without the byte order mark at its start, if it has one.
 pub fn without_mark(text: &[u8]) -> &[u8]
     ensures { result.now ≡ without_mark text.now }
 {
@@ -58,7 +58,7 @@ fn line_of(saids: &[Said], lines: &[u32], node: u32) -> u32
     0
 }
 
-// The nodes by rank, where no node is left.
+// The nodes by rank; an error if a cycle keeps nodes from having one.
 fn order_of(
     alloc: Global,
     net: &Network,
@@ -81,7 +81,7 @@ fn order_of(
     }
 }
 
-// The first fault of the inputs and the sources of the lines that are kept.
+// The first error in the inputs and the sources of the lines that are kept.
 fn front_fault(front: &Front) -> Option<ModelFault>
     requires beside { length front.now.lines ≡ length front.now.saids }
     requires narrow { AreNarrow front.now.saids }
@@ -96,7 +96,8 @@ fn front_fault(front: &Front) -> Option<ModelFault>
     None
 }
 
-// The plan of lines whose network is sound, where no node is left. The names of the columns go into it.
+// The plan of lines whose network is sound; an error if the network has a cycle. The plan takes the
+// names of the columns out of `front`.
 fn plan_of(alloc: Global, front: &mut Front) -> Result<Plan, ModelFault>
     requires names { front.old.names ≡ names_of front.old.saids }
     requires columns { front.old.columns ≡ columns_of front.old.saids }
@@ -121,10 +122,11 @@ fn plan_of(alloc: Global, front: &mut Front) -> Result<Plan, ModelFault>
     Ok(Plan { net, order })
 }
 
-/// Reads a model text of at most 65,536 bytes.
+/// Reads a model from a text of at most 65,536 bytes.
 ///
-/// The plan is that of the network that the text declares. A fault is the first one of the text:
-/// first its length, then its lines in order, then its inputs, its sources and its cycles.
+/// Returns the plan of the network that the text declares. Unless memory runs out, an error is the
+/// first one in the text: its length is checked first, then its lines in order, then its inputs, its
+/// sources and its cycles.
 pub fn read_model(alloc: Global, bytes: &[u8]) -> Result<Plan, ModelFault>
     ensures ok { IfOk result (λ plan. (model_fault bytes.now ≡ None) × (plan.net ≡ network_in bytes.now)) }
     ensures err { IfErr result (λ e. Tells e (model_fault bytes.now)) }

@@ -11,7 +11,7 @@ use crate::word::{GREATEST_DEMAND, is_key};
 use mq_base::{List, read_number};
 use std::alloc::Global;
 
-// The number that a word says, where it is above this one and at most 2^36.
+// The number that a word gives, if it is above `last` and at most 2^36.
 fn number_above(word: &[u8], last: u64) -> Option<u64>
     ensures { MatchOption result (is_above last word.now ≡ false) (λ n. (is_above last word.now ≡ true) × (n ≡ value_of word.now)) }
 {
@@ -24,8 +24,8 @@ fn number_above(word: &[u8], last: u64) -> Option<u64>
     Some(number)
 }
 
-// Adds the thresholds at hand, at most 6, each above the one before, the first above `last`; there
-// may be none.
+// Adds the next thresholds, at most 6 and perhaps none. Each is above the one before, the first
+// above `last`.
 fn add_thresholds(words: &mut &[&[u8]], last: u64, cuts: &mut List<u64>) -> Result<(), Stop>
     ensures { ReadsMore result cuts.old cuts.new (texts words.new.now) (read (rising 6 last) (texts words.old.now)) }
 {
@@ -55,7 +55,7 @@ fn read_thresholds(alloc: Global, words: &mut &[&[u8]]) -> Result<List<u64>, Sto
     Ok(cuts)
 }
 
-// Reads what stands behind `cut`.
+// Reads the words after `cut`.
 fn read_cut(alloc: Global, words: &mut &[&[u8]]) -> Result<SaidRoute, Stop>
     ensures { Reads result (texts words.new.now) (read cut_route (texts words.old.now)) }
 {
@@ -64,7 +64,7 @@ fn read_cut(alloc: Global, words: &mut &[&[u8]]) -> Result<SaidRoute, Stop>
     Ok(SaidRoute::Cut { column, thresholds })
 }
 
-// Reads what stands behind the number of outputs.
+// Reads the words after the number of outputs.
 #[tactic(auto, using(crate::proofs::ReadFacts::choices), unfolding(crate::specs::Lines::way_of))]
 fn read_way(alloc: Global, words: &mut &[&[u8]], outputs: u8) -> Result<SaidRoute, Stop>
     ensures { Reads result (texts words.new.now) (read (way_of outputs) (texts words.old.now)) }
@@ -84,7 +84,7 @@ fn read_way(alloc: Global, words: &mut &[&[u8]], outputs: u8) -> Result<SaidRout
     Err(Stop::Word)
 }
 
-// Reads a route by the number of its outputs.
+// Reads the number of outputs and the rest of a route.
 fn read_counted(alloc: Global, words: &mut &[&[u8]]) -> Result<SaidRoute, Stop>
     ensures { Reads result (texts words.new.now) (read counted_route (texts words.old.now)) }
 {
@@ -92,7 +92,7 @@ fn read_counted(alloc: Global, words: &mut &[&[u8]]) -> Result<SaidRoute, Stop>
     read_way(alloc, words, outputs as u8)
 }
 
-/// Reads a route.
+/// Reads the route of a split.
 #[tactic(auto, using(crate::proofs::ReadFacts::choices), unfolding(crate::specs::Lines::a_route))]
 pub fn read_route(alloc: Global, words: &mut &[&[u8]]) -> Result<SaidRoute, Stop>
     ensures { Reads result (texts words.new.now) (read a_route (texts words.old.now)) }

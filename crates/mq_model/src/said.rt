@@ -1,4 +1,4 @@
-// What a line of a model says, with the names that it says it by.
+// What a line of a model says. Nodes and columns are still names.
 use mq_base::List;
 
 /// A demand: a column by its name, or ticks of service, at most 2^36.
@@ -15,7 +15,7 @@ pub struct SaidInput {
     pub out: u8,
 }
 
-/// A route, with the name of its column.
+/// A route, with the name of its column, if it has one.
 #[derive(Drop)]
 pub enum SaidRoute {
     Modulo {

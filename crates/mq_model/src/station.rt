@@ -1,4 +1,4 @@
-// What stands between the name of a station and its inputs.
+// Readers of the words between the name of a station and its inputs.
 ghost use Rattle.std.specs.Prelude.{◌+◌, ◌≤◌, IfOk, length};
 ghost use Rattle.mq_model.specs.Form.{read, up_to};
 ghost use Rattle.mq_model.specs.Lines.{a_branch, a_stage, branches as further_branches, demand_of, forkjoin_kind, is_demand, loss_kind, trunk_kind, stages as further_stages, tandem_kind};
@@ -38,7 +38,7 @@ pub fn read_trunk(alloc: Global, words: &mut &[&[u8]]) -> Result<SaidKind, Stop>
     })
 }
 
-// Reads the places and the demand of a stage behind a slash.
+// Reads the places and the demand of a stage, after its slash.
 fn read_stage(alloc: Global, words: &mut &[&[u8]]) -> Result<SaidStage, Stop>
     ensures { Reads result (texts words.new.now) (read a_stage (texts words.old.now)) }
 {
@@ -50,7 +50,7 @@ fn read_stage(alloc: Global, words: &mut &[&[u8]]) -> Result<SaidStage, Stop>
     })
 }
 
-// Adds the stages at hand, at most 3, each behind a slash; there may be none.
+// Adds the next stages, at most 3 and perhaps none, each after a slash.
 fn add_stages(alloc: Global, words: &mut &[&[u8]], stages: &mut List<SaidStage>) -> Result<(), Stop>
     ensures { ReadsMore result stages.old stages.new (texts words.new.now) (read (further_stages 3) (texts words.old.now)) }
 {
@@ -85,7 +85,7 @@ pub fn read_tandem(alloc: Global, words: &mut &[&[u8]]) -> Result<SaidKind, Stop
     Ok(SaidKind::Tandem(stages))
 }
 
-// Adds the demands at hand, at most so many; there may be none.
+// Adds the next demands, at most `most` and perhaps none.
 fn add_demands(
     alloc: Global,
     words: &mut &[&[u8]],
@@ -108,7 +108,7 @@ fn add_demands(
     Ok(())
 }
 
-// Reads a branch of a fork-join, 1 to 4 demands, where so many are left of the line's 8.
+// Reads a branch of a fork-join: 1 to 4 demands, and at most `left`.
 fn read_branch(alloc: Global, words: &mut &[&[u8]], left: u8) -> Result<List<SaidDemand>, Stop>
     requires { 1 ≤ left }
     ensures reads { Reads result (texts words.new.now) (read (a_branch left) (texts words.old.now)) }
@@ -123,8 +123,8 @@ fn read_branch(alloc: Global, words: &mut &[&[u8]], left: u8) -> Result<List<Sai
     Ok(demands)
 }
 
-// Adds the branches at hand, at most 7, each behind a bar, where so many are left of the line's
-// 8 demands; there may be none.
+// Adds the next branches, at most 7 and perhaps none, each after a bar, and with at most `left`
+// demands in all.
 fn add_branches(
     alloc: Global,
     words: &mut &[&[u8]],
@@ -152,7 +152,7 @@ fn add_branches(
     Ok(())
 }
 
-/// Reads the 2 to 8 branches of a fork-join, with a bar between each two, and at most 8 demands in all.
+/// Reads the 2 to 8 branches of a fork-join, separated by bars, with at most 8 demands in all.
 pub fn read_forkjoin(alloc: Global, words: &mut &[&[u8]]) -> Result<SaidKind, Stop>
     ensures { Reads result (texts words.new.now) (read forkjoin_kind (texts words.old.now)) }
 {

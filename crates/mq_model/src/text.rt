@@ -23,7 +23,7 @@ fn no_lines(alloc: Global) -> Front
     }
 }
 
-// Adds the lines of a text to none.
+// Adds the lines of a text to an empty front.
 fn add_lines(alloc: Global, text: &[u8], front: &mut Front) -> Result<(), ModelFault>
     requires short { length text.now ≤ 65536 }
     requires none { IsFront [] front.old }
@@ -43,7 +43,8 @@ fn add_lines(alloc: Global, text: &[u8], front: &mut Front) -> Result<(), ModelF
     Ok(())
 }
 
-/// Reads the lines of a text, each apart from inputs and cycles.
+/// Reads the lines of a text of at most 65,536 bytes, and checks each line; inputs, sources and
+/// cycles aren't checked.
 pub fn read_lines(alloc: Global, text: &[u8]) -> Result<Front, ModelFault>
     requires { length text.now ≤ 65536 }
     ensures ok { IfOk result (λ front. (lines_fault [] (lines_of text.now) ≡ None) × IsFront (lines_of text.now) front) }

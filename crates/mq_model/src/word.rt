@@ -1,4 +1,4 @@
-// Words: which are names, demands and inputs, and what they say.
+// Classes of words (names, demands, inputs), and their values.
 ghost use Rattle.std.specs.Prelude.{◌≡◌, IfOk, true};
 ghost use Rattle.std.specs.List.{list_all};
 ghost use Rattle.mq_core.specs.Names.{is_name, is_name_byte};
@@ -11,35 +11,35 @@ use std::alloc::{AllocError, Global};
 /// The greatest demand and threshold.
 pub const GREATEST_DEMAND: u64 = 1 << 36;
 
-/// A list of these bytes.
+/// Returns a list of these bytes.
 pub fn copied(alloc: Global, bytes: &[u8]) -> Result<List<u8>, AllocError>
     ensures { IfOk result (λ v. v ≡ bytes.now) }
 {
     Ok(List::from_vec(bytes.to_vec(alloc)?))
 }
 
-/// A list of these numbers.
+/// Returns a list of these numbers.
 pub fn copied_numbers(alloc: Global, numbers: &[u64]) -> Result<List<u64>, AllocError>
     ensures { IfOk result (λ v. v ≡ numbers.now) }
 {
     Ok(List::from_vec(numbers.to_vec(alloc)?))
 }
 
-/// Whether a word is this one.
+/// Returns whether a word is this key.
 pub fn is_key(key: &[u8], word: &[u8]) -> bool
     ensures { result ≡ is_key key.now word.now }
 {
     word == key
 }
 
-// Whether these bytes may stand in a name, behind its first.
+// Whether a name may contain these bytes after its first byte.
 fn all_in_names(bytes: &[u8]) -> bool
     ensures { result ≡ list_all is_name_byte bytes.now }
 {
     bytes.iter().all(|b| b.is_ascii_lowercase() || b.is_ascii_digit() || *b == b'_')
 }
 
-/// Whether a word is a name.
+/// Returns whether a word is a name.
 #[tactic(auto, using(crate::proofs::ReadFacts::names))]
 pub fn is_name(word: &[u8]) -> bool
     ensures { result ≡ is_name word.now }
@@ -59,7 +59,7 @@ pub fn is_name(word: &[u8]) -> bool
     word != b"from".as_slice()
 }
 
-/// Whether a word is a demand.
+/// Returns whether a word is a demand: a name, or `=` and a number up to 2^36.
 pub fn is_demand(word: &[u8]) -> bool
     ensures { result ≡ is_demand word.now }
 {
@@ -70,7 +70,7 @@ pub fn is_demand(word: &[u8]) -> bool
     }
 }
 
-/// What a demand says.
+/// Returns the demand that a word gives.
 pub fn demand_said(alloc: Global, word: &[u8]) -> Result<SaidDemand, AllocError>
     ensures { IfOk result (λ d. is_demand word.now ≡ true → d ≡ demand_of word.now) }
 {
@@ -82,7 +82,7 @@ pub fn demand_said(alloc: Global, word: &[u8]) -> Result<SaidDemand, AllocError>
     }
 }
 
-/// Whether a word names an input.
+/// Returns whether a word is an input: a node's name, or a name, a dot and a digit from 0 to 7.
 pub fn is_input(word: &[u8]) -> bool
     ensures { result ≡ is_input word.now }
 {
@@ -98,7 +98,7 @@ pub fn is_input(word: &[u8]) -> bool
     is_name(front)
 }
 
-/// What an input says.
+/// Returns the input that a word gives.
 pub fn input_said(alloc: Global, word: &[u8]) -> Result<SaidInput, AllocError>
     ensures { IfOk result (λ i. is_input word.now ≡ true → i ≡ input_of word.now) }
 {

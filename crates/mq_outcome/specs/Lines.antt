@@ -1,4 +1,4 @@
--- The line that each outcome puts on the error output.
+-- The line that each outcome writes to standard error.
 use Rattle.std.specs.Prelude.{◌≡◌, ◌≤◌, ℕ, List, length, [], ◌∷◌, ◌++◌, codes, decimal, true, false, Option, Some, None, slice_get}
 use Rattle.std.specs.Io.KnownBytes.{append_known}
 use Rattle.mq_outside.specs.Outside.{TakesPrefix, Rose}
@@ -15,11 +15,11 @@ use Rattle.mq_outcome.specs.declared.outcome.Outcome.TheVariants.{Done, Usage, M
 use Rattle.mq_words.specs.declared.fault.UsageFault.{UsageFault}
 use Rattle.mq_words.specs.declared.fault.UsageFault.TheVariants as usage
 
--- how the lines of the program `mpsim` begin
+-- how the error lines of the program `mpsim` begin
 abbrev pub mpsim : List ℕ
 mpsim = codes "mpsim: "
 
--- the line of a fault of a model, which begins with a program's name
+-- the line of an error in a model, which begins with a program's name
 abbrev pub model_line : List ℕ → ModelFault → List ℕ
 model_line program model.TooLong = program ++ codes "model: longer than 65536 bytes" ++ 10 ∷ []
 model_line program (model.BadByte l) = program ++ codes "model line " ++ decimal l ++ codes ": byte not allowed" ++ 10 ∷ []
@@ -33,7 +33,7 @@ model_line program model.NoSource = program ++ codes "model: no source" ++ 10 �
 model_line program (model.Cycle l node) = program ++ codes "model line " ++ decimal l ++ codes ": node on or behind a cycle" ++ 10 ∷ []
 model_line program model.Memory = program ++ codes "out of memory" ++ 10 ∷ []
 
--- the line of a fault of a trace, which begins with a program's name, with the name of the column that is missing
+-- the line of an error in a trace, which begins with a program's name, with the name of the missing column
 abbrev pub trace_line : List ℕ → List ℕ → TraceFault → List ℕ
 trace_line program name trace.TooLong = program ++ codes "trace: longer than 134217728 bytes" ++ 10 ∷ []
 trace_line program name (trace.BadHeader f) = program ++ codes "trace header: field " ++ decimal f ++ codes " not allowed" ++ 10 ∷ []
@@ -44,11 +44,11 @@ trace_line program name (trace.UnknownSource r) = program ++ codes "trace record
 trace_line program name (trace.BadNumber r f) = program ++ codes "trace record " ++ decimal r ++ codes ": field " ++ decimal f ++ codes " is not a number in range" ++ 10 ∷ []
 trace_line program name trace.Memory = program ++ codes "out of memory" ++ 10 ∷ []
 
--- the line of a visit that departs after the bound, with the name of its node, and what stands behind that
+-- the line of a visit that departs after the bound, with the name of its node, and `back` at the end
 abbrev pub past_line : List ℕ → List ℕ → PastFault → List ℕ → List ℕ
 past_line program name f back = program ++ codes "node " ++ name ++ codes " position " ++ decimal f.position ++ codes " passes the bound at time " ++ decimal f.time ++ back ++ 10 ∷ []
 
--- the line of a node of this name that has too many visits, and what stands behind that
+-- the line of a node of this name that has too many visits, with `back` at the end
 abbrev pub over_line : List ℕ → List ℕ → OverFault → List ℕ → List ℕ
 over_line program name f back = program ++ codes "node " ++ name ++ codes " has " ++ decimal f.count ++ codes " visits" ++ back ++ 10 ∷ []
 
@@ -56,7 +56,7 @@ over_line program name f back = program ++ codes "node " ++ name ++ codes " has 
 abbrev pub usage_text : List ℕ
 usage_text = codes "usage: mpsim MODEL TRACE [--workers N] [--block N] [--jobs] [--report N] or mpsim --made N [--workers N] [--block N] [--jobs] [--report N]"
 
--- the line of a fault of the words
+-- the line of an error in the arguments
 abbrev pub usage_line : UsageFault → List ℕ
 usage_line usage.Words = mpsim ++ usage_text ++ 10 ∷ []
 usage_line usage.Form = mpsim ++ usage_text ++ 10 ∷ []
@@ -65,7 +65,7 @@ usage_line usage.Block = mpsim ++ codes "--block takes a whole number from 1 to 
 usage_line usage.Made = mpsim ++ codes "--made takes a whole number from 0 to 18446744073709551615" ++ 10 ∷ []
 usage_line usage.Report = mpsim ++ codes "--report takes 1 or 2" ++ 10 ∷ []
 
--- the line of an outcome, with the name that it speaks of
+-- the line of an outcome, with the name that belongs in it
 abbrev pub line_text : List ℕ → Outcome → List ℕ
 line_text name Done = []
 line_text name (Usage f) = usage_line f
@@ -88,7 +88,7 @@ abbrev pub column_name : Option (List ℕ) → List ℕ
 column_name None = []
 column_name (Some name) = name
 
--- the name that a fault of a trace speaks of: that of a missing column
+-- the name in the error line of a trace: that of the missing column
 abbrev pub fault_name : Network → TraceFault → List ℕ
 fault_name net trace.TooLong = []
 fault_name net (trace.BadHeader f) = []
@@ -99,7 +99,8 @@ fault_name net (trace.UnknownSource r) = []
 fault_name net (trace.BadNumber r f) = []
 fault_name net trace.Memory = []
 
--- the name that an outcome speaks of: that of a missing column, or of the node that passed the bound or has too many visits
+-- the name in the line of an outcome: that of the missing column, or of the node that passed the bound or has too many
+-- visits
 abbrev pub name_of : Network → Outcome → List ℕ
 name_of net Done = []
 name_of net (Usage f) = []
@@ -111,8 +112,8 @@ name_of net (ReadFault second) = []
 name_of net WriteFault = []
 name_of net Memory = []
 
--- the error output gained a first part of a line, and the whole where its count of faults didn't rise; that never falls, and
--- stays where as many bytes are sure as the line has
+-- Standard error gained a first part of a line, and the whole line unless its count of faults rose. That count never falls,
+-- and doesn't rise if at least as many bytes are sure to be taken as the line has.
 pub record PutsLine {S : Type 0} (taken : S → Option (List ℕ)) (sure faults : S → ℕ) (before after : S) (text : List ℕ) : Type 0 where
   pub part : TakesPrefix (taken before) (taken after) (sure before) (sure after) text
   pub whole : ¬ (Rose (faults before) (faults after)) → taken after ≡ append_known (taken before) text

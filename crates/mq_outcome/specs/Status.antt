@@ -1,9 +1,9 @@
--- The status of an outcome.
+-- The exit status of an outcome.
 use Rattle.std.specs.Prelude.{ℕ}
 use Rattle.mq_outcome.specs.declared.outcome.Outcome.{Outcome}
 use Rattle.mq_outcome.specs.declared.outcome.Outcome.TheVariants.{Done, Usage, Model, Trace, Past, Over, ReadFault, WriteFault, Memory}
 
--- the status with which the program ends
+-- the exit status of the program
 abbrev pub status_of : Outcome → ℕ
 status_of Done = 0
 status_of (Usage f) = 2

@@ -1,4 +1,4 @@
-//! How a call of the program ends, its status, and the line that it puts on the error output.
+//! How a run of the program ends: the outcome, its exit status and its error line.
 #![tactic(auto)]
 
 mod line;

@@ -1,4 +1,4 @@
-// The lines on the error output.
+// The lines on standard error.
 ghost use Rattle.std.specs.Prelude.{◌≡◌, ◌≤◌, [], ◌∷◌, ◌++◌, length, decimal, slice_get, OnOk, OnErr};
 ghost use Rattle.mq_outside.specs.Outside.{Rose, TakesFirst, TakesPrefix};
 ghost use Rattle.mq_outside.specs.Pieces.{pieces_text};
@@ -11,10 +11,10 @@ use mq_outside::{Gather, Piece, Sink, SinkFault, add_pieces, flush};
 use mq_trace::TraceFault;
 use mq_words::UsageFault;
 
-// How the lines of the program `mpsim` begin.
+// How error lines of the program `mpsim` begin.
 const MPSIM: &[u8] = b"mpsim: ";
 
-/// The name of a node; where there is no such node, it is empty.
+/// Returns the name of a node, or an empty name if there is no such node.
 pub fn node_name(net: &Network, node: u32) -> &[u8]
     ensures { result.now ≡ node_name (slice_get net.now.nodes node) }
 {
@@ -24,7 +24,7 @@ pub fn node_name(net: &Network, node: u32) -> &[u8]
     }
 }
 
-/// The name that a fault of a trace speaks of: that of a missing column.
+/// Returns the name in the error line of a trace: the name of the missing column, or an empty name.
 pub fn fault_name<'a>(net: &'a Network, fault: &TraceFault) -> &'a [u8]
     ensures { result.now ≡ fault_name net.now fault.now }
 {
@@ -39,8 +39,8 @@ pub fn fault_name<'a>(net: &'a Network, fault: &TraceFault) -> &'a [u8]
     }
 }
 
-/// The name that an outcome speaks of: that of a missing column, or of the node that passed the bound or
-/// has too many visits.
+/// Returns the name in the error line of an outcome: that of a missing column, or of the node that passed the bound
+/// or has too many visits. For other outcomes it is empty.
 pub fn name_of<'a>(net: &'a Network, outcome: &Outcome) -> &'a [u8]
     ensures { result.now ≡ name_of_outcome net.now outcome.now }
 {
@@ -52,7 +52,7 @@ pub fn name_of<'a>(net: &'a Network, outcome: &Outcome) -> &'a [u8]
     }
 }
 
-// Puts these pieces, and says whether all of them went out.
+// Writes these pieces, and returns whether all of them went out.
 fn try_pieces<E: Sink>(err: &mut E, pieces: &[Piece<'_>]) -> Result<(), SinkFault>
     ensures ok { OnOk result (TakesFirst (E.taken err.old) (E.taken err.new) (E.sure err.old) (E.sure err.new) (pieces_text pieces.now) (length (pieces_text pieces.now))) }
     ensures err { OnErr result (TakesPrefix (E.taken err.old) (E.taken err.new) (E.sure err.old) (E.sure err.new) (pieces_text pieces.now)) }
@@ -65,14 +65,14 @@ fn try_pieces<E: Sink>(err: &mut E, pieces: &[Piece<'_>]) -> Result<(), SinkFaul
     flush(err, &mut pending)
 }
 
-/// Puts these pieces, which are a line, or none. What becomes of it changes nothing.
+/// Writes these pieces, which are one line or nothing. A failure to write them is ignored.
 pub fn put_pieces<E: Sink>(err: &mut E, pieces: &[Piece<'_>])
     ensures { PutsLine E.taken E.sure E.faults err.old err.new (pieces_text pieces.now) }
 {
     let _ = try_pieces(err, pieces);
 }
 
-/// Puts a line that has no number, which begins with a program's name.
+/// Writes a line without numbers, which begins with a program's name.
 pub fn put_text<'a, E: Sink>(err: &mut E, program: &'a [u8], text: &'a [u8])
     ensures { PutsLine E.taken E.sure E.faults err.old err.new (program.now ++ text.now ++ 10 ∷ []) }
 {
@@ -82,7 +82,7 @@ pub fn put_text<'a, E: Sink>(err: &mut E, program: &'a [u8], text: &'a [u8])
     );
 }
 
-// Puts a line with a name in it.
+// Writes a line with a name in it.
 fn put_named<'a, E: Sink>(
     err: &mut E,
     program: &'a [u8],
@@ -104,7 +104,7 @@ fn put_named<'a, E: Sink>(
     );
 }
 
-/// Puts a line with a number in it, which begins with a program's name.
+/// Writes a line with a number in it, which begins with a program's name.
 pub fn put_numbered<'a, E: Sink>(
     err: &mut E,
     program: &'a [u8],
@@ -126,7 +126,7 @@ pub fn put_numbered<'a, E: Sink>(
     );
 }
 
-// Puts a line with two numbers in it: the number of a line or record, and that of a part of it.
+// Writes a line with two numbers in it: the number of a line or record, and the number of one of its parts.
 fn put_numbered_twice<'a, E: Sink>(
     err: &mut E,
     program: &'a [u8],
@@ -152,7 +152,7 @@ fn put_numbered_twice<'a, E: Sink>(
     );
 }
 
-// Puts the line of a fault of the command line.
+// Writes the line of an error in the arguments.
 fn put_usage_line<E: Sink>(err: &mut E, fault: &UsageFault)
     ensures { PutsLine E.taken E.sure E.faults err.old err.new (usage_line fault.now) }
 {
@@ -174,7 +174,7 @@ fn put_usage_line<E: Sink>(err: &mut E, fault: &UsageFault)
     }
 }
 
-/// Puts the line of a node that passes the bound, which begins with a program's name, and what stands behind that.
+/// Writes the line of a node that passes the bound, which begins with a program's name, and `back` after it.
 pub fn put_past_line<'a, E: Sink>(
     err: &mut E,
     program: &'a [u8],
@@ -200,7 +200,7 @@ pub fn put_past_line<'a, E: Sink>(
     );
 }
 
-/// Puts the line of a node with too many visits, which begins with a program's name, and what stands behind that.
+/// Writes the line of a node with too many visits, which begins with a program's name, and `back` after it.
 pub fn put_over_line<'a, E: Sink>(
     err: &mut E,
     program: &'a [u8],
@@ -225,7 +225,7 @@ pub fn put_over_line<'a, E: Sink>(
     );
 }
 
-/// Puts the line of a model's fault, which begins with a program's name.
+/// Writes the line of an error in the model, which begins with a program's name.
 pub fn put_model_line<'a, E: Sink>(err: &mut E, program: &'a [u8], fault: &ModelFault)
     ensures { PutsLine E.taken E.sure E.faults err.old err.new (model_line program.now fault.now) }
 {
@@ -281,7 +281,8 @@ pub fn put_model_line<'a, E: Sink>(err: &mut E, program: &'a [u8], fault: &Model
     }
 }
 
-/// Puts the line of a trace's fault, which begins with a program's name, with the name of the column that is missing.
+/// Writes the line of an error in the trace, which begins with a program's name and may contain the name of the
+/// missing column.
 pub fn put_trace_line<'a, E: Sink>(
     err: &mut E,
     program: &'a [u8],
@@ -323,8 +324,8 @@ pub fn put_trace_line<'a, E: Sink>(
     }
 }
 
-/// Puts the line of an outcome, with the name that it speaks of; after `Done` nothing. A fault of
-/// the error output changes nothing.
+/// Writes the line of an outcome with the name that belongs in it, or nothing for `Done`. A failure to write it is
+/// ignored.
 pub fn put_line<E: Sink>(err: &mut E, name: &[u8], outcome: &Outcome)
     ensures { PutsLine E.taken E.sure E.faults err.old err.new (line_text name.now outcome.now) }
 {

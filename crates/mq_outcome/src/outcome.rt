@@ -1,4 +1,4 @@
-// How a call ends.
+// How a run of the program ends.
 ghost use Rattle.std.specs.Prelude.{◌≡◌};
 ghost use Rattle.mq_outcome.specs.Status.{status_of};
 
@@ -7,36 +7,36 @@ use mq_model::ModelFault;
 use mq_trace::TraceFault;
 use mq_words::UsageFault;
 
-/// How a call ends.
+/// How a run of the program ends.
 #[derive(Clone, Copy, PartialEq, Eq)]
 pub enum Outcome {
     /// The whole report was written.
     Done,
-    /// The words are refused.
+    /// The arguments are invalid.
     Usage(UsageFault),
-    /// The model is refused; never with its want of memory.
+    /// The model is invalid. Out of memory is `Memory`, not `ModelFault::Memory`.
     Model(ModelFault),
-    /// The trace is refused; never with its want of memory.
+    /// The trace is invalid. Out of memory is `Memory`, not `TraceFault::Memory`.
     Trace(TraceFault),
-    /// A visit departs after the model's bound: at which node, at which position among the visits
-    /// to it, and at which tick.
+    /// A visit departs after the model's bound: at which node, at which position among its visits,
+    /// and at which tick.
     Past(PastFault),
-    /// A node has more visits than the 1,048,576 that it may have: which one, and how many.
+    /// A node has more than the 1,048,576 visits allowed: which node, and how many visits.
     Over(OverFault),
-    /// The model can't be read, or with `second` the trace.
+    /// The model can't be read or, if `second`, the trace.
     ReadFault {
-        /// It was the second read of the call, which is that of the trace.
+        /// The second read failed, which is that of the trace.
         second: bool,
     },
-    /// The report can't be written; a first part of it was, which may be empty.
+    /// The report can't be written. The output has taken a first part of it, perhaps an empty one.
     WriteFault,
-    /// Memory ran out, before the first byte was written.
+    /// Memory ran out before the first byte of the report was written.
     Memory,
 }
 
 impl Outcome {
-    /// The status with which the program ends: 0 after `Done`, 9 after `Over`, and from 2 to 8 after
-    /// the others, in their order.
+    /// Returns the exit status of the program: 0 for `Done`, 9 for `Over`, and 2 to 8 for the
+    /// others, in their order.
     pub fn status(&self) -> u8
         ensures { result ≡ status_of self.now }
     {

@@ -8,7 +8,7 @@ abbrev pub piece_text : Piece → List ℕ
 piece_text (Text bytes) = bytes.now
 piece_text (Number n) = decimal n
 
--- the texts of the pieces, one behind another
+-- the texts of the pieces, joined in order
 abbrev pub pieces_text : List Piece → List ℕ
 pieces_text [] = []
 pieces_text (piece ∷ pieces) = piece_text piece ++ pieces_text pieces

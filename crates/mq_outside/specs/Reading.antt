@@ -1,10 +1,10 @@
--- How files change that are read one after another.
+-- How the state of files changes when some are read one after another.
 use Rattle.std.specs.Prelude.{◌≡◌, ◌≤◌, ℕ, zero, suc, Bool, true, false, List, [], ◌∷◌, length, take, Option, Some, None, Result, Ok, Err}
 use Rattle.mq_outside.specs.declared.outside.FileFault.{FileFault}
 use Rattle.mq_outside.specs.declared.outside.FileFault.TheVariants as fault
 use Rattle.mq_outside.specs.Outside.{Rose, next_count}
 
--- a count so many reads later
+-- a count after that many further reads
 abbrev pub counted : ℕ → ℕ → ℕ
 counted zero count = count
 counted (suc reads) count = next_count (counted reads count)
@@ -15,9 +15,9 @@ last_of [] = None
 last_of (name ∷ []) = Some name
 last_of (name ∷ next ∷ names) = last_of (next ∷ names)
 
--- These names were read, one after another, and none but maybe the last read failed: then the count of faults rose in that
--- read, and else it stands; it stands too where the last name is sure, and never falls. What is told of names, and which are
--- sure, stays.
+-- These names were read in order, and no read failed, except the last one if `failed` is true. If it failed, the count of faults
+-- is now the number of that read, and it rose or is at its last value; otherwise it is unchanged. It is unchanged too if the last
+-- name is sure, and it never falls. The known contents of each name, and which names are sure, stay the same.
 pub record ReadsNames {F : Type 0} (told : F → List ℕ → Option (List ℕ)) (is_sure : F → List ℕ → Bool) (reads faults : F → ℕ) (before after : F) (names : List (List ℕ)) (failed : Bool) : Type 0 where
   pub counts : reads after ≡ counted (length names) (reads before)
   pub later : faults before ≤ faults after
@@ -35,15 +35,15 @@ has_failed (Err fault.Failed) = true
 has_failed (Err fault.TooLong) = false
 has_failed (Err fault.Memory) = false
 
--- How far a call comes with the names that it reads: through all of them; up to one, from 1, whose file it refuses, or whose
--- read failed; or anywhere, since want of memory may come before each read and behind the last.
+-- How far a call gets through the names that it reads: through all of them; up to one, counted from 1, whose file it rejects
+-- (UpTo) or whose read failed (FailedAt); or anywhere, since memory can run out before each read and after the last.
 pub data Reading : Type 0 where
   Through : Reading
   UpTo : ℕ → Reading
   FailedAt : ℕ → Reading
   Anywhere : Reading
 
--- so many of all the names are read by a call that comes so far
+-- a call that gets this far reads `count` of all the names
 abbrev pub IsReadCount : Reading → (all count : ℕ) → Type 0
 IsReadCount Through all count = count ≡ all
 IsReadCount (UpTo word) all count = (count ≡ word) × (1 ≤ word) × (word ≤ all)
@@ -57,7 +57,7 @@ is_unread (UpTo word) = false
 is_unread (FailedAt word) = true
 is_unread Anywhere = false
 
--- These names were read, in their order, as far as the call came. Where there are none the files are as before.
+-- These names were read in order, as far as the call got. If there are no names, the files are unchanged.
 pub record ReadsFirst {F : Type 0} (told : F → List ℕ → Option (List ℕ)) (is_sure : F → List ℕ → Bool) (reads faults : F → ℕ) (before after : F) (names : List (List ℕ)) (reading : Reading) : Type 0 where
   pub count : ℕ
   pub is_count : IsReadCount reading (length names) count

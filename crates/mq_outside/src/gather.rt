@@ -9,10 +9,11 @@ use std::marker::Model;
 
 const SIZE: usize = 4096;
 
-/// Bytes on their way to a sink, at most 4,096 of them. It takes no memory but its own place on the stack.
+/// Bytes on their way to a sink, at most 4,096 of them. Takes no memory other than its own place on the
+/// stack.
 ///
-/// A contract sees it as the list of the bytes that are pending. Before it is dropped, `flush` puts them:
-/// what is still pending then is lost.
+/// A contract sees it as the list of the pending bytes. Call `flush` before you drop it: bytes that are
+/// still pending then are lost.
 #[derive(Drop)]
 pub struct Gather {
     bytes: [u8; SIZE],
@@ -30,7 +31,7 @@ impl Model for Gather {
 }
 
 impl Gather {
-    /// Nothing is pending.
+    /// Returns a buffer with nothing pending.
     pub fn new() -> Self
         ensures { result ≡ [] }
     {
@@ -77,7 +78,7 @@ pub enum Piece<'a> {
     Number(u128),
 }
 
-/// Puts what is pending. After a fault nothing is pending either.
+/// Puts what is pending. Afterwards nothing is pending, even after a fault.
 pub fn flush<O: Sink>(out: &mut O, pending: &mut Gather) -> Result<(), SinkFault>
     ensures ok { OnOk result (TakesFirst (O.taken out.old) (O.taken out.new) (O.sure out.old) (O.sure out.new) pending.old (length pending.old)) }
     ensures err { OnErr result (TakesPrefix (O.taken out.old) (O.taken out.new) (O.sure out.old) (O.sure out.new) pending.old) }
@@ -92,11 +93,11 @@ pub fn flush<O: Sink>(out: &mut O, pending: &mut Gather) -> Result<(), SinkFault
     put
 }
 
-/// Adds bytes behind what is pending. Where they don't fit, what is pending goes out first.
-/// More than 4,096 bytes go out at once.
+/// Appends bytes to those that are pending. If they don't fit, the pending bytes go out first; more than
+/// 4,096 new bytes then go out at once.
 ///
-/// After a fault the sink took a first part of what was pending and of these bytes behind it.
-/// After a fault it isn't said what is pending.
+/// After a fault the sink has taken a first part of the pending bytes followed by the new ones, and which
+/// bytes are pending is unspecified.
 pub fn add_bytes<O: Sink>(out: &mut O, pending: &mut Gather, bytes: &[u8]) -> Result<(), SinkFault>
     ensures { Adds O.taken O.sure O.faults out.old out.new pending.old pending.new result bytes.now }
 {
@@ -122,9 +123,9 @@ fn add_piece<O: Sink>(out: &mut O, pending: &mut Gather, piece: &Piece<'_>) -> R
     }
 }
 
-/// Adds the pieces of a line, one after another, behind what is pending.
+/// Appends the pieces of a line, in order, to the pending bytes.
 ///
-/// After a fault the sink took a first part of what was pending and of the pieces' text behind it.
+/// After a fault the sink has taken a first part of the pending bytes followed by the text of the pieces.
 pub fn add_pieces<O: Sink>(
     out: &mut O,
     pending: &mut Gather,

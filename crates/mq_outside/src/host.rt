@@ -1,4 +1,4 @@
-// The files of the system and a writer of std, which tell their counts alone.
+// The files of the system, and a writer of std. Contracts know only their counts.
 ghost use Rattle.std.specs.Prelude.{◌≡◌, ◌<◌, ◌≤◌, ◌++◌, false, length, IfSome, OnOk, IsErrOf};
 ghost use Rattle.std.specs.declared.option.Option.TheVariants.{None};
 ghost use Rattle.mq_outside.specs.Outside.{GainsFile};
@@ -9,9 +9,9 @@ use std::io::{Error, ErrorKind, Read, Write};
 use std::marker::Model;
 use std::{fs, rt};
 
-/// The files that the runtime opens. What they hold is not told.
+/// The files that the runtime opens. Contracts don't know their contents.
 ///
-/// The counts begin at 0. A file that is absent, that is a folder or that can't be read is a fault; want of memory is none.
+/// The counts begin at 0. It is a fault if a file is absent, is a directory or can't be read; running out of memory isn't.
 #[derive(Drop)]
 pub struct HostFiles<'a, R: rt::Files> {
     rt: &'a R,
@@ -31,7 +31,7 @@ impl<'a, R: rt::Files> Model for HostFiles<'a, R> {
 }
 
 impl<'a, R: rt::Files> HostFiles<'a, R> {
-    /// The files of this runtime, with no read so far.
+    /// Returns the files of this runtime, with no read so far.
     pub fn new(rt: &'a R) -> Self
         ensures { result ≡ record { reads = 0; faults = 0 } }
     {
@@ -53,7 +53,7 @@ fn fault_of(error: &Error) -> FileFault
     }
 }
 
-// Appends what the reader gives up to its end. After a refusal a part may have been appended.
+// Appends what the reader gives until its end. After an error a part may have been appended.
 pub(crate) fn read_to<R: Read>(
     from: &mut R,
     limit: u64,
@@ -65,7 +65,7 @@ pub(crate) fn read_to<R: Read>(
     ensures fits { OnOk result (IfSome (R.remaining from.old) (λ bytes. length bytes ≤ limit)) }
     ensures too_long { IsErrOf result FileFault.TooLong → IfSome (R.remaining from.old) (λ bytes. limit < length bytes) }
 {
-    // One byte more than the limit tells that the file is too long.
+    // One byte more than the limit shows that the file is too long.
     let mut part = from.take(limit.saturating_add(1));
     match part.read_to_end(into) {
         Ok(count) if count as u64 > limit => Err(FileFault::TooLong),
@@ -74,7 +74,7 @@ pub(crate) fn read_to<R: Read>(
     }
 }
 
-// Appends what the file holds. After a refusal a part may have been appended.
+// Appends what the file holds. After an error a part may have been appended.
 fn read_whole<R: rt::Files>(
     rt: &R,
     name: &str,
@@ -115,9 +115,9 @@ impl<'a, R: rt::Files> Files for HostFiles<'a, R> {
     }
 }
 
-/// A writer of std, as the standard output, whose faults are counted from 0. What it took is not told.
+/// A writer of std, such as the standard output, whose faults are counted from 0. Contracts don't know what it took.
 ///
-/// An error of the writer is a fault, and so is a write that takes no byte of some.
+/// An error of the writer is a fault, and so is a write that takes none of at least one byte.
 #[derive(Drop)]
 pub struct HostSink<W: Write> {
     to: W,
@@ -133,7 +133,7 @@ impl<W: Write> Model for HostSink<W> {
 }
 
 impl<W: Write> HostSink<W> {
-    /// A sink that writes to `to`, with no fault so far.
+    /// Returns a sink that writes to `to`, with no fault so far.
     pub fn new(to: W) -> Self
         ensures { result ≡ 0 }
     {

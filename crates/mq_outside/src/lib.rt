@@ -1,4 +1,4 @@
-//! What lies outside: files and sinks that count their faults, in memory and of the system, and text that is put whole or
+//! Input and output: files and sinks that count their faults, in memory and of the system, and text that is put whole or
 //! gathered first.
 #![tactic(auto)]
 

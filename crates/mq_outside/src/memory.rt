@@ -1,4 +1,4 @@
-// Files and a sink in memory, which tell all that they hold and fail where they are told to.
+// Files and a sink in memory. Contracts know all that they hold, and they fail when they are set to.
 ghost use Rattle.std.specs.Prelude.{◌≡◌, ◌⊎◌, ℕ, ◌+◌, ◌<◌, ◌≤◌, ◌↔◌, List, [], true, ◌++◌, length, take, Contains, None, IsErr, is_ok, if◌then◌else◌, IfOk, OnOk, OnErr, IfSome, IsErrOf};
 ghost use Rattle.std.specs.declared.option.Option.TheVariants.{Some};
 ghost use Rattle.std.specs.Option.{option_copied};
@@ -13,7 +13,7 @@ use std::marker::Model;
 /// A file in memory.
 #[derive(Drop)]
 pub struct MemFile {
-    /// The name that a read gives.
+    /// The name by which a read finds the file.
     pub name: String,
     /// All that the file holds.
     pub bytes: Vec<u8>,
@@ -28,9 +28,9 @@ impl Model for MemFile {
     ghost view = { λ f. (string_bytes f.name, f.bytes.items) };
 }
 
-/// Files in memory, of which the first of a name is meant.
+/// Files in memory. If several have one name, the first of them is read.
 ///
-/// A read fails exactly where its number, from 1, is among `failing`, or no file has the name.
+/// A read returns `Failed` exactly if its number, from 1, is among `failing`, or no file has the name.
 #[derive(Drop)]
 pub struct MemFiles {
     files: Vec<MemFile>,
@@ -51,7 +51,7 @@ impl Model for MemFiles {
 }
 
 impl MemFiles {
-    /// These files, with no read so far. It takes no memory.
+    /// Returns these files, with no read so far. Takes no memory.
     pub fn new(files: Vec<MemFile>, failing: Vec<u64>) -> Self
         ensures { result ≡ record { files = files.items; failing = failing.items; reads = 0; faults = 0 } }
     {
@@ -117,7 +117,7 @@ impl Files for MemFiles {
         ensures same_told { (n : List ℕ) → file_of n self.new.files ≡ file_of n self.old.files }
         ensures same_sure { (n : List ℕ) → sure_name self.new n ≡ sure_name self.old n }
 
-        // It fails there and nowhere else.
+        // A read fails in these cases and in no others.
         ensures exact { IsErrOf result FileFault.Failed ↔ (Contains self.old.failing (next_count self.old.reads) ⊎ (file_of name.now self.old.files ≡ None)) }
         ensures same_files { self.new.files ≡ self.old.files }
         ensures same_failing { self.new.failing ≡ self.old.failing }
@@ -139,8 +139,8 @@ impl Files for MemFiles {
 
 /// A sink in memory, which keeps all that it took.
 ///
-/// A put takes at most `most` bytes. It fails where its number, from 1, is among `failing`; any other put only where
-/// no spare byte is left, no further memory was given and the put isn't empty.
+/// A put takes at most `most` bytes. It fails if its number, from 1, is among `failing`. Any other put fails only if
+/// it isn't empty, no spare byte is left and memory runs out.
 #[derive(Drop)]
 pub struct MemSink {
     bytes: Vec<u8>,
@@ -162,7 +162,7 @@ impl Model for MemSink {
 }
 
 impl MemSink {
-    /// An empty sink, with no put so far. It takes no memory.
+    /// Returns an empty sink, with no put so far. Takes no memory.
     pub fn new(alloc: Global, most: usize, failing: Vec<u64>) -> Self
         requires { 1 ≤ most }
         ensures taken { result.taken ≡ [] }
@@ -180,7 +180,8 @@ impl MemSink {
         }
     }
 
-    /// Makes room for `room` further bytes, so that puts up to that many take no memory. It is no put.
+    /// Makes room for `room` further bytes, so that puts of up to that many take no memory. It doesn't count as a
+    /// put.
     pub fn reserve(&mut self, room: usize) -> Result<(), OutOfMemory>
         ensures room { OnOk result (room ≤ self.new.spare) }
         ensures rest { self.new ≡ record self.old { spare = self.new.spare } }
@@ -190,14 +191,14 @@ impl MemSink {
         Ok(())
     }
 
-    /// All that was taken.
+    /// Returns all bytes that were taken.
     pub fn bytes(&self) -> &[u8]
         ensures { result.now ≡ self.now.taken }
     {
         self.bytes.as_slice()
     }
 
-    /// How many puts failed; it stands still at 2^64 - 1.
+    /// Returns how many puts failed. The count stops at 2^64 - 1.
     pub fn faults(&self) -> u64
         ensures { result ≡ self.now.faults }
     {
@@ -226,7 +227,7 @@ impl Sink for MemSink {
         ensures quiet { OnOk result (self.new.faults ≡ self.old.faults) }
         ensures sure { 1 ≤ sure_bytes self.old → self.new.faults ≡ self.old.faults }
 
-        // It fails there and, while a spare byte is left, nowhere else.
+        // A put with such a number fails and, while a spare byte is left, no other does.
         ensures fails { Contains self.old.failing (next_count self.old.puts) → IsErr result }
         ensures exact { OnErr result (Contains self.old.failing (next_count self.old.puts) ⊎ ((self.old.spare ≡ 0) × (0 < length bytes.now))) }
 

@@ -1,4 +1,4 @@
-// Files that are read and sinks that are written, by their meaning and their counts of faults.
+// Files that are read and sinks that are written: what they hold, and their counts of faults.
 ghost use Rattle.std.specs.Prelude.{◌≡◌, ◌⊎◌, ℕ, ◌+◌, ◌<◌, ◌≤◌, List, Bool, true, ◌++◌, length, take, IfOk, OnOk, OnErr, IfSome, IsErrOf};
 ghost use Rattle.std.specs.declared.option.Option.{Option};
 ghost use Rattle.std.specs.Io.KnownBytes.{append_known};
@@ -11,7 +11,7 @@ pub enum FileFault {
     Failed,
     /// The file has more bytes than the limit.
     TooLong,
-    /// Memory ran out. It is no fault of the device.
+    /// Memory ran out. This isn't a fault of the device.
     Memory,
 }
 
@@ -24,24 +24,24 @@ pub enum SinkFault {
 
 /// Files that are read by name.
 ///
-/// Both counts begin wherever an implementation lets them, never fall, and stand still at 2^64 - 1.
+/// An implementation chooses where both counts begin. They never fall, and stop at 2^64 - 1.
 pub trait Files {
-    /// What a name holds, where that is told.
+    /// The contents of the file with a name, if contracts know them.
     ghost told: { Self → List ℕ → Option (List ℕ) };
 
-    /// A read of such a name doesn't fail.
+    /// Whether a name is sure: a read of it leaves `faults` unchanged.
     ghost is_sure: { Self → List ℕ → Bool };
 
-    /// How many reads there were.
+    /// The count of reads.
     ghost reads: { Self → ℕ };
 
-    /// The number of the latest read that failed, or 0.
+    /// The number of the latest read that failed, or where the count began.
     ghost faults: { Self → ℕ };
 
-    /// Appends to `into` all that the name holds, where that is at most `limit` bytes.
+    /// Appends the whole file to `into`, if it has at most `limit` bytes.
     ///
-    /// `Failed` where the device failed or the name is absent, `TooLong` where the name holds more than `limit` bytes,
-    /// `Memory` where `into` could not grow. After each of them `into` holds what it held before.
+    /// Returns `Failed` if the device failed or the name is absent, `TooLong` if the file has more than `limit` bytes,
+    /// and `Memory` if `into` could not grow. After an error the bytes in `into` are unchanged.
     fn read(&mut self, name: &str, limit: u64, into: &mut Vec<u8>) -> Result<(), FileFault>
         ensures counted { reads self.new ≡ next_count (reads self.old) }
         ensures later { faults self.old ≤ faults self.new }
@@ -60,22 +60,22 @@ pub trait Files {
         ensures same_sure { (n : List ℕ) → is_sure self.new n ≡ is_sure self.old n };
 }
 
-/// What takes bytes, as an output does.
+/// Something that takes bytes, such as an output.
 ///
-/// The count of faults begins wherever an implementation lets it, never falls, and stands still at 2^64 - 1.
+/// An implementation chooses where the count of faults begins. It never falls, and stops at 2^64 - 1.
 pub trait Sink {
-    /// What was taken, where that is told.
+    /// The bytes that were taken, if contracts know them.
     ghost taken: { Self → Option (List ℕ) };
 
-    /// How often a put failed.
+    /// The count of puts that failed.
     ghost faults: { Self → ℕ };
 
-    /// So many further bytes are taken without a fault.
+    /// A number of further bytes that are sure: they are taken without a fault.
     ghost sure: { Self → ℕ };
 
-    /// Takes the first of these bytes, at least one where there is one, and says how many.
+    /// Takes a first part of these bytes, at least one byte unless there are none, and returns how many it took.
     ///
-    /// `Failed` where the device failed. It took nothing then.
+    /// Returns `Failed` if the device failed. It took nothing then.
     fn put(&mut self, bytes: &[u8]) -> Result<usize, SinkFault>
         ensures at_most { IfOk result (λ n. n ≤ length bytes.now) }
         ensures some { IfOk result (λ n. 0 < length bytes.now → 0 < n) }

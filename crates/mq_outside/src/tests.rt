@@ -1,4 +1,4 @@
-// A reader is read to its end, in as many reads as it takes.
+// A reader is read to its end, in as many reads as that takes.
 ghost use Rattle.std.specs.Prelude.{Some};
 
 use crate::FileFault;
@@ -27,7 +27,8 @@ impl<'a> io::Read for Drip<'a> {
     }
 }
 
-// Whether reading such bytes ends so, and with all of them behind those that were there.
+// Whether reading "model 1\n" gives this result and, if it is Ok, appends all bytes to those that
+// were there.
 fn drips(
     alloc: Global,
     limit: u64,

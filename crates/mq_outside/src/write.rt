@@ -1,13 +1,13 @@
-// Bytes and numbers, put whole.
+// Bytes and numbers, put as a whole.
 ghost use Rattle.std.specs.Prelude.{◌≡◌, ◌≤◌, length, OnOk, OnErr, decimal};
 ghost use Rattle.mq_outside.specs.Outside.{Rose, TakesFirst, TakesPrefix};
 
 use crate::{Sink, SinkFault};
 use itoa::Buffer;
 
-/// Puts all the bytes, in as many puts as it takes. It takes no memory of its own.
+/// Puts all the bytes, in as many puts as that takes. Takes no memory of its own.
 ///
-/// `Failed` exactly where one of the puts failed; the sink took a first part of the bytes then.
+/// Returns `Failed` exactly if one of the puts failed; the sink has then taken a first part of the bytes.
 pub fn put_all<O: Sink>(out: &mut O, bytes: &[u8]) -> Result<(), SinkFault>
     ensures ok { OnOk result (TakesFirst (O.taken out.old) (O.taken out.new) (O.sure out.old) (O.sure out.new) bytes.now (length bytes.now)) }
     ensures err { OnErr result (TakesPrefix (O.taken out.old) (O.taken out.new) (O.sure out.old) (O.sure out.new) bytes.now) }
@@ -24,8 +24,10 @@ pub fn put_all<O: Sink>(out: &mut O, bytes: &[u8]) -> Result<(), SinkFault>
     Ok(())
 }
 
-/// Puts the decimal digits of a number, with no leading zero, as `put_all` does: it takes no memory of its own, and is
-/// `Failed` exactly where one of the puts failed.
+/// Puts the decimal digits of a number, with no leading zero, in as many puts as that takes. Takes no memory of its
+/// own.
+///
+/// Returns `Failed` exactly if one of the puts failed; the sink has then taken a first part of the digits.
 pub fn put_number<O: Sink>(out: &mut O, value: u128) -> Result<(), SinkFault>
     ensures ok { OnOk result (TakesFirst (O.taken out.old) (O.taken out.new) (O.sure out.old) (O.sure out.new) (decimal value) (length (decimal value))) }
     ensures err { OnErr result (TakesPrefix (O.taken out.old) (O.taken out.new) (O.sure out.old) (O.sure out.new) (decimal value)) }

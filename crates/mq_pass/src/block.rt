@@ -1,4 +1,4 @@
-// One block, by the worker that drew it.
+// One block, handled by the worker that drew it.
 ghost use Rattle.std.specs.Prelude.{◌≡◌, ◌^◌, ◌<◌, ◌≤◌, ◌++◌, Contains, IfNone, IfOk, IfSome, Option, Some};
 ghost use Rattle.mq_chain.specs.Seats.{IsSeatOf, seated};
 ghost use Rattle.mq_chain.specs.Stored.{IsShort};
@@ -13,7 +13,7 @@ use mq_chain::{Chain, ChainSeat};
 use mq_maxplus::{Affine, Mp};
 use std::alloc::Global;
 
-/// What a worker hands back of a block: what its jobs do together, and their departures, unless the
+/// What a worker returns for a block: what its jobs do together, and their departures, unless the
 /// block was left.
 #[derive(Drop)]
 pub(crate) struct Passed {
@@ -21,11 +21,11 @@ pub(crate) struct Passed {
     pub departs: Option<List<u64>>,
 }
 
-// The greatest carry that a word holds, and one more.
+// One more than the greatest carry that fits in a word.
 const LIMIT: u64 = 1 << 63;
 
-// The carry before a block: `Void` before the first, else the one that a look finds. There is none only
-// where that look found none.
+// The carry before a block: `Void` before the first, otherwise the one that a look finds. `None` if
+// that look found none.
 fn carry_before(chain: &Chain, seat: &mut ChainSeat, b: u32) -> Option<Mp>
     requires own { IsSeatOf chain.now seat.old }
     requires inside { b < chain.now.blocks }
@@ -42,8 +42,8 @@ fn carry_before(chain: &Chain, seat: &mut ChainSeat, b: u32) -> Option<Mp>
     }
 }
 
-// Puts a block's summary and, where the carry before it is there and its own is short, its carry. It
-// gives the carry before it, or none where a look found none.
+// Stores a block's summary and, if the carry before it is found and its own fits in a word, its
+// carry. Returns the carry before it, or `None` if a look found none.
 fn publish(chain: &Chain, seat: &mut ChainSeat, b: u32, summary: Affine) -> Option<Mp>
     requires own { IsSeatOf chain.now seat.old }
     requires inside { b < chain.now.blocks }
@@ -70,8 +70,8 @@ fn publish(chain: &Chain, seat: &mut ChainSeat, b: u32, summary: Affine) -> Opti
     Some(before)
 }
 
-/// One block by the worker that drew it: its summary is put, and where the carry before it is there,
-/// its own carry is put and its jobs are served. It is left only where the look for that carry found none.
+/// Handles one block, by the worker that drew it: stores its summary and, if the carry before it is
+/// found, stores its own carry if that fits in a word, and serves its jobs. Otherwise the block is left.
 pub(crate) fn pass_block(
     alloc: Global,
     chain: &Chain,

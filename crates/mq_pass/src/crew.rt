@@ -15,7 +15,8 @@ use mq_scan::Blocks;
 use std::alloc::Global;
 use std::thread::{Threads, join};
 
-// One worker draws blocks until one has reached their number, and passes over each that has not.
+// One worker draws numbers until one has reached the number of blocks, and passes over each block
+// that it drew.
 fn pass_drawn<G: Gate>(
     alloc: Global,
     chain: &Chain,
@@ -48,7 +49,7 @@ fn pass_drawn<G: Gate>(
     }
 }
 
-// One worker over the jobs of a stream.
+// One worker passes over the jobs of a stream.
 fn work<G: Gate>(
     alloc: Global,
     chain: &Chain,
@@ -71,8 +72,8 @@ fn work<G: Gate>(
     pass_drawn(alloc, chain, seat, worker, &jobs, gate)
 }
 
-/// The workers from a first one on pass over the blocks. They are halved at each step, and one half
-/// goes to a new thread.
+/// Lets `workers` workers, from number `first` on, pass over the blocks. Each step halves them and
+/// starts a new thread for one half.
 #[cycle(crew)]
 pub(crate) fn crew<G: Gate, R: Threads + Sync>(
     rt: &R,

@@ -21,7 +21,7 @@ pub(crate) struct Jobs<'a> {
     ghost few: { blocks.blocks < 2 ^ 32 },
 }
 
-/// The jobs of a stream, in these blocks.
+/// Returns the jobs of a stream, in these blocks.
 pub(crate) fn jobs_of<'a>(stream: &'a Stream, demands: &'a List<u64>, blocks: &Blocks) -> Jobs<'a>
     requires load { IsSoundLoad stream.now.time demands.now }
     requires whole { blocks.now.n ≡ length stream.now.time }
@@ -34,7 +34,7 @@ pub(crate) fn jobs_of<'a>(stream: &'a Stream, demands: &'a List<u64>, blocks: &B
     }
 }
 
-/// What the jobs of a block do together.
+/// Returns what the jobs of a block do together.
 pub(crate) fn summary_of(jobs: &Jobs<'_>, b: u32) -> Affine
     requires { b < jobs.now.blocks.blocks }
     ensures is { result ≡ summary_at jobs.now.step.arrive.now jobs.now.step.demands.now jobs.now.blocks.block b }
@@ -45,7 +45,7 @@ pub(crate) fn summary_of(jobs: &Jobs<'_>, b: u32) -> Affine
     summarise(&jobs.step, from, to)
 }
 
-/// The departures of the jobs of a block, job after job, from the carry before it.
+/// Returns the departures of the jobs of a block, computed job by job from the carry before it.
 #[inline(never)]
 pub(crate) fn served(
     alloc: Global,

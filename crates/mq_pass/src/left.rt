@@ -19,7 +19,7 @@ pub(crate) struct Left {
     pub before: Mp,
 }
 
-// Adds a block, where it was left.
+// Adds a block, if it was left.
 fn note(left: &mut Vec<Left>, b: u32, before: Mp, part: &Passed) -> Result<(), OutOfMemory>
     ensures { OnOk result (left.new.items ≡ left.old.items ++ if_left (left_at b before) part.now.departs []) }
 {
@@ -29,7 +29,7 @@ fn note(left: &mut Vec<Left>, b: u32, before: Mp, part: &Passed) -> Result<(), O
     Ok(())
 }
 
-// The carry after a block: the one that stands, or what its jobs make of the carry before.
+// The carry after a block: the stored one, or else what its jobs make of the carry before.
 fn carry_after(stands: Mp, summary: Affine, before: Mp) -> Mp
     requires { CanAct summary before }
     ensures { result ≡ stands_or stands (affine_act summary before) }
@@ -40,8 +40,8 @@ fn carry_after(stands: Mp, summary: Affine, before: Mp) -> Mp
     }
 }
 
-/// The blocks that were left, in order. A carry that is absent is what the block's jobs make of the
-/// carry before.
+/// Returns the blocks that were left, in order. A carry that wasn't stored is computed from the
+/// carry before it and the block's jobs.
 pub(crate) fn left_of(
     alloc: Global,
     jobs: &Jobs<'_>,

@@ -1,7 +1,7 @@
 //! The departures of a server in a single pass over blocks, by workers that publish their carries.
 #![tactic(auto)]
 
-// Where a call of `drop` lets go of what is left, that spares proof: a call is proved once for a type, the end of a scope anew at each exit.
+// A call of `drop` before an exit shortens the proof: the call is proved once per type, but the end of a scope is proved again at each exit.
 
 mod block;
 mod crew;

@@ -15,13 +15,14 @@ use mq_server::departures;
 use std::alloc::Global;
 use std::thread::Threads;
 
-/// When each job leaves a server, as `mq_server::departures` answers it: by workers that draw blocks
-/// of jobs from a table, publish the last departure of each block there, and go on from the one that
-/// the block before published. What a worker found no carry for is left, and done at the end.
+/// Returns when each job leaves a server, as `mq_server::departures` does. Workers draw blocks of jobs
+/// from a table, publish the last departure of each block there, and continue from the one that was
+/// published for the block before. If a worker finds no carry, the block is left until all others are
+/// done.
 ///
-/// There are 1 to 64 workers, of which no more start than there are blocks, and at most 16,384 blocks of
-/// at least one job. The gate is entered with each block that is drawn, where there are two or more. It
-/// refuses for want of memory alone.
+/// There are 1 to 64 workers, at most as many as blocks, and at most 16,384 blocks of at least one job.
+/// If there are two or more blocks, the gate is entered with each block that is drawn, and with the
+/// index of each block that was left if two or more were. The only error is that memory runs out.
 pub fn chain_departures<R: Threads + Sync, G: Gate>(
     rt: &R,
     alloc: Global,

@@ -1,4 +1,4 @@
-// The blocks that were left, applied by the crew, and all blocks put together.
+// The blocks that were left, computed by the crew, and the departures of all blocks.
 ghost use Rattle.std.specs.Prelude.{◌≡◌, ℕ, ◌^◌, ◌<◌, ◌≤◌, All, IfOk, length, slice_index_or};
 ghost use Rattle.mq_core.specs.Recurrences.{lindley};
 ghost use Rattle.mq_maxplus.specs.declared.mp.Mp.TheVariants.{Void};
@@ -43,7 +43,7 @@ impl<'a> Pieces for Rest<'a> {
     }
 }
 
-// The departures of all blocks, in order: those of the workers, and of the blocks that were left.
+// The departures of all blocks, in order: from the workers, or from `applied` if they were left.
 fn together(
     alloc: Global,
     jobs: &Jobs<'_>,
@@ -68,8 +68,8 @@ fn together(
     Ok(List::from_vec(all))
 }
 
-/// The departures of all jobs, from the blocks that the workers passed over and the carries that they
-/// published: the crew applies what was left.
+/// Returns the departures of all jobs, from the blocks that the workers passed over and the carries
+/// that they published. The crew computes the blocks that were left.
 pub(crate) fn ended<G: Gate, R: Threads + Sync>(
     rt: &R,
     alloc: Global,

@@ -6,7 +6,7 @@ use Rattle.mq_core.specs.declared.model.Kind.{Kind}
 use Rattle.mq_core.specs.declared.model.Rows.{Rows}
 use Rattle.mq_report.specs.Text.{visit_line}
 
--- the lines of visits, by position, from the sequences of their jobs, times of arrival and fates
+-- the lines of visits, by position, from the sequences of their jobs, arrival times and fates
 abbrev pub sequence_lines : Rows → List ℕ → Kind → List ℕ → List ℕ → List Fate → List ℕ
 sequence_lines rows name kind [] arrives fates = []
 sequence_lines rows name kind (job ∷ jobs) [] fates = []

@@ -1,4 +1,4 @@
--- The percentiles of waits that a report tells.
+-- The percentiles of waits in a report.
 use Rattle.mq_report.specs.Text.{Tail}
 use Rattle.mq_stats.specs.declared.tails.Percentiles.{Percentiles}
 

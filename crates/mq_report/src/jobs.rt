@@ -1,4 +1,4 @@
-// The job lines of a report: one for each visit, by rank of its node and then position.
+// The job lines of a report: one per visit, by rank of its node and then by position.
 ghost use Rattle.std.specs.Prelude.{◌≡◌, ◌≤◌, ◌++◌, length, Some, slice_get};
 ghost use Rattle.mq_outside.specs.Outside.{Adds};
 ghost use Rattle.mq_core.specs.Asked.{HasDemands};
@@ -18,7 +18,7 @@ use mq_core::{
 use mq_outside::{Gather, Sink, SinkFault, add_bytes};
 use mq_stats::{runs_give_visits, wait_of};
 
-// Puts how a visit ended, and the end of its line, in the place of what the line had.
+// Replaces the line by how a visit ended, and the line feed.
 #[tactic(auto, unfolding(crate::specs::Text::departs_words, crate::specs::Text::lost_words, crate::specs::Text::held_words))]
 fn put_fate(line: &mut Line, wait: u64, fate: Fate)
     ensures text { line.new ≡ fate_words wait fate }
@@ -38,7 +38,7 @@ fn put_fate(line: &mut Line, wait: u64, fate: Fate)
     }
 }
 
-// Puts the job, the node's name and the time of arrival of a visit before how it ended.
+// Puts the job, the node's name and the arrival time of a visit in front of how it ended.
 #[tactic(auto, unfolding(crate::specs::Text::visit_words))]
 fn put_words(line: &mut Line, name: &[u8], job: u32, arrive: u64)
     requires name { length name.now ≤ 32 }
@@ -53,7 +53,7 @@ fn put_words(line: &mut Line, name: &[u8], job: u32, arrive: u64)
     line.put_text(b"job ");
 }
 
-// Adds the line of a visit. It is written into the line that is given, whose bytes are lost.
+// Adds the line of a visit. It uses `line` to write in, and overwrites what it holds.
 fn add_visit<O: Sink>(
     out: &mut O,
     pending: &mut Gather,
@@ -123,7 +123,7 @@ fn add_jobs_at<O: Sink>(
     add_visits(out, pending, rows, name, &declared.kind, visits)
 }
 
-/// Adds the job lines, by rank of their nodes.
+/// Adds the job lines of all nodes, by rank.
 pub fn add_jobs<O: Sink>(
     out: &mut O,
     pending: &mut Gather,

@@ -1,7 +1,7 @@
 //! The report of a run.
 #![tactic(auto)]
 
-// Where a call of `drop` lets go of what is left, that spares proof: a call is proved once for a type, the end of a scope anew at each exit.
+// Calls of `drop` spare proof: a call is proved once for a type, but what the end of a scope drops is proved again at each exit.
 
 mod jobs;
 mod line;

@@ -1,4 +1,4 @@
-// A line that is written from its last byte to its first, so that each digit is put where it stays.
+// A line that is written from its last byte to its first, so that no digit has to be moved.
 ghost use Rattle.std.specs.Prelude.{◌≡◌, ◌+◌, ◌≤◌, ◌++◌, [], length, decimal};
 
 use itoa::write_digits;
@@ -6,9 +6,9 @@ use std::marker::Model;
 
 const SIZE: usize = 160;
 
-/// The end of a line, at most 160 bytes. It takes no memory but its own place on the stack.
+/// The end of a line, at most 160 bytes. It is on the stack and allocates nothing.
 ///
-/// A contract sees it as the list of its bytes.
+/// In contracts it is the list of its bytes.
 #[derive(Drop)]
 pub struct Line {
     bytes: [u8; SIZE],
@@ -26,7 +26,7 @@ impl Model for Line {
 }
 
 impl Line {
-    /// No byte so far.
+    /// Returns an empty line.
     pub fn new() -> Self
         ensures { result ≡ [] }
     {
@@ -36,14 +36,14 @@ impl Line {
         }
     }
 
-    /// Takes all bytes away.
+    /// Removes all bytes.
     pub fn clear(&mut self)
         ensures { self.new ≡ [] }
     {
         self.start = SIZE;
     }
 
-    /// Puts bytes before those that are there.
+    /// Puts bytes in front of those in the line.
     pub fn put_text(&mut self, text: &[u8])
         requires { length text.now + length self.old ≤ 160 }
         ensures text { self.new ≡ text.now ++ self.old }
@@ -54,7 +54,7 @@ impl Line {
         self.start = start;
     }
 
-    /// Puts the decimal digits of a number before the bytes that are there.
+    /// Puts the decimal digits of a number in front of the bytes in the line.
     pub fn put_number(&mut self, value: u64)
         requires { length self.old ≤ 140 }
         ensures text { self.new ≡ decimal value ++ self.old }
@@ -63,7 +63,7 @@ impl Line {
         self.start = write_digits(value, &mut self.bytes, self.start);
     }
 
-    /// The bytes.
+    /// Returns the bytes.
     pub fn as_slice(&self) -> &[u8]
         ensures { result.now ≡ self.now }
     {

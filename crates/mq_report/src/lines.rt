@@ -10,7 +10,8 @@ use mq_core::{Kind, servers_of};
 use mq_outside::{Gather, Piece, Sink, SinkFault, add_pieces};
 use mq_stats::{Exit, NodeTotals, Percentiles};
 
-/// Adds the first line, which names the form of the report, and the line of the jobs and the span.
+/// Adds the first line, which names the form of the report, and the line with the jobs and the
+/// span.
 #[tactic(auto, unfolding(crate::specs::Text::head_line, crate::specs::Text::jobs_line))]
 pub fn add_head<O: Sink>(
     out: &mut O,
@@ -53,7 +54,7 @@ fn kind_word(kind: &Kind) -> &'static [u8]
     }
 }
 
-// The share of their time in which servers work, in ten-thousandths, rounded down.
+// Returns the share of their time in which servers work, in ten-thousandths, rounded down.
 fn utilisation(busy: u128, servers: u8, span: u64) -> u128
     requires busy { busy < 2 ^ 100 }
     requires servers { 0 < servers }
@@ -65,7 +66,7 @@ fn utilisation(busy: u128, servers: u8, span: u64) -> u128
     10_000 * busy / (servers as u128 * span as u128)
 }
 
-// The last four digits of a number below 10,000, as text.
+// Returns the last four digits of a number below 10,000, as text.
 fn four_digits(n: u128) -> [u8; 4]
     requires { n < 10000 }
     ensures { result ≡ last_digits n }
@@ -78,7 +79,7 @@ fn four_digits(n: u128) -> [u8; 4]
     ]
 }
 
-// Adds a number of ten-thousandths, and the end of the line.
+// Adds a number of ten-thousandths as a decimal fraction, and the line feed.
 #[tactic(auto, unfolding(crate::specs::Text::ten_thousandths))]
 fn add_share<O: Sink>(out: &mut O, pending: &mut Gather, share: u128) -> Result<(), SinkFault>
     ensures { Adds O.taken O.sure O.faults out.old out.new pending.old pending.new result (ten_thousandths share) }
@@ -96,7 +97,7 @@ fn add_share<O: Sink>(out: &mut O, pending: &mut Gather, share: u128) -> Result<
     )
 }
 
-// Adds the utilisation, a dash where there are no servers, and the end of the line.
+// Adds the utilisation, or a dash if there are no servers, and the line feed.
 #[tactic(auto, unfolding(crate::specs::Text::utilisation_text))]
 fn add_utilisation<O: Sink>(
     out: &mut O,
@@ -114,7 +115,7 @@ fn add_utilisation<O: Sink>(
     add_share(out, pending, utilisation(busy, servers, span))
 }
 
-// Adds a node's name, the word of its kind, and its counts.
+// Adds a node's name, the word for its kind, and its counts.
 #[tactic(auto, unfolding(crate::specs::Text::node_words, crate::specs::Text::node_counts))]
 fn add_name_and_counts<O: Sink>(
     out: &mut O,
@@ -142,7 +143,7 @@ fn add_name_and_counts<O: Sink>(
     )
 }
 
-// Adds the number of those lost, and, where they are told, of those held.
+// Adds the number of lost visits and, if the report gives it, the number of held ones.
 #[tactic(auto, unfolding(crate::specs::Text::node_losses))]
 fn add_losses<O: Sink>(
     out: &mut O,
@@ -171,7 +172,7 @@ fn add_losses<O: Sink>(
     )
 }
 
-// Adds a node's waits.
+// Adds the sum of a node's waits and the longest wait.
 #[tactic(auto, unfolding(crate::specs::Text::node_waits))]
 fn add_waits<O: Sink>(
     out: &mut O,
@@ -191,7 +192,7 @@ fn add_waits<O: Sink>(
     )
 }
 
-// Adds percentiles of a node's waits, where they are told.
+// Adds the percentiles of a node's waits, if the report gives them.
 #[tactic(auto, unfolding(crate::specs::Text::node_tail))]
 fn add_tail<O: Sink>(
     out: &mut O,
@@ -218,7 +219,7 @@ fn add_tail<O: Sink>(
     }
 }
 
-// Adds a node's tallies.
+// Adds a node's busy time, area and peak.
 #[tactic(auto, unfolding(crate::specs::Text::node_tallies))]
 fn add_tallies<O: Sink>(
     out: &mut O,
@@ -241,7 +242,8 @@ fn add_tallies<O: Sink>(
     )
 }
 
-/// Adds the line of a node, with its held visits and percentiles of its waits where they are told.
+/// Adds the line of a node, with its held visits and the percentiles of its waits if the report
+/// gives them.
 pub fn add_node<O: Sink>(
     out: &mut O,
     pending: &mut Gather,

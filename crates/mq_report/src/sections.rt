@@ -1,4 +1,4 @@
-// The sections of a report, and the whole.
+// The sections of a report, and the whole report.
 ghost use Rattle.std.specs.Prelude.{◌≡◌, ◌≤◌, ◌<◌, ℕ, false, is_some, length, IfSome, OnOk, OnErr, Some, slice_get};
 ghost use Rattle.mq_outside.specs.Outside.{Adds, Rose, TakesFirst, TakesPrefix};
 ghost use Rattle.mq_core.specs.Sequences.{IsRunOf};
@@ -76,7 +76,7 @@ fn add_nodes<O: Sink>(
     Ok(())
 }
 
-// What leaves a node by an output that no input reads.
+// Returns what leaves a node by an output that no input reads.
 fn exit_at(
     plan: &Plan,
     rows: &Rows,
@@ -185,12 +185,12 @@ fn add_report<O: Sink>(
     add_jobs(out, pending, plan, rows, run)
 }
 
-/// Writes the report of a run that tells this, of form 1 or 2: the counts and times of each node by rank, what leaves by each
-/// output that no input reads, and, where the run is given, a line for each visit by rank of its node
-/// and then position. Form 2 tells the percentiles of each node's waits, and form 1 doesn't look at them. No node has more than
-/// 1,048,576 visits, as in each run that isn't refused. It takes no memory of its own.
+/// Writes the report of a run, of form 1 or 2, from these counts: the numbers of each node by rank, what leaves by each output
+/// that no input reads, and, if the run is given, a line for each visit by rank of its node and then by position. Form 2 has
+/// the percentiles of each node's waits; form 1 doesn't look at them. No node has more than 1,048,576 visits, which holds for
+/// each run that isn't refused. It allocates no memory.
 ///
-/// After a fault the sink took a first part of the report.
+/// If the sink fails, it has taken a first part of the report.
 pub fn report<O: Sink>(
     plan: &Plan,
     rows: &Rows,

@@ -1,4 +1,4 @@
-// The percentiles of waits that a report tells.
+// The percentiles of waits in a report.
 ghost use Rattle.std.specs.Prelude.{◌≡◌, Some, option_map, slice_get};
 ghost use Rattle.mq_core.specs.Results.{visits_of};
 ghost use Rattle.mq_core.specs.StandardTable.{run_of};
@@ -11,7 +11,7 @@ use mq_core::{Node, Plan, Rows};
 use mq_counts::Counts;
 use mq_stats::Percentiles;
 
-/// The percentiles of the waits at a node that the report tells, from what the run tells.
+/// Returns the percentiles of the waits at a node if the form is 2, and `None` otherwise.
 pub fn told_tail(
     plan: &Plan,
     rows: &Rows,

@@ -1,4 +1,4 @@
--- What rounds of guesses come to, by a rule that gives an admission for each list of arrivals and their demands.
+-- What rounds of guesses lead to, for a rule that gives an admission for each list of arrivals and demands.
 use Rattle.std.specs.Prelude.{◌≡◌, ℕ, ◌+◌, Bool, List, length, slice_get, take, Some, ◌↔◌}
 use Rattle.mq_rounds.specs.Rounds.{Rule, left_of, round_of}
 
@@ -6,7 +6,7 @@ use Rattle.mq_rounds.specs.Rounds.{Rule, left_of, round_of}
 abbrev pub IsRightOn : ℕ → List Bool → List Bool → Type 0
 IsRightOn count admission guess = take count guess ≡ take count admission
 
--- a round makes it right on one arrival more
+-- a round makes a guess right on one more arrival
 abbrev pub GuessesGrow : Rule → (List ℕ → List ℕ → List Bool) → Type 0
 GuessesGrow rule admission =
     (count : ℕ) (times demands : List ℕ) (guess : List Bool)
@@ -15,7 +15,7 @@ GuessesGrow rule admission =
     → IsRightOn count (admission times demands) guess
     → IsRightOn (count + 1) (admission times demands) (round_of rule times demands guess)
 
--- a round leaves the admission as it is, and no other guess
+-- a round leaves the admission unchanged, and no other guess
 abbrev pub OneGuessStays : Rule → (List ℕ → List ℕ → List Bool) → Type 0
 OneGuessStays rule admission =
     (times demands : List ℕ) (guess : List Bool)

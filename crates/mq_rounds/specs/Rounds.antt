@@ -4,7 +4,7 @@ use Rattle.std.specs.Prelude.{ℕ, Bool, true, false, List, [], ◌∷◌, map, 
 use Rattle.mq_core.specs.declared.model.Fate.{Fate}
 use Rattle.mq_core.specs.declared.model.Fate.TheVariants.{Departs, Held, Lost}
 
--- How a station judges an arrival, and when one departs that is admitted, with its demand. Both go by the departures of those
+-- How a station judges an arrival, and when an admitted one departs, given its demand. Both depend on the departures of those
 -- admitted before it, the latest admitted first.
 pub record Rule : Type 0 where
   pub judges : List ℕ → ℕ → Bool
@@ -16,14 +16,14 @@ admits (Departs time) = true
 admits Lost = false
 admits Held = true
 
--- the fate of each arrival, by whether it is admitted and the departures of those that are, by position
+-- the fate of each arrival, given whether it is admitted, and the departures of those that are, by position
 abbrev pub fates_by : List Bool → List ℕ → List Fate
 fates_by [] departs = []
 fates_by (false ∷ admitted) departs = Lost ∷ fates_by admitted departs
 fates_by (true ∷ admitted) [] = Lost ∷ fates_by admitted []
 fates_by (true ∷ admitted) (time ∷ departs) = Departs time ∷ fates_by admitted departs
 
--- how the arrivals fare by a rule, where those admitted before them left at these times, the latest admitted first
+-- the fates of arrivals by a rule, if those admitted before them left at these times, the latest admitted first
 abbrev pub fates_from : Rule → List ℕ → List ℕ → List ℕ → List Fate
 fates_from rule left [] demands = []
 fates_from rule left (arrive ∷ arrives) [] = []
@@ -32,7 +32,7 @@ fates_from rule left (arrive ∷ arrives) (demand ∷ demands) =
     then (Departs (rule.departs left arrive demand) ∷ fates_from rule (rule.departs left arrive demand ∷ left) arrives demands)
     else (Lost ∷ fates_from rule left arrives demands)
 
--- which of them are admitted
+-- which of these arrivals are admitted
 abbrev pub admission_from : Rule → List ℕ → List ℕ → List ℕ → List Bool
 admission_from rule left times demands = map admits (fates_from rule left times demands)
 
@@ -40,7 +40,7 @@ admission_from rule left times demands = map admits (fates_from rule left times 
 abbrev pub admission_of : Rule → List ℕ → List ℕ → List Bool
 admission_of rule times demands = admission_from rule [] times demands
 
--- when those that are guessed admitted depart, the latest admitted first, with one more job that is guessed admitted or not
+-- the departures of those guessed admitted, the latest admitted first, after one more job, which is guessed admitted or not
 abbrev pub left_behind : (List ℕ → ℕ → ℕ → ℕ) → Bool → List ℕ → ℕ → ℕ → List ℕ
 left_behind departs true left arrive demand = departs left arrive demand ∷ left
 left_behind departs false left arrive demand = left
@@ -57,7 +57,7 @@ round_from rule left (arrive ∷ arrives) (demand ∷ demands) (admit ∷ guess)
 abbrev pub round_of : Rule → List ℕ → List ℕ → List Bool → List Bool
 round_of rule times demands guess = round_from rule [] times demands guess
 
--- when those depart, by position, that a guess admits behind these, which left the latest admitted first
+-- the departures, by position, of those that a guess admits, after jobs that left at these times, the latest admitted first
 abbrev pub departures_from : (List ℕ → ℕ → ℕ → ℕ) → List ℕ → List ℕ → List ℕ → List Bool → List ℕ
 departures_from departs left [] demands guess = []
 departures_from departs left (arrive ∷ arrives) [] guess = []
@@ -66,11 +66,11 @@ departures_from departs left (arrive ∷ arrives) (demand ∷ demands) (true ∷
     departs left arrive demand ∷ departures_from departs (departs left arrive demand ∷ left) arrives demands guess
 departures_from departs left (arrive ∷ arrives) (demand ∷ demands) (false ∷ guess) = departures_from departs left arrives demands guess
 
--- when those depart, by position, that a guess admits
+-- the departures, by position, of those that a guess admits
 abbrev pub departures_of : (List ℕ → ℕ → ℕ → ℕ) → List ℕ → List ℕ → List Bool → List ℕ
 departures_of departs times demands guess = departures_from departs [] times demands guess
 
--- the same times, of the latest admitted first
+-- the same times, the latest admitted first
 abbrev pub left_of : (List ℕ → ℕ → ℕ → ℕ) → List ℕ → List ℕ → List Bool → List ℕ
 left_of departs times demands guess = reverse (departures_of departs times demands guess)
 

@@ -3,29 +3,28 @@ use Rattle.std.specs.Prelude.{◌≡◌, ℕ, zero, suc, ◌+◌, ◌*◌, ◌<�
 use Rattle.mq_rounds.specs.Rounds.{Rule, all_admitted, round_of}
 use Rattle.mq_rounds.specs.declared.windows.Progress.{Progress}
 
--- what the round of a window settles, where all were guessed admitted: its outcome up to the first that it changed, or all
+-- what a window's round settles, if all were guessed admitted: the outcome up to the first arrival that it changed, or all
 abbrev pub settled_part : List Bool → List Bool
 settled_part [] = []
 settled_part (true ∷ outcome) = true ∷ settled_part outcome
 settled_part (false ∷ outcome) = false ∷ []
 
--- the length of the window behind one of which so many arrivals were settled: twice as long where these are all, and else as
--- many as were settled
+-- the length of the window after one in which this many arrivals were settled: twice its length if these are all, and
+-- otherwise the number of settled arrivals
 abbrev pub next_width : ℕ → ℕ → ℕ
 next_width settled width = if settled == width then 2 * width else settled
 
--- what one round makes of a window: it begins behind the settled arrivals, and all of it, up to the last arrival, is guessed
--- admitted
+-- what one round makes of a window, which begins after the settled arrivals and is guessed admitted up to the last arrival
 abbrev pub window_after : Rule → List ℕ → List ℕ → List Bool → ℕ → List Bool
 window_after rule times demands settled width = drop (length settled) (round_of rule times demands (settled ++ all_admitted width))
 
--- Where a run of windows stands: the settled arrivals, the length of the next window, and the judgements of the rounds made.
+-- The state of a run of windows: the settled arrivals, the length of the next window, and the number of judgements made.
 pub record Stand : Type 0 where
   pub settled : List Bool
   pub width : ℕ
   pub judged : ℕ
 
--- behind a window whose round had this outcome
+-- the state after a window whose round had this outcome
 abbrev pub after_window : Stand → List Bool → Stand
 after_window stand outcome = record {
   settled = stand.settled ++ settled_part outcome;
@@ -33,21 +32,21 @@ after_window stand outcome = record {
   judged = stand.judged + length outcome;
 }
 
--- one window further
+-- the state after one more window
 abbrev pub one_window : Rule → List ℕ → List ℕ → Stand → Stand
 one_window rule times demands stand = after_window stand (window_after rule times demands stand.settled stand.width)
 
--- after so many windows, the first of this length
+-- the state after this many windows, the first of this length
 abbrev pub after_windows : Rule → List ℕ → List ℕ → ℕ → ℕ → Stand
 after_windows rule times demands first zero = record { settled = []; width = first; judged = 0 }
 after_windows rule times demands first (suc windows) = one_window rule times demands (after_windows rule times demands first windows)
 
--- so many windows, one round each, settle all arrivals, and the judgements are the sum of their lengths
+-- this many windows, one round each, settle all arrivals and no fewer do; the judgements are the sum of their lengths
 pub record IsWindowRun (rule : Rule) (times demands : List ℕ) (first rounds judgements : ℕ) : Type 0 where
   pub before : (windows : ℕ) → windows < rounds → length (after_windows rule times demands first windows).settled < length times
   pub all : length (after_windows rule times demands first rounds).settled ≡ length times
   pub judged : judgements ≡ (after_windows rule times demands first rounds).judged
 
--- where the run stands that has come so far, with the length of the next window
+-- the state of a run with this progress and this length of the next window
 abbrev pub stand_of : Progress → ℕ → Stand
 stand_of progress width = record { settled = progress.admitted.items; width = width; judged = progress.judged }

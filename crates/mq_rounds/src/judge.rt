@@ -7,21 +7,22 @@ use mq_base::{List, Steps};
 use mq_core::Stream;
 use std::sync::ledger::Ledger;
 
-/// A station that settles its arrivals window by window, one round a window.
+/// A station that settles its arrivals window by window, one round per window.
 pub trait Judge {
-    /// How it judges an arrival, and when one departs that is admitted.
+    /// How it judges an arrival, and when an admitted one departs.
     ghost rule: { Self → Rule };
 
-    /// It stands behind jobs that left at these times, the latest admitted first.
+    /// Whether its state follows jobs that left at these times, the latest admitted first.
     ghost behind: { Self → List ℕ → Type 0 };
 
-    /// How many steps it counts where so many arrivals are settled, in windows of so many together.
+    /// The number of steps that it counts to settle this many arrivals, in windows of this total
+    /// length.
     ghost counted: { ℕ → ℕ → ℕ };
 
-    /// The round over the arrivals from `from` up to `to`, all guessed admitted: what it settles is put
-    /// behind the settled arrivals, and the departures of those admitted behind theirs. Times are in
-    /// ticks and demands ticks of service, one an item of the stream. It takes no memory and refuses
-    /// nothing.
+    /// Makes the round over the arrivals from `from` up to `to`, all guessed admitted. Appends what it
+    /// settles to the settled arrivals, and the departures of the admitted to theirs. Times are in
+    /// ticks and demands in ticks of service, one per item of the stream. Takes no memory and can't
+    /// fail.
     fn judge_window<L: Ledger>(
         &mut self,
         stream: &Stream,
@@ -48,6 +49,6 @@ pub trait Judge {
         ensures space { vec_capacity departs.new ≡ vec_capacity departs.old }
         ensures cost { steps.new ≡ steps.old + counted (vec_len admitted.new - vec_len admitted.old) (to - from) };
 
-    /// What several windows count adds up.
+    /// The counts of several windows add up.
     ghost adds: { (settled judged more others : ℕ) → counted (settled + more) (judged + others) ≡ counted settled judged + counted more others };
 }

@@ -1,6 +1,6 @@
-//! Rounds of guesses (Greenberg, Lubachevsky and Mitrani 1991): which arrivals a station admits that
-//! judges each by the departures of those admitted before it. A run of rounds settles them window by
-//! window.
+//! Rounds of guesses (Greenberg, Lubachevsky and Mitrani 1991), which find the arrivals that a
+//! station admits if it judges each by the departures of those admitted before it. A run of rounds
+//! settles the arrivals window by window.
 #![tactic(auto)]
 
 mod judge;

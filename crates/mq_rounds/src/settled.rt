@@ -1,14 +1,14 @@
 use mq_base::List;
 
-/// What the arrivals at a station come to that admits or loses each.
+/// The outcome of the arrivals at a station that admits or loses each.
 #[derive(Drop)]
 pub struct Settled {
     /// Whether each arrival is admitted, by position.
     pub admitted: List<bool>,
-    /// When those that are admitted depart, in ticks, by position.
+    /// The departures of the admitted arrivals, in ticks, by position.
     pub departs: List<u64>,
-    /// How many rounds were made.
+    /// The number of rounds.
     pub rounds: u32,
-    /// How many arrivals these rounds have together.
+    /// The number of judgements: the sum of the numbers of arrivals in these rounds.
     pub judged: u64,
 }

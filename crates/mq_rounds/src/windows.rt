@@ -10,8 +10,8 @@ use mq_core::Stream;
 use std::alloc::Global;
 use std::sync::ledger::Ledger;
 
-// Where a run of windows stands: the settled arrivals and the departures of those admitted, in
-// vectors with room for all arrivals, and the rounds and their judgements.
+// The state of a run of windows: the settled arrivals and the departures of the admitted, in vectors
+// with room for all arrivals, and the numbers of rounds and judgements.
 #[derive(Drop)]
 struct Progress {
     admitted: Vec<bool>,
@@ -20,7 +20,7 @@ struct Progress {
     judged: u64,
 }
 
-// A run of windows that has not begun, with room for so many arrivals.
+// A run of windows that hasn't begun, with room for `count` arrivals.
 fn with_room(alloc: Global, count: usize) -> Result<Progress, OutOfMemory>
     ensures admitted { IfOk result (λ progress. progress.admitted.items ≡ []) }
     ensures departs { IfOk result (λ progress. progress.departs.items ≡ []) }
@@ -39,7 +39,7 @@ fn with_room(alloc: Global, count: usize) -> Result<Progress, OutOfMemory>
     })
 }
 
-// The length of the window behind one of which so many arrivals were settled.
+// The length of the window after one of length `width` in which `settled` arrivals were settled.
 fn width_after(settled: usize, width: usize) -> usize
     requires { width ≤ 2 ^ 34 }
     ensures { result ≡ next_width settled width }
@@ -47,7 +47,7 @@ fn width_after(settled: usize, width: usize) -> usize
     if settled == width { 2 * width } else { settled }
 }
 
-// Settles the next window, of this length or what is left, and gives the length of the one after it.
+// Settles the next window, of this length or what is left, and returns the length of the one after it.
 fn settle_window<J: Judge, L: Ledger>(
     stream: &Stream,
     demands: &List<u64>,
@@ -92,16 +92,16 @@ fn settle_window<J: Judge, L: Ledger>(
     width_after(count, to - from)
 }
 
-/// Which arrivals of the stream a station admits, and when they depart: settled by rounds over
-/// windows, one round a window, the first of `first` arrivals. Those of a window are guessed admitted;
-/// its round settles them up to the first that it changes, or all. The next window begins behind the
-/// settled arrivals, and is twice as long where all were settled; else it has as many arrivals as were
-/// settled.
+/// Returns which arrivals of the stream a station admits, and when they depart. Rounds over windows
+/// settle the arrivals, one round per window; the first window has `first` arrivals. All arrivals of a
+/// window are guessed admitted; its round settles them up to the first that it changes, or all. The
+/// next window begins after the settled arrivals. It is twice as long if all were settled; otherwise
+/// it has as many arrivals as were settled.
 ///
-/// Times and departures are in ticks, demands are ticks of service; there is one demand per item of
-/// the stream, and a first window of at least 1. The station has no job behind it. `judged` is the sum
-/// of the lengths of the windows, at most twice the arrivals and `first`; there are at most as many
-/// rounds as arrivals. It refuses for want of memory alone, before it counts a step.
+/// Times and departures are in ticks, demands in ticks of service; there is one demand per item of the
+/// stream, and `first` must be at least 1. No job may have come to the station before. `judged` is the
+/// sum of the lengths of the windows, at most twice the number of arrivals plus `first`; there are at
+/// most as many rounds as arrivals. The only error is that memory runs out, before a step is counted.
 pub fn settle_windows<J: Judge, L: Ledger>(
     alloc: Global,
     stream: &Stream,

@@ -1,2 +1,2 @@
--- The lemmas that proofs of other crates cite too, a page a topic. What else stands in proofs is this crate's own.
+-- The lemmas that the proofs of other crates cite too, one page per topic. Everything else in proofs is this crate's own.
 pub mod Blocks

@@ -7,7 +7,7 @@ use crate::{Blocks, Step, Timed, carries, summarise, times};
 use mq_base::{List, OutOfMemory};
 use std::alloc::Global;
 
-/// What the jobs of block `b` do together, which is below the number of blocks of a cut of all jobs.
+/// Returns the summary of the jobs of block `b`, below the number of blocks of a cut of all jobs.
 pub fn block_summary<P: Step>(step: &P, blocks: &Blocks, b: u32) -> P::Summary
     requires all { blocks.now.n ≡ P.size step.now }
     requires inside { b < blocks.now.blocks }
@@ -17,8 +17,8 @@ pub fn block_summary<P: Step>(step: &P, blocks: &Blocks, b: u32) -> P::Summary
     summarise(step, from, to)
 }
 
-/// The carry before each block of a cut of all jobs, of the summaries of all blocks. It refuses for want
-/// of memory alone.
+/// Returns the carry before each block of a cut of all jobs, from the summaries of all blocks. Fails only
+/// if memory runs out.
 pub fn block_carries<P: Step>(
     alloc: Global,
     step: &P,
@@ -34,8 +34,8 @@ pub fn block_carries<P: Step>(
     carries(alloc, step, sums)
 }
 
-/// The time that is read of the carry after each job of block `b` of a cut of all jobs, from the carry
-/// before each block. It refuses for want of memory alone.
+/// Returns the time read from the carry after each job of block `b` of a cut of all jobs, given the carry
+/// before each block. Fails only if memory runs out.
 pub fn block_times<P: Timed>(
     alloc: Global,
     step: &P,
@@ -53,8 +53,8 @@ pub fn block_times<P: Timed>(
     times(alloc, step, from, to, *before.get(b as usize))
 }
 
-/// The time that is read of the carry after each job, of the times of each block of a cut of all jobs, one
-/// block after another. It refuses for want of memory alone.
+/// Returns the time read from the carry after each job, given the times of each block of a cut of all
+/// jobs, by joining the blocks in order. Fails only if memory runs out.
 pub fn joined_times<P: Timed>(
     alloc: Global,
     step: &P,

@@ -1,4 +1,4 @@
-// The passes of a scan, over ranges and over all.
+// The passes of a scan, over a range of jobs and over all.
 ghost use Rattle.std.specs.Prelude.{◌≡◌, ℕ, ◌+◌, ◌-◌, ◌*◌, ◌<◌, ◌≤◌, ◌++◌, length, map, IfOk};
 ghost use Rattle.std.specs.Vec.{vec_len, vec_capacity};
 ghost use Rattle.mq_scan.specs.Folds.{carries_after, fold_to, span, AreBefore, AreSummaries, MayTurn};
@@ -7,8 +7,8 @@ use crate::{Step, Timed, cut};
 use mq_base::{List, OutOfMemory};
 use std::alloc::Global;
 
-/// What the jobs from one index up to another do together. There is one at least. It acts on the
-/// carry before them as they do in turn.
+/// Returns what the jobs from one index up to another, at least one, do together. It acts on the carry
+/// before them as they do in turn.
 pub fn summarise<P: Step>(step: &P, from: u32, to: u32) -> P::Summary
     requires some { from < to }
     requires inside { to ≤ P.size step.now }
@@ -20,8 +20,8 @@ pub fn summarise<P: Step>(step: &P, from: u32, to: u32) -> P::Summary
     all
 }
 
-/// The carry before each block, where the items are the summaries of the blocks of one cut of all
-/// jobs, the first of them or all. It refuses for want of memory alone.
+/// Returns the carry before each block, given the summaries of the blocks of one cut of all jobs: of all
+/// blocks, or of the first ones. Fails only if memory runs out.
 pub fn carries<P: Step>(
     alloc: Global,
     step: &P,
@@ -40,8 +40,8 @@ pub fn carries<P: Step>(
     Ok(List::from_vec(before))
 }
 
-/// The carry after each job from one index up to another, where `carry` is the one before them. There
-/// is one at least. It refuses for want of memory alone.
+/// Returns the carry after each job from one index up to another, at least one, given the carry before
+/// them. Fails only if memory runs out.
 pub fn apply<P: Step>(
     alloc: Global,
     step: &P,
@@ -60,8 +60,8 @@ pub fn apply<P: Step>(
     Ok(List::from_vec(after))
 }
 
-/// The time that is read of the carry after each job from one index up to another, where `carry` is
-/// the one before them. There is one at least. It refuses for want of memory alone.
+/// Returns the time read from the carry after each job from one index up to another, at least one, given
+/// the carry before them. Fails only if memory runs out.
 pub fn times<P: Timed>(
     alloc: Global,
     step: &P,
@@ -80,7 +80,7 @@ pub fn times<P: Timed>(
     Ok(List::from_vec(times))
 }
 
-// Appends the time that is read of the carry after each job of a range, for which there is room.
+// Appends the time read from the carry after each job of a range, for which there is room.
 fn push_times<P: Timed>(step: &P, from: u32, to: u32, carry: &mut P::Carry, times: &mut Vec<u64>)
     requires some { from ≤ to }
     requires inside { to ≤ P.size step.now }
@@ -120,8 +120,8 @@ fn push_carries<P: Step>(
     }
 }
 
-/// The carry after each job, block after block. It refuses for want of memory alone.
-// One thread knows the carry before each block when it comes there, and so needs no summaries.
+/// Returns the carry after each job, computed block by block. Fails only if memory runs out.
+// One thread knows the carry before each block when it gets there, and so needs no summaries.
 pub fn scan<P: Step>(alloc: Global, step: &P, block: u32) -> Result<List<P::Carry>, OutOfMemory>
     requires { 1 ≤ block }
     ensures { IfOk result (λ after. after ≡ carries_after P.acted (P.start step.now) (P.part step.now) 0 (P.size step.now)) }
@@ -136,8 +136,8 @@ pub fn scan<P: Step>(alloc: Global, step: &P, block: u32) -> Result<List<P::Carr
     Ok(List::from_vec(after))
 }
 
-/// The time that is read of the carry after each job, block after block. It refuses for want of
-/// memory alone.
+/// Returns the time read from the carry after each job, computed block by block. Fails only if memory
+/// runs out.
 pub fn scan_times<P: Timed>(alloc: Global, step: &P, block: u32) -> Result<List<u64>, OutOfMemory>
     requires { 1 ≤ block }
     ensures { IfOk result (λ times. times ≡ map (P.time_of step.now) (carries_after P.acted (P.start step.now) (P.part step.now) 0 (P.size step.now))) }
@@ -152,7 +152,7 @@ pub fn scan_times<P: Timed>(alloc: Global, step: &P, block: u32) -> Result<List<
     Ok(List::from_vec(times))
 }
 
-/// Law. The summary of a range acts as its jobs in turn on every carry on which they may act, also on one
+/// Law. The summary of a range acts as its jobs do in turn on every carry on which they may act, even one
 /// that isn't the fold's.
 pub fn summaries_act<P: Step>(step: &P)
     ensures { (carry : P.Carry) (from n : ℕ) → from + n + 1 ≤ P.size step.now → MayTurn P.joined P.acted P.can_act (P.part step.now) from (n + 1) carry → P.acted (span P.joined (P.part step.now) from n) carry ≡ fold_to P.acted carry (λ k. P.part step.now (from + k)) (n + 1) }

@@ -2,17 +2,17 @@
 ghost use Rattle.std.specs.Prelude.{◌≡◌, ℕ, ◌+◌, ◌-◌, ◌<◌, ◌≤◌};
 ghost use Rattle.mq_scan.specs.Folds.{extended, fold_to, span};
 
-/// Jobs that act one after another on a carry, as each job of a server on the last departure. What
-/// several neighbouring jobs do together is a summary, by which a scan can be cut into blocks. No
-/// method takes memory.
+/// Jobs that act one after another on a carry, as the jobs of a server act on the last departure. What
+/// several neighbouring jobs do together is a summary, which lets a scan be cut into blocks. No method
+/// takes memory.
 pub trait Step {
-    /// What one job leaves to the next.
+    /// What one job leaves for the next.
     type Carry: Copy;
 
     /// What neighbouring jobs do to a carry together.
     type Summary: Copy;
 
-    /// How many jobs there are.
+    /// The number of jobs.
     ghost size: { Self → ℕ };
 
     /// The carry before the first job.
@@ -21,43 +21,43 @@ pub trait Step {
     /// What the job at an index does.
     ghost part: { Self → ℕ → Self.Summary };
 
-    /// What one summary and then another do together.
+    /// What one summary followed by another does.
     ghost joined: { Self.Summary → Self.Summary → Self.Summary };
 
     /// What a summary makes of a carry.
     ghost acted: { Self.Summary → Self.Carry → Self.Carry };
 
-    /// The two may be composed: the sums that this makes fit.
+    /// The two may be composed: the sums in the composition fit.
     ghost can_join: { Self.Summary → Self.Summary → Type 0 };
 
-    /// The summary may act on the carry: the sums that this makes fit.
+    /// The summary may act on the carry: the sums in the result fit.
     ghost can_act: { Self.Summary → Self.Carry → Type 0 };
 
-    /// How many jobs there are.
+    /// Returns the number of jobs.
     fn count(&self) -> u32
         ensures { result ≡ size self.now };
 
-    /// The carry before the first job.
+    /// Returns the carry before the first job.
     fn first(&self) -> Self::Carry
         ensures { result ≡ start self.now };
 
-    /// What the job at an index does, which is below the count.
+    /// Returns what the job at an index, below the count, does.
     fn one(&self, at: u32) -> Self::Summary
         requires { at < size self.now }
         ensures { result ≡ part self.now at };
 
-    /// What one summary and then another do together.
+    /// Returns what one summary followed by another does.
     fn then(a: Self::Summary, b: Self::Summary) -> Self::Summary
         requires { can_join a b }
         ensures { result ≡ joined a b };
 
-    /// What a summary makes of a carry.
+    /// Returns what a summary makes of a carry.
     fn act(s: Self::Summary, c: Self::Carry) -> Self::Carry
         requires { can_act s c }
         ensures { result ≡ acted s c };
 
-    /// Adds the jobs from one index up to another behind those of a summary: one by one, or as a station
-    /// does it faster.
+    /// Appends the jobs from one index up to another to those of a summary: one by one, or by a faster way
+    /// that a station has.
     fn extend(&self, sum: &mut Self::Summary, from: u32, to: u32)
         requires order { from ≤ to }
         requires inside { to ≤ size self.now }
@@ -69,8 +69,8 @@ pub trait Step {
         }
     }
 
-    /// Lets the job at an index, which is below the count, act on a carry: by its summary, or as a station
-    /// does it faster.
+    /// Lets the job at an index, below the count, act on a carry: by its summary, or by a faster way that
+    /// a station has.
     fn advance(&self, carry: &mut Self::Carry, at: u32)
         requires inside { at < size self.now }
         requires can { can_act (part self.now at) carry.old }
@@ -85,26 +85,26 @@ pub trait Step {
     /// The summary of a range may act on the carry of the fold before it.
     ghost spans_act: { (s : Self) (from n : ℕ) → from + n + 1 ≤ size s → can_act (span joined (part s) from n) (fold_to acted (start s) (part s) from) };
 
-    /// Composition is associative, where it may be made.
+    /// Composition is associative wherever it is allowed.
     ghost joins: { (a b c : Self.Summary) → can_join a b → can_join (joined a b) c → can_join b c → can_join a (joined b c) → joined (joined a b) c ≡ joined a (joined b c) };
 
-    /// Acting by a composition is acting by one and then the other.
+    /// Acting by a composition is acting by its first summary and then by its second.
     ghost acts: { (a b : Self.Summary) (c : Self.Carry) → can_join a b → can_act a c → can_act b (acted a c) → can_act (joined a b) c → acted (joined a b) c ≡ acted b (acted a c) };
 }
 
-/// Jobs of whose carry a time is read, as the last departure.
+/// Jobs from whose carry a time can be read, such as the last departure.
 pub trait Timed: Step {
-    /// The time that is read of a carry.
+    /// The time read from a carry.
     ghost time_of: { Self → Self.Carry → ℕ };
 
-    /// The time may be read of the carry.
+    /// The time may be read from the carry.
     ghost can_time: { Self → Self.Carry → Type 0 };
 
-    /// The time that is read of a carry, in ticks.
+    /// Returns the time read from a carry, in ticks.
     fn time(&self, carry: &Self::Carry) -> u64
         requires { can_time self.now carry.now }
         ensures { result ≡ time_of self.now carry.now };
 
-    /// The time may be read of the carries of the fold.
+    /// The time may be read from the carries of the fold.
     ghost folds_time: { (s : Self) (n : ℕ) → n ≤ Self.size s → can_time s (fold_to Self.acted (Self.start s) (Self.part s) n) };
 }

@@ -1,4 +1,4 @@
--- Laws that the step's ghost members cite: the sums of a server's scan fit a u64.
+-- Laws that the step's ghost members cite: the sums of a server's scan fit in a u64.
 use Rattle.std.proofs.Common.{ℕ, zero, suc, ◌+◌, ◌*◌, ◌^◌, ◌<◌, ◌≤◌, List, length, get_or, arith}
 use Rattle.std.proofs.lemmas.List.Elements.{All-get_or, All-weaker}
 use Rattle.mq_maxplus.specs.declared.mp.Mp.{Mp}
@@ -11,7 +11,7 @@ use Rattle.mq_scan.specs.Folds.{span, fold_to}
 use Rattle.mq_core.specs.Sequences.{IsSoundLoad}
 use Rattle.mq_server.specs.Jobs.{job, IsLateLoad}
 
--- a sound load is one that comes early
+-- a sound load is also a late load: its times are at most 2^60
 pub late-enough : (times demands : List ℕ) → IsSoundLoad times demands → IsLateLoad times demands
 late-enough times demands load = record { few = load.few; each = load.each; early = All-weaker (λ t. t ≤ 2 ^ 60) (λ t. t ≤ 2 ^ 62) later times load.early; small = load.small }
   where
@@ -28,7 +28,7 @@ module _ (arrive demands : List ℕ) (load : IsLateLoad arrive demands) where
   pub small-at : (k : ℕ) → k < length arrive → get_or demands k 0 ≤ 2 ^ 36
   small-at k l = let each = load.each in All-get_or (λ t. t ≤ 2 ^ 36) demands k 0 (omega arith) load.small
 
-  -- a sum that is made in front of the job at an index, and then its
+  -- if a sum is within a limit before the job at an index, it is within the next limit after it
   job-within : (x : Mp) (at n : ℕ) → at < length arrive → IsWithin (2 ^ 62 + n * 2 ^ 36) x → IsWithin (2 ^ 62 + suc n * 2 ^ 36) (mp_max (mp_plus x (At (get_or demands at 0))) (At (get_or arrive at 0 + get_or demands at 0)))
   job-within x at n l h =
       let t = early-at at l in

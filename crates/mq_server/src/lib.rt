@@ -17,14 +17,14 @@ use mq_scan::scan_times;
 use std::alloc::Global;
 pub use step::ServerStep;
 
-// How many jobs of a scan are a block.
+// The number of jobs in a block of the scan.
 const BLOCK: u32 = 4096;
 
-/// When each job leaves a server that serves the jobs one by one in the order of the stream: one
-/// departure a job, by position, in ticks. A job begins at its arrival or when the job before it
-/// leaves, whichever is later, and takes its demand, in ticks of service (Lindley's recurrence).
-/// It is a scan of the affine maps that the jobs make of the last departure (Greenberg, Lubachevsky
-/// and Mitrani, 1991). It refuses for want of memory alone.
+/// Returns when each job leaves a server that serves the jobs one by one in the order of the stream:
+/// one departure per job, by position, in ticks. A job begins at its arrival or when the job before
+/// it leaves, whichever is later, and takes its demand, in ticks of service (Lindley's recurrence).
+/// The departures are a scan of the affine maps by which the jobs act on the last departure
+/// (Greenberg, Lubachevsky and Mitrani, 1991). The only error is that memory runs out.
 pub fn departures(
     alloc: Global,
     stream: &Stream,
@@ -36,8 +36,9 @@ pub fn departures(
     departures_of(alloc, &ServerStep::new(stream, demands))
 }
 
-/// The same for jobs that come at these times, from other servers perhaps: in ticks, by position, and
-/// up to 2^62, later than those of a stream. It refuses for want of memory alone.
+/// Returns when each job leaves a server, as `departures` does, but for jobs that come at any times
+/// up to 2^62, such as jobs from other servers. Times are in ticks, by position. The only error is
+/// that memory runs out.
 pub fn departures_behind(
     alloc: Global,
     arrive: &List<u64>,
@@ -49,7 +50,7 @@ pub fn departures_behind(
     departures_of(alloc, &ServerStep::behind(arrive, demands))
 }
 
-// When each job leaves the server. It is not inlined, so that its loop has the registers to itself.
+// When each job leaves the server. It isn't inlined, so that its loop has the registers to itself.
 #[inline(never)]
 fn departures_of(alloc: Global, step: &ServerStep) -> Result<List<u64>, OutOfMemory>
     ensures { IfOk result (λ departs. departs ≡ lindley 0 step.now.arrive.now step.now.demands.now) }
@@ -57,7 +58,7 @@ fn departures_of(alloc: Global, step: &ServerStep) -> Result<List<u64>, OutOfMem
     scan_times(alloc, step, BLOCK)
 }
 
-/// Law. The carries of the fold of a server's jobs, of each the time, are Lindley's departures.
+/// Law: the times of the carries of the fold of a server's jobs are Lindley's departures.
 pub fn carries_are_departures(step: &ServerStep)
     ensures { map mp_or_zero (carries_after affine_act Void (job step.now.arrive.now step.now.demands.now) 0 (length step.now.arrive.now)) ≡ lindley 0 step.now.arrive.now step.now.demands.now }
 {

@@ -12,19 +12,20 @@ use mq_core::Stream;
 use mq_maxplus::{Affine, Mp};
 use mq_scan::{Step, Timed};
 
-/// The jobs of a server, which act on its last departure one after another: before the first there
-/// is none. Jobs together are an affine map (Greenberg, Lubachevsky and Mitrani, 1991).
+/// The jobs of a server, which act on its last departure one after another; before the first job
+/// there is none. Neighbouring jobs together are one affine map (Greenberg, Lubachevsky and
+/// Mitrani, 1991).
 #[derive(Clone, Copy)]
 pub struct ServerStep<'a> {
-    /// When the jobs come, by position, in ticks.
+    /// The arrival times, by position, in ticks.
     pub arrive: &'a List<u64>,
-    /// What they need, by position, in ticks of service.
+    /// The demands, by position, in ticks of service.
     pub demands: &'a List<u64>,
     ghost load: { IsLateLoad arrive.now demands.now },
 }
 
 impl<'a> ServerStep<'a> {
-    /// The jobs of a stream, with their demands in ticks of service. It takes no memory.
+    /// Returns the jobs of a stream, with their demands in ticks of service. Takes no memory.
     pub fn new(stream: &'a Stream, demands: &'a List<u64>) -> ServerStep<'a>
         requires { IsSoundLoad stream.now.time demands.now }
         ensures arrive { result.arrive.now ≡ stream.now.time }
@@ -33,8 +34,8 @@ impl<'a> ServerStep<'a> {
         ServerStep::behind(&stream.time, demands)
     }
 
-    /// The jobs that come at these times, in ticks and up to 2^62, from other servers. It takes no
-    /// memory.
+    /// Returns the jobs that come at these times, in ticks and up to 2^62, such as jobs from other
+    /// servers. Takes no memory.
     pub fn behind(arrive: &'a List<u64>, demands: &'a List<u64>) -> ServerStep<'a>
         requires { IsLateLoad arrive.now demands.now }
         ensures arrive { result.arrive.now ≡ arrive.now }

@@ -1,4 +1,4 @@
--- What a split asks of its route, and the streams that leave it.
+-- What a split requires of its route, and the streams that leave it.
 use Rattle.std.specs.Prelude.{◌≡◌, ◌<◌, ◌≤◌, ◌++◌, ℕ, suc, List, [], ◌∷◌, length, slice_get, Some}
 use Rattle.mq_base.specs.Lists.{between}
 use Rattle.mq_core.specs.Streams.{picked}
@@ -11,12 +11,12 @@ pub record HasOutputs (route : Route) : Type 0 where
   pub least : 2 ≤ outputs_by route
   pub most : outputs_by route ≤ 8
 
--- the output of each job, by its value, the first at this position
+-- the output of each job, given its value; the first job is at this position
 abbrev pub outs_from : Route → ℕ → List ℕ → List ℕ
 outs_from route position [] = []
 outs_from route position (value ∷ values) = output_at route value position ∷ outs_from route (suc position) values
 
--- the items of a stream, beside their outputs, whose output is this one
+-- the items of a stream with this output, given the outputs of all
 abbrev pub picked_stream : List ℕ → Stream → ℕ → Stream
 picked_stream outs stream out = record { job = picked out outs stream.job; time = picked out outs stream.time }
 
@@ -30,7 +30,7 @@ pub record AreParts (route : Route) (stream : Stream) (values : List ℕ) (strea
   pub count : length streams ≡ outputs_by route
   pub parts : (out : ℕ) → out < outputs_by route → slice_get streams out ≡ Some (picked_stream (outs_from route 0 values) stream out)
 
--- Pieces. The items of a stream at these indices that go to an output, where these are their values.
+-- Pieces. The items of a stream at these indices that go to an output, given these items' values.
 abbrev pub part_between : Route → Stream → List ℕ → ℕ → ℕ → ℕ → Stream
 part_between route stream values from to out =
     picked_stream (outs_from route from values) (record { job = between from to stream.job; time = between from to stream.time }) out
@@ -40,14 +40,14 @@ pub record ArePartsBetween (route : Route) (stream : Stream) (values : List ℕ)
   pub count : length streams ≡ outputs_by route
   pub parts : (out : ℕ) → out < outputs_by route → slice_get streams out ≡ Some (part_between route stream values from to out)
 
--- the same, where these are the values of the whole stream
+-- the same items, given the values of the whole stream
 abbrev pub piece_of : Route → Stream → List ℕ → ℕ → ℕ → ℕ → Stream
 piece_of route stream values from to out = part_between route stream (between from to values) from to out
 
 abbrev pub ArePieces : Route → Stream → List ℕ → ℕ → ℕ → List Stream → Type 0
 ArePieces route stream values from to streams = ArePartsBetween route stream (between from to values) from to streams
 
--- the items of a stream, and behind them those of another
+-- the items of a stream, followed by those of another
 abbrev pub followed_by : Stream → Stream → Stream
 followed_by first second = record { job = first.job ++ second.job; time = first.time ++ second.time }
 
@@ -56,7 +56,7 @@ pub record IsValued (stream : Stream) (values : List ℕ) : Type 0 where
   pub jobs : length stream.job ≡ length values
   pub times : length stream.time ≡ length values
 
--- Pieces whose ends meet are one piece, and the piece of all indices is what goes to the output.
+-- Consecutive pieces are one piece, and the piece of all indices is what goes to the output.
 pub record PiecesJoin : Type 0 where
   pub join : (route : Route) (stream : Stream) (values : List ℕ) → IsValued stream values → (from middle to out : ℕ) → from ≤ middle → middle ≤ to → to ≤ length values →
       followed_by (piece_of route stream values from middle out) (piece_of route stream values middle to out) ≡ piece_of route stream values from to out

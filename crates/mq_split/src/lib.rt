@@ -15,7 +15,7 @@ use mq_core::{Route, Stream, outputs_of_route};
 use std::alloc::Global;
 pub use step::RouteStep;
 
-// How many of the thresholds are at most the value.
+// The number of thresholds that are at most the value.
 fn passed(thresholds: &[u64], value: u64) -> usize
     ensures count { result ≡ count_by (λ threshold. nat_le threshold value) thresholds.now }
     ensures most { result ≤ length thresholds.now }
@@ -26,10 +26,10 @@ fn passed(thresholds: &[u64], value: u64) -> usize
         .count()
 }
 
-/// The output that a route gives to a job: by the value modulo the number of outputs, by turns
-/// of the position, or by how many thresholds are at most the value. By turns the value is not
-/// looked at. Outputs count from 0; the route has 2 to 8 of them. Of its column and of the order of
-/// its thresholds nothing is asked.
+/// Returns the output that a route gives to a job: by the value modulo the number of outputs, by turns
+/// of the position, or by the number of thresholds that are at most the value. By turns the value is
+/// ignored. Outputs count from 0; the route must have 2 to 8 of them. Its column and the order of its
+/// thresholds don't matter.
 pub fn route_of(route: &Route, value: u64, position: u32) -> u8
     requires { HasOutputs route.now }
     ensures output { result ≡ output_at route.now value position }
@@ -51,8 +51,8 @@ fn part<T>(items: &List<T>, from: usize, to: usize) -> &[T]
     &items.as_slice()[from..to]
 }
 
-// The output of each job; the first has this position.
-// Its loop, like others below, is not inlined, so that it has the registers to itself.
+// The output of each job; the first is at this position.
+// Its loop, like others below, isn't inlined, so that it has the registers to itself.
 #[inline(never)]
 fn outs_of(
     alloc: Global,
@@ -84,7 +84,7 @@ fn count_of(outs: &[u8], out: u8) -> usize
     count
 }
 
-// The jobs and times, in their order, whose output is this one. `outs` has the output of each.
+// The jobs and times, in their order, whose output is this one. `outs` contains the output of each.
 #[inline(never)]
 fn pick(
     alloc: Global,
@@ -114,8 +114,8 @@ fn pick(
     })
 }
 
-/// One stream for each output of a route, by its number, each with the jobs and times whose output it is, in their
-/// order. There is one time and one output a job, by position. It refuses for want of memory alone.
+/// Returns one stream for each output of a route, by its number: the jobs and times whose output it is, in their
+/// order. There is one time and one output per job, by position. The only error is that memory runs out.
 pub fn streams_by(
     alloc: Global,
     jobs: &[u32],
@@ -135,10 +135,10 @@ pub fn streams_by(
     Ok(streams)
 }
 
-/// The items at the indices from `from` up to `to` as they leave a split, of the values of these items
-/// alone: one stream per output, by its number, each with the jobs that its route sends there, in their
-/// order. `values` has one value of the route's column per item of them, in their order. The route has 2 to
-/// 8 outputs. It refuses for want of memory alone.
+/// Returns the items at the indices from `from` up to `to` as they leave a split: one stream per output, by
+/// its number, each with the jobs that its route sends there, in their order. `values` has one value of the
+/// route's column for each of these items, in their order. The route must have 2 to 8 outputs. The only
+/// error is that memory runs out.
 pub fn split_between(
     alloc: Global,
     stream: &Stream,
@@ -162,8 +162,9 @@ pub fn split_between(
     Ok(streams)
 }
 
-/// The same of the values of the whole stream: `values` has one value of the route's column per item of
-/// it, by position. It refuses for want of memory alone.
+/// Returns the items from `from` up to `to` as they leave a split, as `split_between` does. `values` has one
+/// value of the route's column per item of the whole stream, by position. The only error is that memory
+/// runs out.
 pub fn split_piece(
     alloc: Global,
     stream: &Stream,
@@ -185,9 +186,9 @@ pub fn split_piece(
     Ok(streams)
 }
 
-/// The streams that leave a split: one per output, by its number, each with the jobs that its route
-/// sends there, in their order. `values` has one value of the route's column per item of the stream,
-/// by position. The route has 2 to 8 outputs. It refuses for want of memory alone.
+/// Returns the streams that leave a split: one per output, by its number, each with the jobs that its
+/// route sends there, in their order. `values` has one value of the route's column per item of the
+/// stream, by position. The route must have 2 to 8 outputs. The only error is that memory runs out.
 pub fn split(
     alloc: Global,
     stream: &Stream,
@@ -204,8 +205,8 @@ pub fn split(
     Ok(streams)
 }
 
-/// Pieces of `split_piece` whose ends meet, one behind the other, are one piece, and the piece of all
-/// indices is what `split` gives. It does nothing when it runs.
+/// Law: consecutive pieces of `split_piece`, one after another, are one piece, and the piece of all
+/// indices is what `split` returns. It does nothing when it runs.
 pub fn pieces_join()
     ensures { PiecesJoin }
 {}

@@ -8,18 +8,18 @@ use mq_base::List;
 use mq_core::Route;
 use mq_scan::{Step, Timed};
 
-/// The jobs of a split, of each the output by which it leaves, from 0: it asks for nothing of those before it.
+/// The jobs of a split as steps: each gives the output by which it leaves, from 0, whatever came before it.
 #[derive(Clone, Copy)]
 pub struct RouteStep<'a> {
     pub route: &'a Route,
-    /// The value of each job that the route looks at, by position.
+    /// The value of each job that the route uses, by position.
     pub values: &'a List<u64>,
     ghost outputs: { HasOutputs route.now },
     ghost few: { length values.now ≤ 1048576 },
 }
 
 impl<'a> RouteStep<'a> {
-    /// The jobs that have these values. It takes no memory.
+    /// Returns the jobs that have these values. Takes no memory.
     pub fn new(route: &'a Route, values: &'a List<u64>) -> RouteStep<'a>
         requires outputs { HasOutputs route.now }
         requires few { length values.now ≤ 1048576 }

@@ -9,18 +9,19 @@ use Rattle.mq_stats.specs.Percentiles.{waits_at}
 use Rattle.mq_stats.specs.WaitCounts.{AreWaitCounts}
 use Rattle.mq_stats.specs.declared.blocks.BlockCount.{BlockCount}
 
--- the totals of visits to a node, and the counts of their waits, exactly where none is longer than this
+-- the totals of visits to a node, and the counts of their waits, which are there if and only if no wait
+-- is longer than `most`
 pub record IsBlockOf (rows : Rows) (kind : Kind) (visits : Visits) (span most : ℕ) (block : BlockCount) : Type 0 where
   pub totals : totals_from block.totals ≡ sequence_totals rows kind visits span
   pub small : AreSmall block.totals
   pub told : IsSome block.waits ↔ (block.totals.longest ≤ most)
   pub waits : IfSome block.waits (AreWaitCounts (waits_at rows kind visits))
 
--- the same of the visits from a position up to another
+-- the block of the visits from one position up to another
 abbrev pub IsBlock : Rows → Kind → Visits → ℕ → ℕ → ℕ → ℕ → BlockCount → Type 0
 IsBlock rows kind visits span most from to block = IsBlockOf rows kind (visits_between from to visits) span most block
 
--- what is counted of the visits up to a position, and of those from it on
+-- the counts of the visits up to a position, and of those from that position on
 pub record AreNeighbours (before after : BlockCount) : Type 0 where
   pub rows : Rows
   pub kind : Kind

@@ -1,4 +1,4 @@
--- What leaves by an output, of parts of its stream.
+-- What leaves by an output, from parts of its stream.
 use Rattle.std.specs.Prelude.{◌≡◌, ◌+◌, ◌*◌, ◌^◌, ◌≤◌, ℕ, length}
 use Rattle.mq_base.specs.Lists.{between}
 use Rattle.mq_core.specs.Sequences.{sequence_exit}
@@ -11,12 +11,12 @@ use Rattle.mq_stats.specs.declared.exits.Exit.{Exit}
 abbrev pub stream_between : ℕ → ℕ → Stream → Stream
 stream_between from to stream = record { job = between from to stream.job; time = between from to stream.time }
 
--- what leaves is what leaves by this stream, and the sum is of at most 2^64 ticks a job
+-- the exit has the jobs and the sum of this stream, and the sum is at most 2^64 ticks per job
 pub record IsExitOf (rows : Rows) (stream : Stream) (exit : Exit) : Type 0 where
   pub told : (exit.count, exit.sojourn) ≡ sequence_exit rows stream
   pub small : exit.sojourn ≤ exit.count * 2 ^ 64
 
--- What leaves by neighbouring parts of a stream, added up, is what leaves by both together; and the part from the first job to the last is all of it.
+-- The exits of neighbouring parts of a stream add up to the exit of both parts, and the part from the first job to the last is the whole stream.
 pub record ExitsJoin : Type 0 where
   pub join : (rows : Rows) (stream : Stream) → AreLeaving rows stream → (from middle to : ℕ) → from ≤ middle → middle ≤ to → to ≤ length stream.job →
       (before after both : Exit) → IsExitOf rows (stream_between from middle stream) before → IsExitOf rows (stream_between middle to stream) after → both.count ≡ before.count + after.count → both.sojourn ≡ before.sojourn + after.sojourn → IsExitOf rows (stream_between from to stream) both

@@ -1,4 +1,4 @@
--- The time of the last event at a node, from the ends of its lists.
+-- The time of the last event at a node, from the last items of its lists.
 use Rattle.std.specs.Prelude.{◌≡◌, ◌-◌, ℕ, List, Some, fold, length, map, max, slice_get, slice_index_or}
 use Rattle.mq_core.specs.Results.{visits_of}
 use Rattle.mq_core.specs.Sequences.{greatest_time, streams_below}
@@ -11,7 +11,7 @@ use Rattle.mq_core.specs.declared.model.Rows.{Rows}
 use Rattle.mq_core.specs.declared.model.Stream.{Stream}
 use Rattle.mq_core.specs.declared.model.Visits.{Visits}
 
--- the last of these times, or 0
+-- the last of these times, or 0 if there are none
 abbrev pub last_time : List ℕ → ℕ
 last_time times = slice_index_or times (length times - 1) 0
 
@@ -23,7 +23,8 @@ last_left time streams = fold max time (map (λ (stream : Stream). last_time str
 abbrev pub last_event : Visits → List Stream → ℕ
 last_event visits streams = last_left (last_time visits.arrive) streams
 
--- the greatest time of a visit to a node of a run is that of its last event
+-- the greatest time of a visit to a node of a run is the time of its last
+-- event
 abbrev pub LastsAreGreatest : Type 0
 LastsAreGreatest =
     (plan : Plan) (rows : Rows) → IsReadFor plan.net rows → (v : ℕ) (node : Node) → slice_get plan.net.nodes v ≡ Some node →

@@ -1,4 +1,4 @@
--- What the numbers of a node are worked out from, and how they are read.
+-- What the numbers of a node are computed from, and how they are read.
 use Rattle.std.specs.Prelude.{◌≡◌, ◌+◌, ◌*◌, ◌^◌, ◌<◌, ◌≤◌, ℕ, List, All, length, max}
 use Rattle.mq_base.specs.Lists.{between}
 use Rattle.mq_core.specs.Asked.{HasDemands}
@@ -10,8 +10,8 @@ use Rattle.mq_core.specs.declared.model.Stream.{Stream}
 use Rattle.mq_core.specs.declared.model.Visits.{Visits}
 use Rattle.mq_stats.specs.declared.tallies.NodeTotals.{NodeTotals}
 
--- The visits of jobs to a node of this kind, in sequences of one length: the rows tell what each job asks for there, and
--- there are no more visits, nor jobs found by one, than 1,048,576.
+-- The visits of jobs to a node of this kind, in sequences of one length. The rows give what each job asks for there.
+-- There are at most 1,048,576 visits, and no visit found more jobs than that.
 pub record AreVisits (rows : Rows) (kind : Kind) (visits : Visits) : Type 0 where
   pub few : length visits.job ≤ 1048576
   pub arrives : length visits.arrive ≡ length visits.job
@@ -29,7 +29,7 @@ abbrev pub visits_between : ℕ → ℕ → Visits → Visits
 visits_between from to visits =
     visits_of_columns (between from to visits.job) (between from to visits.arrive) (between from to visits.found) (between from to visits.fate)
 
--- a stream of jobs of these rows, no longer than that
+-- a stream of jobs of these rows, at most 1,048,576 of them
 pub record AreLeaving (rows : Rows) (stream : Stream) : Type 0 where
   pub jobs : All (λ job. job < length rows.time) stream.job
   pub few : length stream.job ≤ 1048576
@@ -50,7 +50,7 @@ totals_from totals =
       peak = totals.peak;
     }
 
--- the totals of no more visits than 1,048,576, with sums of at most 2^64 ticks a visit
+-- the totals of at most 1,048,576 visits, with sums of at most 2^64 ticks per visit
 pub record AreSmall (totals : NodeTotals) : Type 0 where
   pub few : totals.came ≤ 1048576
   pub left : totals.left ≤ totals.came
@@ -60,7 +60,7 @@ pub record AreSmall (totals : NodeTotals) : Type 0 where
   pub busy : totals.busy ≤ totals.came * 2 ^ 64
   pub area : totals.area ≤ totals.came * 2 ^ 64
 
--- counts and sums added, and of greatest numbers the greater
+-- counts and sums added up, and the greater of two greatest numbers
 abbrev pub added_totals : Totals → Totals → Totals
 added_totals before after =
     record {

@@ -1,4 +1,4 @@
--- Counts of waits, by pieces of the visits.
+-- Counts of waits, for pieces of the visits.
 use Rattle.std.specs.Prelude.{◌≡◌, ◌+◌, ◌++◌, ◌==◌, ◌<◌, ◌≤◌, ℕ, List, count_by, get_or, length}
 use Rattle.std.specs.List.{AllByRecursion}
 use Rattle.mq_core.specs.declared.model.Kind.{Kind}
@@ -8,8 +8,8 @@ use Rattle.mq_stats.specs.Numbers.{AreVisits, visits_between}
 use Rattle.mq_stats.specs.Percentiles.{waits_at}
 use Rattle.mq_stats.specs.declared.wait_counts.WaitCounts.{WaitCounts}
 
--- They are the counts of these waits: of each number of ticks at its own index, with one index more behind the longest of them. There is room for
--- some, and for no more than so many.
+-- The counts of these waits, each number of ticks at its own index, with at least one more index after the longest wait. The table has at least 2
+-- and at most 1,048,578 indices.
 pub record AreWaitCounts (waits : List ℕ) (counts : WaitCounts) : Type 0 where
   pub many : counts.many ≡ length waits
   pub few : counts.many ≤ 1048576
@@ -18,8 +18,8 @@ pub record AreWaitCounts (waits : List ℕ) (counts : WaitCounts) : Type 0 where
   pub each : (wait : ℕ) → get_or counts.counts wait 0 ≡ count_by (λ w. w == wait) waits
   pub own : AllByRecursion (λ wait. wait + 1 < length counts.counts) waits
 
--- The waits of neighbouring visits, one after another, are those of all of them, and no more than the visits; and the visits
--- from the first to the last are all.
+-- The waits of neighbouring visits, one after another, are the waits of all of them, and no more than the visits. The visits from the first to
+-- the last are all visits.
 pub record WaitsJoin : Type 0 where
   pub join : (rows : Rows) (kind : Kind) (visits : Visits) → AreVisits rows kind visits → (from middle to : ℕ) → from ≤ middle → middle ≤ to → to ≤ length visits.job →
       waits_at rows kind (visits_between from middle visits) ++ waits_at rows kind (visits_between middle to visits) ≡ waits_at rows kind (visits_between from to visits)

@@ -1,4 +1,4 @@
-// What the jobs of some visits ask for at a node, column after column.
+// The service that jobs of some visits need at a node, computed one column at a time.
 ghost use Rattle.std.specs.Prelude.{◌≡◌, ◌+◌, ◌<◌, ◌≤◌, ◌^◌, ℕ, All, IfOk, fold, get_or, length, map, max, sum_by};
 ghost use Rattle.std.specs.List.{flat_map};
 ghost use Rattle.mq_core.specs.Asked.{HasDemands};
@@ -13,7 +13,7 @@ use mq_core::{Demand, Kind, Rows, Stage};
 use std::alloc::Global;
 
 // Adds to each time the job's value in a column.
-// Its loop is not inlined, so that it has the registers to itself.
+// Not inlined, so that its loop has the registers to itself.
 #[inline(never)]
 fn add_column(times: &mut [u64], column: &[u64], job: &[u32])
     requires even { length times.old ≡ length job.now }
@@ -27,7 +27,7 @@ fn add_column(times: &mut [u64], column: &[u64], job: &[u32])
     }
 }
 
-// Adds to each time as many ticks.
+// Adds the same number of ticks to each time.
 fn add_ticks(times: &mut [u64], ticks: u64)
     requires fits { (i : ℕ) → i < length times.old → get_or times.old i 0 + ticks < 2 ^ 64 }
     ensures even { length times.new ≡ length times.old }
@@ -38,7 +38,7 @@ fn add_ticks(times: &mut [u64], ticks: u64)
     }
 }
 
-// Adds to each time what its job asks for.
+// Adds to each time what its job asks for, in ticks.
 fn add_demand(times: &mut [u64], rows: &Rows, demand: &Demand, job: &[u32])
     requires even { length times.old ≡ length job.now }
     requires told { (i : ℕ) → i < length job.now → HasDemand rows.now demand.now (get_or job.now i 0) }
@@ -57,7 +57,7 @@ fn add_demand(times: &mut [u64], rows: &Rows, demand: &Demand, job: &[u32])
     }
 }
 
-// What each job asks for at a server.
+// Returns what each job asks for at a server, in ticks.
 fn demand_times(
     alloc: Global,
     rows: &Rows,
@@ -73,7 +73,7 @@ fn demand_times(
     Ok(times)
 }
 
-// What each job asks for at the servers of a tandem together.
+// Returns what each job asks for at all servers of a tandem, summed, in ticks.
 fn stages_times(
     alloc: Global,
     rows: &Rows,
@@ -90,7 +90,7 @@ fn stages_times(
     Ok(times)
 }
 
-// Adds to each time what its job asks for at the servers of a branch together.
+// Adds to each time what its job asks for at all servers of a branch, in ticks.
 fn add_branch(times: &mut [u64], rows: &Rows, demands: &List<Demand>, job: &[u32])
     requires even { length times.old ≡ length job.now }
     requires told { (i : ℕ) → i < length job.now → AreTold rows.now demands.now (get_or job.now i 0) }
@@ -103,7 +103,7 @@ fn add_branch(times: &mut [u64], rows: &Rows, demands: &List<Demand>, job: &[u32
     }
 }
 
-// What each job asks for at the servers of a branch together.
+// Returns what each job asks for at all servers of a branch, summed, in ticks.
 fn branch_times(
     alloc: Global,
     rows: &Rows,
@@ -119,8 +119,8 @@ fn branch_times(
     Ok(times)
 }
 
-// Keeps of each time and the other at its index the greater.
-// Its loop is not inlined, so that it has the registers to itself.
+// Replaces each time by the greater of it and the other at its index.
+// Not inlined, so that its loop has the registers to itself.
 #[inline(never)]
 fn keep_greater(times: &mut [u64], others: &[u64])
     requires even { length others.now ≡ length times.old }
@@ -132,7 +132,7 @@ fn keep_greater(times: &mut [u64], others: &[u64])
     }
 }
 
-// The most that each job asks for at the servers of a branch together.
+// Returns for each job the greatest sum of its demands in one branch, in ticks.
 fn longest_times(
     alloc: Global,
     rows: &Rows,
@@ -151,7 +151,8 @@ fn longest_times(
     Ok(longest)
 }
 
-// How long each of these jobs stays at a node of this kind that never waits, in ticks.
+// Returns how long each of these jobs stays at a node of this kind if it never waits,
+// in ticks.
 pub fn bare_times(
     alloc: Global,
     rows: &Rows,
@@ -173,7 +174,8 @@ pub fn bare_times(
     }
 }
 
-// What each of these jobs asks for at the servers of a fork-join together, in ticks.
+// Returns what each of these jobs asks for at all servers of a fork-join, summed, in
+// ticks.
 pub fn branches_times(
     alloc: Global,
     rows: &Rows,

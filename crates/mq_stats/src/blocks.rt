@@ -1,4 +1,4 @@
-// The totals of a block of visits, and how many of their waits are each number of ticks, by one look at them.
+// The totals of a block of visits and the counts of their waits, from one pass over the visits.
 ghost use Rattle.std.specs.Prelude.{◌≡◌, ◌↔◌, ◌+◌, ◌++◌, ◌≤◌, ℕ, List as Items, IfOk, IfSome, IsSome, length};
 ghost use Rattle.mq_core.specs.Results.{peak_of};
 ghost use Rattle.mq_stats.specs.Blocks.{AreNeighbours, IsBlock, IsBlockOf};
@@ -20,11 +20,11 @@ use std::alloc::Global;
 pub struct BlockCount {
     /// The totals, as if no other visit came.
     pub totals: NodeTotals,
-    /// The counts of the waits of those that depart: there exactly where no wait is longer than is counted.
+    /// The counts of the waits of the visits that depart, or `None` if a wait is longer than the counts may reach.
     pub waits: Option<WaitCounts>,
 }
 
-// What is counted of visits to a node of this kind, which stand in these columns and have this peak.
+// Returns the counts of visits to a node of this kind, which these columns contain and which have this peak.
 pub fn count_columns(
     alloc: Global,
     waiting: &Waiting,
@@ -51,11 +51,11 @@ pub fn count_columns(
     })
 }
 
-/// What is counted of the visits to a node of this kind from one position up to another, as if no other
-/// came, in a run with this span, in ticks, by which those end that are held: their totals, and the counts of their waits exactly where
-/// none is longer than `most` ticks.
+/// Returns the counts of the visits to a node of this kind from one position up to another, as if no other visit came: their totals,
+/// and the counts of their waits unless a wait is longer than `most` ticks. Held visits stay until `span`, the end of the run, in
+/// ticks.
 ///
-/// The busy time is below 2^100 ticks. It refuses for want of memory alone.
+/// The busy time is below 2^100 ticks. The only error is out of memory.
 pub fn count_block(
     alloc: Global,
     rows: &Rows,
@@ -83,7 +83,7 @@ pub fn count_block(
     count_columns(alloc, &waiting, peak, span, most)
 }
 
-// The counts of waits and of others, added up, where there are both.
+// Returns the sum of two counts of waits, or `None` if either is missing.
 fn waits_added(
     alloc: Global,
     before: Option<WaitCounts>,
@@ -104,8 +104,8 @@ fn waits_added(
     Ok(Some(both))
 }
 
-/// What is counted of two neighbouring blocks together, with the counts of their waits exactly where there are those of both. It
-/// refuses for want of memory alone.
+/// Returns the counts of two neighbouring blocks taken together. They include counts of waits only if both blocks have them. The only
+/// error is out of memory.
 pub fn blocks_added(
     alloc: Global,
     before: BlockCount,

@@ -11,13 +11,13 @@ use mq_core::{Rows, Stream};
 /// What leaves a network by an output.
 #[derive(Clone, Copy, PartialEq, Eq, Drop)]
 pub struct Exit {
-    /// How many jobs leave.
+    /// The number of jobs that leave.
     pub count: u32,
-    /// The sum, in ticks, of the times from their rows to their leaving.
+    /// The sum, in ticks, of the times from their arrival in the trace to their leaving.
     pub sojourn: u128,
 }
 
-// How long these jobs, which leave at these times, were in the network, in ticks.
+// Returns the summed time in the network, in ticks, of these jobs, which leave at these times.
 fn sojourns_of(rows: &Rows, job: &[u32], time: &[u64]) -> u128
     requires jobs { All (λ job. job < length rows.now.time) job.now }
     requires few { length job.now ≤ 1048576 }
@@ -33,8 +33,8 @@ fn sojourns_of(rows: &Rows, job: &[u32], time: &[u64]) -> u128
     sojourn
 }
 
-/// How many jobs a stream has from one position up to another, and how long they were in the network, in ticks, where these are its jobs and
-/// their times.
+/// Returns how many jobs a stream has from one position up to another, and their summed time in the network, in ticks. The stream is given
+/// as its jobs and their times.
 pub fn columns_between(rows: &Rows, jobs: &List<u32>, times: &List<u64>, from: u32, to: u32) -> Exit
     requires leaving { AreLeaving rows.now (record { job = jobs.now; time = times.now }) }
     requires order { from ≤ to }
@@ -49,7 +49,7 @@ pub fn columns_between(rows: &Rows, jobs: &List<u32>, times: &List<u64>, from: u
     }
 }
 
-/// How many jobs a stream has from one position up to another, and how long they were in the network.
+/// Returns how many jobs a stream has from one position up to another, and their summed time in the network, in ticks.
 pub fn leaving_between(rows: &Rows, stream: &Stream, from: u32, to: u32) -> Exit
     requires leaving { AreLeaving rows.now stream.now }
     requires order { from ≤ to }
@@ -59,8 +59,8 @@ pub fn leaving_between(rows: &Rows, stream: &Stream, from: u32, to: u32) -> Exit
     columns_between(rows, &stream.job, &stream.time, from, to)
 }
 
-/// What leaves by a stream, of what leaves by its part before a position and by that from it on. Together they have at most
-/// 1,048,576 jobs.
+/// Adds what leaves by the part of a stream before a position to what leaves by the part from that position on. Together the parts have at
+/// most 1,048,576 jobs.
 pub fn exits_added(before: &Exit, after: &Exit) -> Exit
     requires before { before.now.sojourn ≤ before.now.count * 2 ^ 64 }
     requires after { after.now.sojourn ≤ after.now.count * 2 ^ 64 }
@@ -74,13 +74,13 @@ pub fn exits_added(before: &Exit, after: &Exit) -> Exit
     }
 }
 
-/// What leaves by neighbouring parts of a stream, added up, is what leaves by both together, and the part from the first job to
-/// the last is all of it. It does nothing when it runs.
+/// Proves that the exits of neighbouring parts of a stream add up to the exit of both parts, and that the part from the first job to the
+/// last is the whole stream. It does nothing at run time.
 pub fn exits_join()
     ensures { ExitsJoin }
 {}
 
-/// How many jobs a stream has, and how long they were in the network, in ticks.
+/// Returns how many jobs a stream has, and their summed time in the network, in ticks.
 pub fn leaving(rows: &Rows, stream: &Stream) -> Exit
     requires { AreLeaving rows.now stream.now }
     ensures { (result.count, result.sojourn) ≡ sequence_exit rows.now stream.now }

@@ -1,4 +1,4 @@
-// How many jobs each visit found, where no job overtakes another.
+// How many jobs each visit found, if no job overtakes another.
 ghost use Rattle.std.specs.Prelude.{◌≡◌, ◌≤◌, length, false, IfNone, IfOk, IfSome};
 ghost use Rattle.mq_core.specs.OnceOut.{founds_of};
 ghost use Rattle.mq_core.specs.Laws.{Rises};
@@ -9,9 +9,9 @@ use mq_base::{List, OutOfMemory};
 use mq_core::{Fate, Fates};
 use std::alloc::Global;
 
-/// How many jobs each visit found, exactly where the visits that aren't lost depart in the order in
-/// which they came, and none is held: of the departures so far those that a visit's time doesn't pass. No time of
-/// arrival falls. It refuses for want of memory alone.
+/// Returns how many jobs each visit found, or `None`, which it returns only if a visit is held or departs
+/// before an earlier visit. A visit finds the departures so far that its arrival time hasn't passed. Arrival
+/// times never fall. The only error is out of memory.
 pub fn found_in_order(
     alloc: Global,
     arrive: &List<u64>,

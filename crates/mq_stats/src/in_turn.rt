@@ -1,5 +1,5 @@
-// The numbers of visits whose jobs leave by one output in the order in which they came, of what came and when each departs: no list of the
-// visits is made, nor of what they found.
+// The numbers of visits whose jobs leave by one output in order of arrival, computed from what came and when each departs. It makes no list
+// of the visits or of what they found.
 ghost use Rattle.std.specs.Prelude.{◌≡◌, ◌↔◌, ◌*◌, ◌^◌, ◌≤◌, ℕ, List as Items, IfOk, IfSome, IsSome, fold, length, map, max, sum};
 ghost use Rattle.mq_core.specs.Results.{bare_time, peak_of};
 ghost use Rattle.mq_core.specs.Sequences.{sequence_sojourns};
@@ -31,8 +31,8 @@ struct Departed {
     longest: u64,
 }
 
-// Writes the wait of each of these visits, which depart at these times, in the place of how long its job stays that never waits.
-// Its loop is not inlined, so that it has the registers to itself.
+// Overwrites each visit's bare time in `waits` with its wait. The visits depart at these times.
+// Not inlined, so that its loop has the registers to itself.
 #[inline(never)]
 fn put_departed(waiting: &Waiting, departs: &[u64], waits: &mut [u64]) -> Departed
     requires visits { AreWaiting waiting.now }
@@ -63,7 +63,7 @@ fn put_departed(waiting: &Waiting, departs: &[u64], waits: &mut [u64]) -> Depart
     }
 }
 
-// What `count_columns` tells, of visits that depart at these times.
+// Returns what `count_columns` returns, for visits that depart at these times.
 fn count_departed(
     alloc: Global,
     waiting: &Waiting,
@@ -99,8 +99,8 @@ fn count_departed(
     })
 }
 
-/// What `count_block` tells, of visits whose jobs leave in the order in which they came, of what came and when each departs: since nobody is
-/// held, it is the same whatever the span is.
+/// Returns what `count_block` returns, for visits whose jobs leave in order of arrival, from what came and when each departs. The span plays
+/// no part, since nobody is held.
 pub fn count_in_turn(
     alloc: Global,
     rows: &Rows,
@@ -137,7 +137,7 @@ pub fn count_in_turn(
     count_departed(alloc, &waiting, leave, peak, most)
 }
 
-/// What `count_between` tells, of visits whose jobs leave in the order in which they came.
+/// Returns what `count_between` returns, for visits whose jobs leave in order of arrival.
 pub fn waits_in_turn(
     alloc: Global,
     rows: &Rows,
@@ -165,7 +165,7 @@ pub fn waits_in_turn(
     counts_of_columns(alloc, &waiting, most)
 }
 
-/// What `tail_below` tells, of visits whose jobs leave in the order in which they came.
+/// Returns what `tail_below` returns, for visits whose jobs leave in order of arrival.
 pub fn tail_in_turn(
     alloc: Global,
     rows: &Rows,

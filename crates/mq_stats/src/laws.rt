@@ -1,4 +1,4 @@
-// That the sequences of a run are such as the numbers are worked out from.
+// That the sequences of a run meet what the functions of this crate require.
 ghost use Rattle.mq_stats.specs.Lasts.{LastsAreGreatest};
 ghost use Rattle.mq_stats.specs.RunNumbers.{RunsGiveStreams, RunsGiveVisits, RunsHaveFewVisits};
 
@@ -8,7 +8,8 @@ use mq_core::{
     sequences_go_by_fates, streams_rise, visits_are_few,
 };
 
-/// No node has more than 1,048,576 visits in a run that isn't refused, nor in one of a model of version 1.
+/// Proves that no node has more than 1,048,576 visits in a run that isn't refused, or in a run of a
+/// version 1 model.
 pub fn runs_have_few_visits()
     ensures { RunsHaveFewVisits }
 {
@@ -16,7 +17,8 @@ pub fn runs_have_few_visits()
     visits_are_few();
 }
 
-/// The visits of each node of a run, at most 1,048,576, are such that their totals are told.
+/// Proves that the visits of each node of a run meet what `totals` requires, if they are at most
+/// 1,048,576.
 pub fn runs_give_visits()
     ensures { RunsGiveVisits }
 {
@@ -26,8 +28,8 @@ pub fn runs_give_visits()
     rows_tell_demands();
 }
 
-/// What leaves each node of a run by each output, where its visits are at most 1,048,576, is such
-/// that its exit is told.
+/// Proves that what leaves each node of a run by each output meets what `leaving` requires, if the node
+/// has at most 1,048,576 visits.
 pub fn runs_give_streams()
     ensures { RunsGiveStreams }
 {
@@ -39,7 +41,7 @@ pub fn runs_give_streams()
     streams_rise();
 }
 
-/// At each node of a run the greatest time of a visit is that of its last event.
+/// Proves that the greatest time of a visit at each node of a run is that of the node's last event.
 pub fn lasts_are_greatest()
     ensures { LastsAreGreatest }
 {

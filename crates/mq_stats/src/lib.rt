@@ -1,5 +1,5 @@
-//! The numbers of a run, worked out from its sequences: what each visit found, the totals of a node,
-//! what leaves by an output, and the time span.
+//! The numbers of a run, computed from its sequences: what each visit found, the totals of a node,
+//! what leaves by an output, and the span.
 #![tactic(auto)]
 
 mod bare;

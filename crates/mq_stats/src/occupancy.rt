@@ -1,4 +1,4 @@
-// How many jobs each visit found, whatever the order in which they leave.
+// How many jobs each visit found, in whatever order jobs leave.
 ghost use Rattle.std.specs.Prelude.{◌≡◌, ◌≤◌, length, cond, count_by, IfOk};
 ghost use Rattle.std.specs.List.{AllByRecursion, zip};
 ghost use Rattle.mq_core.specs.SequenceLaws.{LeavesFrom};
@@ -13,7 +13,7 @@ use mq_core::{Fate, Fates};
 use mq_merge::sort_by_first;
 use std::alloc::Global;
 
-// The departures, by position, each with its position.
+// Returns the departures by position, each with its position.
 fn departures_of(alloc: Global, fates: &Fates) -> Result<Vec<(u64, u32)>, OutOfMemory>
     requires few { length fates.now ≤ 1048576 }
     ensures { IfOk result (λ departures. departures.items ≡ departures_from 0 fates.now) }
@@ -27,8 +27,8 @@ fn departures_of(alloc: Global, fates: &Fates) -> Result<Vec<(u64, u32)>, OutOfM
     Ok(departures)
 }
 
-/// The departures, each with the position of its visit, by time, those of one time by position. It
-/// refuses for want of memory alone.
+/// Returns the departures, each with the position of its visit, by time and then by position. The only error
+/// is out of memory.
 pub fn departures_in_order(alloc: Global, fates: &Fates) -> Result<Vec<(u64, u32)>, OutOfMemory>
     requires few { length fates.now ≤ 1048576 }
     ensures { IfOk result (λ departures. departures.items ≡ by_first (departures_from 0 fates.now)) }
@@ -38,14 +38,14 @@ pub fn departures_in_order(alloc: Global, fates: &Fates) -> Result<Vec<(u64, u32
     Ok(departures)
 }
 
-// Whether a visit departed before the time, or at it and before the position.
+// Returns whether a visit departed before `time`, or at `time` from an earlier position.
 fn gone(departure: (u64, u32), time: u64, position: u32) -> bool
     ensures { result ≡ is_gone time position departure }
 {
     departure.0 < time || (departure.0 == time && departure.1 < position)
 }
 
-// How many departures are gone by a time and a position, where as many as `from` are.
+// Returns how many departures are gone by a time and a position, given that at least `from` are.
 fn gone_by(departures: &[(u64, u32)], from: usize, time: u64, position: u32) -> usize
     requires order { Ascends departures.now }
     requires from { from ≤ count_by (is_gone time position) departures.now }
@@ -59,7 +59,7 @@ fn gone_by(departures: &[(u64, u32)], from: usize, time: u64, position: u32) -> 
     departures.len()
 }
 
-/// 1 for a visit that isn't lost, and 0 for one that is.
+/// Returns 1 for a visit that isn't lost, and 0 for a lost one.
 pub fn one_if_stays(fate: Fate) -> usize
     ensures { result ≡ cond (stays fate) 1 0 }
 {
@@ -69,14 +69,13 @@ pub fn one_if_stays(fate: Fate) -> usize
     }
 }
 
-/// How many jobs each visit found in the node: of the earlier visits, those that depart after its
-/// arrival, and those that are held. Jobs may leave in any order; no time of arrival falls, and no job
-/// leaves before it came. It refuses for want of memory alone.
+/// Returns how many jobs each visit found in the node: the earlier visits that depart after its arrival, and
+/// the earlier ones that are held. Jobs may leave in any order. Arrival times never fall, and no job leaves
+/// before it came. The only error is out of memory.
 ///
-/// Where no job overtakes another and none is held one pass over the fates tells who is still there. Else the
-/// departures are put in order: only earlier visits can have departed before a visit comes, and of
-/// those that depart at its very time the ones that come later are told by their position, so one
-/// pass over the departures in their order tells how many are gone.
+/// If no job overtakes another and none is held, one pass over the fates is enough. Otherwise the departures
+/// are sorted, and one pass over them counts how many are gone: only earlier visits can have departed before
+/// a visit comes, and the position tells them apart from later visits that depart at the same time.
 pub fn found(alloc: Global, arrive: &List<u64>, fate: &Fates) -> Result<List<u32>, OutOfMemory>
     requires even { length fate.now ≡ length arrive.now }
     requires few { length arrive.now ≤ 1048576 }

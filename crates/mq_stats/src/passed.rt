@@ -1,8 +1,9 @@
-// How many of times that never fall are passed by another time.
+// How many of some times, which never fall, a given time has passed.
 ghost use Rattle.std.specs.Prelude.{◌≡◌, ◌≤◌, count_by, length, nat_le};
 ghost use Rattle.mq_core.specs.Laws.{Rises};
 
-// How many of these times are at most this one, where at least `least` and at most `most` are.
+// Returns how many of these times are at most `time`: at least `least` and at most `most` of them
+// are.
 fn passed_between(times: &[u64], least: usize, most: usize, time: u64) -> usize
     requires order { Rises (λ a b. a ≤ b) times.now }
     requires least { least ≤ count_by (λ t. nat_le t time) times.now }
@@ -22,7 +23,8 @@ fn passed_between(times: &[u64], least: usize, most: usize, time: u64) -> usize
     least
 }
 
-// The same, where at least `least` are: it looks ahead by steps that double.
+// Returns how many of these times are at most `time`: at least `least` are. It looks ahead in
+// doubling steps.
 fn passed_far(times: &[u64], least: usize, time: u64) -> usize
     requires order { Rises (λ a b. a ≤ b) times.now }
     requires least { least ≤ count_by (λ t. nat_le t time) times.now }
@@ -40,11 +42,11 @@ fn passed_far(times: &[u64], least: usize, time: u64) -> usize
     passed_between(times, least, times.len(), time)
 }
 
-// So many times are looked at one by one before steps double: mostly few more are passed than before.
+// The number of times compared one by one before steps double: usually few more have passed.
 const NEAR: usize = 8;
 
-/// How many of these times are at most this one, where at least `least` are. It is quick where few
-/// more are, and takes few steps where many are.
+/// Returns how many of these times are at most `time`, if at least `least` are. It is quick if few
+/// more are, and takes few steps if many are.
 #[inline]
 pub fn passed_by(times: &[u64], least: usize, time: u64) -> usize
     requires order { Rises (λ a b. a ≤ b) times.now }

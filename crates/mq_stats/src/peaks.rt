@@ -9,7 +9,7 @@ ghost use Rattle.mq_core.specs.declared.model.Fate.TheVariants.{Departs};
 
 use mq_core::{Fate, FateSlice, Kind};
 
-// Whether jobs stay in a node of this kind.
+// Returns whether jobs stay in a node of this kind.
 fn holds(kind: &Kind) -> bool
     ensures { result ≡ (behaviour_of kind.now).holds }
 {
@@ -25,7 +25,7 @@ fn holds(kind: &Kind) -> bool
     }
 }
 
-// The number of jobs just after a visit came; 0 for a lost one.
+// Returns the number of jobs just after a visit came, or 0 for a lost one.
 fn number_after(found: u32, fate: Fate) -> u32
     requires { found ≤ 1048576 }
     ensures { result ≡ one_more found fate }
@@ -36,7 +36,7 @@ fn number_after(found: u32, fate: Fate) -> u32
     }
 }
 
-// The peak of a node of this kind, whose visits found so many and ended so.
+// Returns the peak of a node of this kind from what its visits found and their fates.
 pub fn peak_of_found(kind: &Kind, found: &[u32], fate: &FateSlice) -> u32
     requires fates { length fate.now ≡ length found.now }
     requires small { All (λ n. n ≤ 1048576) found.now }
@@ -52,10 +52,10 @@ pub fn peak_of_found(kind: &Kind, found: &[u32], fate: &FateSlice) -> u32
     peak
 }
 
-// The greater of a number and of how many jobs are there just after one came at this time, where so many came before it, and jobs
-// depart at these times, which never fall.
+// Returns the greater of `number` and the number of jobs in the node just after one came at `time`. `before` jobs came earlier;
+// `departs` are the departure times, which never fall.
 //
-// More than n are there, itself among them, exactly where the one that came n places before it departs later.
+// More than n jobs are there, counting the new one, exactly if the job n places before it departs later than `time`.
 fn number_with(departs: &[u64], before: usize, time: u64, number: usize) -> usize
     requires order { Rises (λ a b. a ≤ b) departs.now }
     requires within { before ≤ length departs.now }
@@ -69,9 +69,9 @@ fn number_with(departs: &[u64], before: usize, time: u64, number: usize) -> usiz
     number
 }
 
-// The peak of a node of this kind over the visits from an index up to another, where jobs depart in the order in which they come, at
-// these times, which never fall.
-// Its loop is not inlined, so that it has the registers to itself.
+// Returns the peak of a node of this kind over the visits from one index up to another, if jobs depart in order of arrival, at these
+// times, which never fall.
+// Not inlined, so that its loop has the registers to itself.
 #[inline(never)]
 pub fn peak_in_turn(kind: &Kind, arrive: &[u64], departs: &[u64], from: usize, to: usize) -> u32
     requires even { length departs.now ≡ length arrive.now }

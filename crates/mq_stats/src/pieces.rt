@@ -1,4 +1,4 @@
-// How many jobs each visit found, by pieces: from a table that is made once for all of them.
+// How many jobs each visit found, in pieces, from one table that all pieces share.
 ghost use Rattle.std.specs.Prelude.{◌≡◌, ◌+◌, ◌<◌, ◌≤◌, List as Items, cond, count_by, length, map, nat_le, IfOk};
 ghost use Rattle.std.specs.List.{AllByRecursion, zip};
 ghost use Rattle.mq_base.specs.Lists.{between};
@@ -15,19 +15,20 @@ use mq_base::{List, OutOfMemory};
 use mq_core::{Fate, Fates};
 use std::alloc::Global;
 
-/// What is known of all visits to a node, so that the number of jobs that some of them found can be
-/// told from it and the arrivals alone.
+/// What must be known of all visits to a node so that what some of them found follows from it and the
+/// arrivals.
 #[derive(Drop)]
 pub struct AheadTable {
     /// The departures in order, in ticks.
     pub leaving: List<u64>,
-    /// For each position, and behind the last, how many visits before it aren't lost.
+    /// For each position, and one past the last: the number of earlier visits that aren't lost.
     pub kept: List<u32>,
-    /// The same of those that depart as they come.
+    /// For each position, and one past the last: the number of earlier visits that depart at their arrival
+    /// time.
     pub still: List<u32>,
 }
 
-// The departures in order.
+// Returns the departures in order, in ticks.
 fn leaving_of(alloc: Global, fate: &Fates) -> Result<List<u64>, OutOfMemory>
     requires few { length fate.now ≤ 1048576 }
     ensures { IfOk result (λ leaving. leaving ≡ departure_order fate.now) }
@@ -40,14 +41,14 @@ fn leaving_of(alloc: Global, fate: &Fates) -> Result<List<u64>, OutOfMemory>
     Ok(List::from_vec(leaving))
 }
 
-// 1 for a visit that departs as it comes, and 0 for one that departs at another time.
+// Returns 1 if a visit departs at its arrival time, and 0 otherwise.
 fn one_if_same_time(arrive: u64, departs: u64) -> usize
     ensures { result ≡ cond (leaves_at_once arrive (Departs departs)) 1 0 }
 {
     (departs == arrive) as usize
 }
 
-// 1 for a visit that departs as it comes, and 0 for another.
+// Returns 1 for a visit that departs at its arrival time, and 0 for any other.
 fn one_if_at_once(arrive: u64, fate: Fate) -> usize
     ensures { result ≡ cond (leaves_at_once arrive fate) 1 0 }
 {
@@ -57,9 +58,9 @@ fn one_if_at_once(arrive: u64, fate: Fate) -> usize
     }
 }
 
-/// The table of the visits of these arrivals and fates, whose departures are given in order, as a
-/// delay has them. No time of arrival falls, and no job leaves before it came. It refuses for want of
-/// memory alone.
+/// Returns the table of the visits with these arrivals and fates, and with these departures, in order, as a
+/// delay has them. Arrival times never fall, and no job leaves before it came. The only error is out of
+/// memory.
 pub fn ahead_of(
     alloc: Global,
     arrive: &List<u64>,
@@ -91,9 +92,8 @@ pub fn ahead_of(
     })
 }
 
-/// The table of the visits of these arrivals and fates, as `ahead_of`, whose departures it puts in order
-/// itself. No time of arrival falls, and no job leaves before it came. It refuses for want of memory
-/// alone.
+/// Returns the table of the visits with these arrivals and fates. Unlike `ahead_of` it sorts the departures
+/// itself. Arrival times never fall, and no job leaves before it came. The only error is out of memory.
 pub fn ahead(alloc: Global, arrive: &List<u64>, fate: &Fates) -> Result<AheadTable, OutOfMemory>
     requires even { length fate.now ≡ length arrive.now }
     requires few { length arrive.now ≤ 1048576 }
@@ -105,9 +105,9 @@ pub fn ahead(alloc: Global, arrive: &List<u64>, fate: &Fates) -> Result<AheadTab
     ahead_of(alloc, arrive, fate, leaving)
 }
 
-/// The table of visits of which none is lost, as `ahead_of`, of their departures by position, in ticks, in
-/// place of their fates; the departures are given in order too. No time of arrival falls, and no job leaves
-/// before it came. It refuses for want of memory alone.
+/// Returns the table of visits none of which is lost or held, from their departures by position, in ticks,
+/// and the same departures in order. Arrival times never fall, and no job leaves before it came. The only
+/// error is out of memory.
 pub fn ahead_of_departures(
     alloc: Global,
     arrive: &List<u64>,
@@ -138,12 +138,12 @@ pub fn ahead_of_departures(
     })
 }
 
-/// How many jobs the visits at the indices from `from` up to `to` found, as `found` tells it for the
-/// arrivals and fates that the table was made from. It refuses for want of memory alone.
+/// Returns how many jobs the visits at the indices from `from` up to `to` found: the same numbers as
+/// `found` gives for the arrivals and fates of the table. The only error is out of memory.
 ///
-/// Of the visits before an index that aren't lost, those are gone that depart by its arrival. Of the
-/// departures by then, those of the visits from the index on are no more than those who come at its
-/// very time and depart as they come.
+/// A visit finds the earlier visits that aren't lost, less those that depart by its arrival time. The
+/// departures by then also include visits from its index on: exactly those that arrive at that time and
+/// depart at once.
 pub fn found_piece(
     alloc: Global,
     arrive: &List<u64>,
@@ -170,14 +170,14 @@ pub fn found_piece(
     Ok(List::from_vec(found))
 }
 
-// 1 where a time is at most another, and 0 where it is later.
+// Returns 1 if a time is at most another, and 0 if it is later.
 fn one_if_at_most(time: u64, other: u64) -> usize
     ensures { result ≡ cond (nat_le time other) 1 0 }
 {
     (time <= other) as usize
 }
 
-// 1 where the departure at an index is at most the time, and 0 where it is later or there is none.
+// Returns 1 if the departure at an index is at most the time, and 0 if it is later or there is none.
 fn one_if_passed(departs: &[u64], index: usize, time: u64) -> usize
     requires order { Rises (λ a b. a ≤ b) departs.now }
     requires index { index ≤ count_by (λ t. nat_le t time) departs.now }
@@ -191,10 +191,10 @@ fn one_if_passed(departs: &[u64], index: usize, time: u64) -> usize
     0
 }
 
-// Fills in what the visits from `first` on found, as many as there are indices.
+// Fills in what the visits from `first` on found, one for each index of `found`.
 //
-// Each round passes a departure or goes on to the next visit, by the answer of one comparison and
-// without a branch on it, which no processor could foresee.
+// Each round either passes a departure or goes on to the next visit. It computes the choice from one
+// comparison, without a branch, since no processor could predict the branch.
 #[inline(never)]
 fn fill_in_order(found: &mut [u32], arrive: &[u64], departs: &[u64], first: usize)
     requires even { length departs.now ≡ length arrive.now }
@@ -217,9 +217,9 @@ fn fill_in_order(found: &mut [u32], arrive: &[u64], departs: &[u64], first: usiz
     }
 }
 
-/// How many jobs the visits at the indices from `from` up to `to` found, where none is lost and none
-/// overtakes another, from the departures of all visits by position. Neither the times of arrival nor
-/// those of departure fall. It refuses for want of memory alone.
+/// Returns how many jobs the visits at the indices from `from` up to `to` found if all jobs depart and none
+/// overtakes another, from the departures of all visits by position, in ticks. Neither arrival times nor
+/// departure times fall. The only error is out of memory.
 pub fn found_piece_in_order(
     alloc: Global,
     arrive: &List<u64>,

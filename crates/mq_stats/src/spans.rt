@@ -1,4 +1,4 @@
-// The time span of a run.
+// The span of a run.
 ghost use Rattle.std.specs.Prelude.{◌≡◌, max, fold, map};
 ghost use Rattle.mq_core.specs.Sequences.{sequence_span, greatest_time, time_of_fate};
 ghost use Rattle.mq_stats.specs.Lasts.{last_left, last_time};
@@ -6,7 +6,7 @@ ghost use Rattle.mq_stats.specs.Lasts.{last_left, last_time};
 use mq_base::List;
 use mq_core::{Fate, Fates, Stream, Visits};
 
-// The time of a departure; 0 for a visit that is lost or held, which has none.
+// Returns the time of a departure, in ticks, or 0 for a lost or held visit.
 fn time_of(fate: Fate) -> u64
     ensures { result ≡ time_of_fate fate }
 {
@@ -16,7 +16,7 @@ fn time_of(fate: Fate) -> u64
     }
 }
 
-// The greatest of these times, or 0.
+// Returns the greatest of these times, or 0 if there are none.
 fn latest(times: &[u64]) -> u64
     ensures { result ≡ fold max 0 times.now }
 {
@@ -27,8 +27,8 @@ fn latest(times: &[u64]) -> u64
     latest
 }
 
-// The greatest time of a departure, or 0.
-// It is not inlined, so that its loop has the registers to itself.
+// Returns the greatest departure time, or 0 if there is none.
+// Not inlined, so that its loop has the registers to itself.
 #[inline(never)]
 fn latest_departure(fates: &Fates) -> u64
     ensures { result ≡ fold max 0 (map time_of_fate fates.now) }
@@ -40,15 +40,15 @@ fn latest_departure(fates: &Fates) -> u64
     latest
 }
 
-// The greatest time of a visit, or 0.
+// Returns the greatest time of a visit, or 0 if there is none.
 fn latest_visit(visits: &Visits) -> u64
     ensures { result ≡ greatest_time visits.now }
 {
     latest(visits.arrive.as_slice()).max(latest_departure(&visits.fate))
 }
 
-/// The time span of a run: the greatest time, in ticks, at which a job comes to a node or leaves
-/// one, or 0 where there is no visit.
+/// Returns the span of a run: the greatest time, in ticks, at which a job arrives at a node or departs from one, or 0 without
+/// visits.
 pub fn span(visits: &List<Visits>) -> u64
     ensures { result ≡ sequence_span visits.now }
 {
@@ -59,7 +59,7 @@ pub fn span(visits: &List<Visits>) -> u64
     span
 }
 
-/// The last of these times, or 0.
+/// Returns the last of these times, or 0 if there are none.
 pub fn last(times: &[u64]) -> u64
     ensures { result ≡ last_time times.now }
 {
@@ -69,9 +69,8 @@ pub fn last(times: &[u64]) -> u64
     times[times.len() - 1]
 }
 
-/// The greatest of the last of these times at which jobs come to a node and the last times at which jobs leave it by its outputs,
-/// in ticks, or 0 where there is none. Of a run that is the greatest time at the node, since arrivals and
-/// streams never go back in time.
+/// Returns the greatest of the last arrival time at a node and the last time of each of its output streams, in ticks, or 0 if
+/// there are none. In a run it is the greatest time at the node, since arrivals and streams never go back in time.
 pub fn last_at(arrive: &List<u64>, streams: &List<Stream>) -> u64
     ensures { result ≡ last_left (last_time arrive.now) streams.now }
 {

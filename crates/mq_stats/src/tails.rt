@@ -11,19 +11,19 @@ use mq_base::OutOfMemory;
 use mq_core::{Kind, Rows, Visits};
 use std::alloc::Global;
 
-/// Percentiles of the waits at a node, in ticks, over the visits that depart: the least wait that so many hundredths
-/// of them don't exceed, or 0 where no visit departs.
+/// Percentiles of the waits of the visits that depart from a node, in ticks. The p-th is the least wait that at least p of 100
+/// waits don't exceed, or 0 if no visit departs.
 #[derive(Clone, Copy, PartialEq, Eq)]
 pub struct Percentiles {
     /// Half of the waits are at most this.
     pub p50: u64,
-    /// 90 of 100 are.
+    /// 90 of 100 waits are at most this.
     pub p90: u64,
-    /// 99 of 100 are.
+    /// 99 of 100 waits are at most this.
     pub p99: u64,
 }
 
-// So many hundredths of a number, rounded up.
+// Returns p hundredths of a number, rounded up.
 fn hundredths(p: usize, many: usize) -> usize
     requires p { p ≤ 100 }
     requires few { many ≤ 1048576 }
@@ -32,7 +32,7 @@ fn hundredths(p: usize, many: usize) -> usize
     (p * many + 99) / 100
 }
 
-// The least wait that so many don't exceed, where the table counts so many by themselves.
+// Returns the least wait that at least `many` waits don't exceed, or `None` if the table counts fewer before its last index.
 fn reached(table: &[u32], many: usize) -> Option<u64>
     requires some { 1 < length table.now }
     requires few { length table.now ≤ 1048578 }
@@ -49,7 +49,7 @@ fn reached(table: &[u32], many: usize) -> Option<u64>
     None
 }
 
-// The percentiles of so many waits, where the table counts 99 of 100 of them by themselves.
+// Returns the percentiles of this number of waits, or `None` unless the table counts 99 of 100 of them before its last index.
 pub fn counted(table: &[u32], many: usize) -> Option<Percentiles>
     requires some { 1 < length table.now }
     requires few { length table.now ≤ 1048578 }
@@ -63,7 +63,7 @@ pub fn counted(table: &[u32], many: usize) -> Option<Percentiles>
     Some(Percentiles { p50, p90, p99 })
 }
 
-// The last of so many items, or 0 where that is none.
+// Returns the last of the first `many` items, or 0 if `many` is 0.
 fn last_of(items: &[u64], many: usize) -> u64
     requires { many ≤ length items.now }
     ensures none { many ≡ 0 → result ≡ 0 }
@@ -72,7 +72,7 @@ fn last_of(items: &[u64], many: usize) -> u64
     if many == 0 { 0 } else { items[many - 1] }
 }
 
-// The percentiles of these waits, which it puts in order.
+// Returns the percentiles of these waits, and leaves them sorted.
 fn sorted(waits: &mut [u64]) -> Percentiles
     requires few { length waits.old ≤ 1048576 }
     ensures { ArePercentiles waits.old result }
@@ -86,7 +86,7 @@ fn sorted(waits: &mut [u64]) -> Percentiles
     }
 }
 
-// The percentiles of these waits, where each of the three is at most this number and the number of waits.
+// Returns the percentiles of these waits, or `None` if one of the three exceeds `longest` or the number of waits.
 fn counted_tail(
     alloc: Global,
     waits: &[u64],
@@ -103,8 +103,8 @@ fn counted_tail(
     Ok(tail)
 }
 
-// The percentiles of these waits, the longest of which has so many ticks. Mostly each is at most the number of waits: then a table
-// no longer than they and the longest wait need tells it, and nothing is put in order. Else the waits are sorted.
+// Returns the percentiles of these waits, the longest of which has `longest` ticks. Usually no percentile exceeds the number of
+// waits. Then a short table gives them; otherwise the waits are sorted.
 fn tail_by(alloc: Global, waits: &mut [u64], longest: u64) -> Result<Percentiles, OutOfMemory>
     requires few { length waits.old ≤ 1048576 }
     ensures { IfOk result (ArePercentiles waits.old) }
@@ -115,7 +115,7 @@ fn tail_by(alloc: Global, waits: &mut [u64], longest: u64) -> Result<Percentiles
     }
 }
 
-// The percentiles of the waits of visits that stand in these columns, the longest of which has so many ticks.
+// Returns the percentiles of the waits of the visits in these columns, the longest of which has `longest` ticks.
 pub fn tail_of_columns(
     alloc: Global,
     waiting: &Waiting,
@@ -131,9 +131,8 @@ pub fn tail_of_columns(
     tail
 }
 
-/// The percentiles of the waits of the visits to a node of this kind, as `tail` gives them, by a table that is no longer than a
-/// longest wait of `longest` ticks needs. Where a wait is longer the answer is the same, and may come more slowly. It refuses
-/// for want of memory alone.
+/// Returns the same percentiles as `tail`, from a table that is no longer than a longest wait of `longest` ticks needs. If a wait
+/// is longer, the answer is the same but may take more time. The only error is out of memory.
 pub fn tail_below(
     alloc: Global,
     rows: &Rows,
@@ -154,7 +153,7 @@ pub fn tail_below(
     tail_of_columns(alloc, &waiting, longest)
 }
 
-/// The percentiles of the waits of the visits to a node of this kind. It refuses for want of memory alone.
+/// Returns the percentiles of the waits of the visits to a node of this kind. The only error is out of memory.
 pub fn tail(
     alloc: Global,
     rows: &Rows,

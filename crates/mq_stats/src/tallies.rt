@@ -14,28 +14,27 @@ use mq_core::{Fate, FateSlice, Kind, Rows, Visits};
 /// The totals of a node over a run.
 #[derive(Clone, Copy, PartialEq, Eq)]
 pub struct NodeTotals {
-    /// How many jobs came.
+    /// The number of jobs that came.
     pub came: u32,
-    /// How many of them departed.
+    /// The number of them that departed.
     pub left: u32,
-    /// How many of them were lost.
+    /// The number of them that were lost.
     pub lost: u32,
-    /// How many of them are in the node for good.
+    /// The number of them that stay in the node for good.
     pub held: u32,
     /// The sum of the waiting times, in ticks.
     pub wait: u128,
     /// The longest waiting time, in ticks.
     pub longest: u64,
-    /// The time, in ticks, that the servers worked, summed over them.
+    /// The time, in ticks, that the servers worked, summed over all servers.
     pub busy: u128,
-    /// The sum of the sojourns, in ticks: the number of jobs in the node, summed over time up to the
-    /// end of the run.
+    /// The sum of the sojourns, in ticks. It equals the number of jobs in the node, summed over time up to the end of the run.
     pub area: u128,
-    /// The greatest number of jobs in the node just after an arrival; 0 where a node holds none.
+    /// The greatest number of jobs in the node just after an arrival, or 0 if jobs don't stay in a node of its kind.
     pub peak: u32,
 }
 
-// 1 for a lost visit, and 0 for another.
+// Returns 1 for a lost visit, and 0 for any other.
 fn one_if_lost(fate: Fate) -> u32
     ensures value { result ≡ cond (is_lost fate) 1 0 }
     ensures most { result ≤ 1 }
@@ -46,7 +45,7 @@ fn one_if_lost(fate: Fate) -> u32
     }
 }
 
-// 1 for a held visit, and 0 for another.
+// Returns 1 for a held visit, and 0 for any other.
 fn one_if_held(fate: Fate) -> u32
     ensures value { result ≡ cond (is_held fate) 1 0 }
     ensures most { result ≤ 1 }
@@ -57,7 +56,7 @@ fn one_if_held(fate: Fate) -> u32
     }
 }
 
-// How long a visit stayed by the end of a run, in ticks.
+// Returns how long a visit stayed by the end of a run, in ticks.
 fn sojourn_of(span: u64, arrive: u64, fate: Fate) -> u64
     ensures { result ≡ sequence_sojourn span arrive fate }
 {
@@ -68,8 +67,8 @@ fn sojourn_of(span: u64, arrive: u64, fate: Fate) -> u64
     }
 }
 
-// What is counted and added up over visits, whatever the kind of the node and the span of
-// the run. A stay is that of a visit that departed.
+// What is counted and added up over visits, whatever the kind of the node and the span of the run. The stay is summed over visits that
+// departed.
 #[derive(Clone, Copy)]
 struct Stays {
     lost: u32,
@@ -77,8 +76,8 @@ struct Stays {
     stay: u128,
 }
 
-// The lost visits, the held ones, and the sum of the stays. With a span of 0 a held visit doesn't stay.
-// Its loop is not inlined, so that it has the registers to itself.
+// Returns the number of lost visits, the number of held ones, and the sum of the stays. With a span of 0 a held visit adds no stay.
+// Not inlined, so that its loop has the registers to itself.
 #[inline(never)]
 fn stays_of(arrive: &[u64], fate: &FateSlice) -> Stays
     requires few { length arrive.now ≤ 1048576 }
@@ -100,7 +99,7 @@ fn stays_of(arrive: &[u64], fate: &FateSlice) -> Stays
     Stays { lost, held, stay }
 }
 
-// The sum of the sojourns by the end of a run with this span.
+// Returns the sum of the sojourns, in ticks, by the end of a run with this span.
 fn sojourns_of(span: u64, arrive: &[u64], fate: &FateSlice) -> u128
     requires few { length arrive.now ≤ 1048576 }
     requires fates { length fate.now ≡ length arrive.now }
@@ -115,7 +114,7 @@ fn sojourns_of(span: u64, arrive: &[u64], fate: &FateSlice) -> u128
     area
 }
 
-// The same from the stays, and one visit after another only where some are held.
+// Returns that sum from the stays, and goes over the visits again only if some are held.
 fn area_of(span: u64, arrive: &[u64], fate: &FateSlice, stays: &Stays) -> u128
     requires few { length arrive.now ≤ 1048576 }
     requires fates { length fate.now ≡ length arrive.now }
@@ -131,7 +130,7 @@ fn area_of(span: u64, arrive: &[u64], fate: &FateSlice, stays: &Stays) -> u128
     sojourns_of(span, arrive, fate)
 }
 
-// The totals of visits to a node of this kind, which stand in these columns and have these sums and this peak, in a run with this span.
+// Returns the totals of the visits in these columns, which have these sums and this peak, in a run with this span.
 pub fn totals_of(waiting: &Waiting, peak: u32, span: u64, sums: &Sums) -> NodeTotals
     requires visits { AreWaiting waiting.now }
     requires sums { AreSums waiting.now sums.now }
@@ -154,7 +153,7 @@ pub fn totals_of(waiting: &Waiting, peak: u32, span: u64, sums: &Sums) -> NodeTo
     }
 }
 
-// The items from one index up to another.
+// Returns the items from one index up to another.
 pub fn part<T>(items: &List<T>, from: u32, to: u32) -> &[T]
     requires order { from ≤ to }
     requires within { to ≤ length items.now }
@@ -163,8 +162,8 @@ pub fn part<T>(items: &List<T>, from: u32, to: u32) -> &[T]
     &items.as_slice()[from as usize..to as usize]
 }
 
-// The totals of visits to a node, of the totals of those before a position and of those from it on.
-// Together they are at most 1,048,576 visits.
+// Adds the totals of the visits before a position to those of the visits from that position on. Together they are at most 1,048,576
+// visits.
 pub fn totals_added(before: &NodeTotals, after: &NodeTotals) -> NodeTotals
     requires before { AreSmall before.now }
     requires after { AreSmall after.now }
@@ -185,8 +184,8 @@ pub fn totals_added(before: &NodeTotals, after: &NodeTotals) -> NodeTotals
     }
 }
 
-/// The totals of a node of this kind, from its visits and the span of the run, in ticks, by which
-/// those end that are held. It looks at one visit after another, and takes no memory; `count_block` tells the same of a block.
+/// Returns the totals of a node of this kind, from its visits and the span of the run, in ticks, until which held visits stay. It
+/// looks at one visit at a time and allocates no memory; `count_block` returns the totals of a block.
 ///
 /// The busy time is below 2^100 ticks.
 pub fn totals(rows: &Rows, kind: &Kind, visits: &Visits, span: u64) -> NodeTotals

@@ -1,4 +1,4 @@
-// How many of the waits at a node are each number of ticks, by pieces of its visits.
+// Counts of the waits at a node by their number of ticks, in pieces of its visits.
 ghost use Rattle.std.specs.Prelude.{◌≡◌, ◌↔◌, ◌+◌, ◌-◌, ◌++◌, ◌==◌, ◌<◌, ◌≤◌, ℕ, List as Items, IfOk, IfSome, IsSome, [], count_by, fold, get_or, length, max, min};
 ghost use Rattle.std.specs.List.{AllByRecursion};
 ghost use Rattle.mq_stats.specs.Numbers.{AreVisits, visits_between};
@@ -14,17 +14,17 @@ use mq_base::{List, OutOfMemory};
 use mq_core::{Kind, Rows, Visits};
 use std::alloc::Global;
 
-/// How many of some waits are each number of ticks.
+/// Counts of some waits, by their number of ticks.
 #[derive(Drop)]
 pub struct WaitCounts {
-    /// How many waits they are.
+    /// The number of waits.
     pub many: u32,
-    /// For each number of ticks, how many of them are that long: for each number up to the longest, and one more at least.
+    /// At each index, the number of waits of that many ticks. There is an index for each number up to the longest wait, and at least one more.
     pub counts: List<u32>,
 }
 
-// Counts waits in a table: each at the index that it is, and all that are as great as the last index or greater there.
-// Its loop is not inlined, so that it has the registers to itself.
+// Counts each wait at its own index in the table, and all waits beyond the last index at the last.
+// Not inlined, so that its loop has the registers to itself.
 #[inline(never)]
 pub fn count_waits(table: &mut [u32], waits: &[u64])
     requires some { 0 < length table.old }
@@ -39,7 +39,7 @@ pub fn count_waits(table: &mut [u32], waits: &[u64])
     }
 }
 
-/// The counts of no waits. It refuses for want of memory alone.
+/// Returns the counts of no waits. The only error is out of memory.
 pub fn no_counts(alloc: Global) -> Result<WaitCounts, OutOfMemory>
     ensures { IfOk result (AreWaitCounts []) }
 {
@@ -50,7 +50,7 @@ pub fn no_counts(alloc: Global) -> Result<WaitCounts, OutOfMemory>
     })
 }
 
-// The counts of these waits, of which none is longer than `longest` ticks, exactly where that is no more than `most`.
+// Returns the counts of these waits, none longer than `longest` ticks, or `None` if `longest` is greater than `most`.
 pub fn counts_of(
     alloc: Global,
     waits: &[u64],
@@ -74,7 +74,7 @@ pub fn counts_of(
     }))
 }
 
-// The counts of the waits of those visits that depart, which stand in these columns.
+// Returns the counts of the waits of the visits in these columns that depart, or `None` if a wait is longer than `most` ticks.
 pub fn counts_of_columns(
     alloc: Global,
     waiting: &Waiting,
@@ -91,8 +91,8 @@ pub fn counts_of_columns(
     counts
 }
 
-/// The counts of the waits of those visits to a node of this kind that depart, from one position up to another, exactly where
-/// none is longer than `most` ticks. It refuses for want of memory alone.
+/// Returns the counts of the waits of the visits to a node of this kind that depart, from one position up to another, or `None` if a wait is longer than
+/// `most` ticks. The only error is out of memory.
 pub fn count_between(
     alloc: Global,
     rows: &Rows,
@@ -131,7 +131,7 @@ fn add_each(counts: &mut [u32], more: &[u32])
     }
 }
 
-// The same counts, with room for so many.
+// Returns the same counts, with at least `room` indices.
 fn with_room(alloc: Global, counts: List<u32>, room: usize) -> Result<Vec<u32>, OutOfMemory>
     requires small { (at : ℕ) → get_or counts at 0 ≤ 1048576 }
     ensures room { IfOk result (λ longer. (length counts ≤ length longer.items) × (room ≤ length longer.items)) }
@@ -147,8 +147,7 @@ fn with_room(alloc: Global, counts: List<u32>, room: usize) -> Result<Vec<u32>, 
     Ok(longer)
 }
 
-/// The counts of some waits and of others, added up. Together they are at most 1,048,576 waits. It refuses for want of memory
-/// alone.
+/// Returns the sum of two counts of waits, which are at most 1,048,576 waits together. The only error is out of memory.
 pub fn counts_added(
     alloc: Global,
     before: WaitCounts,
@@ -168,7 +167,8 @@ pub fn counts_added(
     })
 }
 
-/// The percentiles of the waits of these counts: exactly where 99 of 100 of them are counted before the last number, as they are in all counts of waits.
+/// Returns the percentiles of counted waits, or `None` unless 99 of 100 waits are counted before the last index. Counts of waits always count them
+/// there.
 pub fn counted_percentiles(counts: &WaitCounts) -> Option<Percentiles>
     requires some { 1 < length counts.now.counts }
     requires room { length counts.now.counts ≤ 1048578 }
@@ -180,8 +180,8 @@ pub fn counted_percentiles(counts: &WaitCounts) -> Option<Percentiles>
     counted(counts.counts.as_slice(), counts.many as usize)
 }
 
-/// The waits of neighbouring visits, one after another, are those of all of them, and no more than the visits; and the visits
-/// from the first to the last are all. It does nothing when it runs.
+/// Proves that the waits of neighbouring visits, put one after another, are the waits of all of them, no more than the visits, and that the visits from
+/// the first to the last are all visits. It does nothing at run time.
 pub fn waits_join()
     ensures { WaitsJoin }
 {}

@@ -15,11 +15,10 @@ use mq_base::{List, OutOfMemory};
 use mq_core::{Fate, FateSlice, Kind, Rows, bare_of, demand_of_branches};
 use std::alloc::Global;
 
-/// How long a visit waited, in ticks: its sojourn less the time that it would have stayed anyway.
-/// A visit that is lost or held waited 0.
+/// Returns how long a visit waited, in ticks: its sojourn less the time for which it would have stayed without waiting, or 0 for
+/// a lost or held visit.
 ///
-/// The rows have each column that the kind's demands name, and the column has the job. Each demand
-/// is at most 2^36.
+/// The rows contain each column that the kind's demands name, with a value for the job. Each demand is at most 2^36.
 pub fn wait_of(rows: &Rows, kind: &Kind, job: u32, arrive: u64, fate: Fate) -> u64
     requires { HasDemands rows.now kind.now job }
     ensures { result ≡ sequence_wait rows.now kind.now job arrive fate }
@@ -27,7 +26,7 @@ pub fn wait_of(rows: &Rows, kind: &Kind, job: u32, arrive: u64, fate: Fate) -> u
     wait_beyond(bare_of(rows, kind, job), arrive, fate)
 }
 
-// How long a visit waited whose bare time this is, in ticks.
+// Returns how long a visit with this bare time waited, in ticks.
 fn wait_beyond(bare: u64, arrive: u64, fate: Fate) -> u64
     ensures { (rows : TheRows) (kind : TheKind) (job : ℕ) → bare ≡ bare_time rows kind job → result ≡ sequence_wait rows kind job arrive fate }
 {
@@ -37,7 +36,7 @@ fn wait_beyond(bare: u64, arrive: u64, fate: Fate) -> u64
     }
 }
 
-// How long a visit was served whose job asks for this service, in ticks.
+// Returns how long a visit whose job asks for this service was served, in ticks.
 fn served(service: u64, fate: Fate) -> u64
     ensures { (rows : TheRows) (kind : TheKind) (job : ℕ) → service ≡ service_time rows kind job → result ≡ sequence_service rows kind job fate }
 {
@@ -47,7 +46,7 @@ fn served(service: u64, fate: Fate) -> u64
     }
 }
 
-// Visits to a node of this kind, by position, whose waits are worked out: their jobs, when they came and how they ended.
+// The columns of visits to a node of this kind, by position, from which waits are computed: job, arrival and fate.
 #[derive(Clone, Copy)]
 pub struct Waiting<'a> {
     pub rows: &'a Rows,
@@ -57,7 +56,7 @@ pub struct Waiting<'a> {
     pub fate: &'a FateSlice<'a>,
 }
 
-// The sum and the greatest of the waits of visits, and the sum of the services, in ticks.
+// The sum and the greatest of the waits of visits, and the sum of their services, in ticks.
 #[derive(Clone, Copy)]
 pub struct Sums {
     pub wait: u128,
@@ -65,7 +64,7 @@ pub struct Sums {
     pub busy: u128,
 }
 
-// How long a job is served at a node of this kind, in ticks.
+// Returns how long a job is served at a node of this kind, in ticks.
 fn service_of(rows: &Rows, kind: &Kind, job: u32) -> u64
     requires { HasDemands rows.now kind.now job }
     ensures { result ≡ service_time rows.now kind.now job }
@@ -80,7 +79,7 @@ fn service_of(rows: &Rows, kind: &Kind, job: u32) -> u64
     }
 }
 
-// Those of these visits, one visit after another.
+// Returns the sums over these visits, computed one visit at a time.
 pub fn sums_of(waiting: &Waiting) -> Sums
     requires visits { AreWaiting waiting.now }
     ensures { AreSums waiting.now result }
@@ -108,7 +107,7 @@ pub fn sums_of(waiting: &Waiting) -> Sums
     }
 }
 
-// 1 for a visit that departs, and 0 for another.
+// Returns 1 for a visit that departs, and 0 for any other.
 fn one_if_departs(fate: Fate) -> usize
     ensures { (rows : TheRows) (kind : TheKind) (job arrive : ℕ) → result ≡ length (with_wait rows kind job arrive fate []) }
 {
@@ -118,7 +117,7 @@ fn one_if_departs(fate: Fate) -> usize
     }
 }
 
-// How many visits depart, and the sum and the greatest of the waiting times.
+// The number of visits that depart, and the sum and the greatest of the waits, in ticks.
 #[derive(Clone, Copy)]
 struct Waits {
     kept: usize,
@@ -126,9 +125,9 @@ struct Waits {
     longest: u64,
 }
 
-// Writes the waits of the visits that depart one after another, in the place of how long their jobs stay that never wait. A wait
-// that doesn't count is written over, so that the loop looks at no fate twice.
-// Its loop is not inlined, so that it has the registers to itself.
+// Packs the waits of the visits that depart at the front of `waits`, which holds the bare times at first. The next wait
+// overwrites one that doesn't count, so the loop looks at no fate twice.
+// Not inlined, so that its loop has the registers to itself.
 #[inline(never)]
 fn put_waits(waiting: &Waiting, waits: &mut [u64]) -> Waits
     requires visits { AreWaiting waiting.now }
@@ -157,8 +156,8 @@ fn put_waits(waiting: &Waiting, waits: &mut [u64]) -> Waits
     }
 }
 
-// How long the jobs of these visits are served together, in ticks, where each is served so long.
-// Its loop is not inlined, so that it has the registers to itself.
+// Returns how long these visits were served, summed, in ticks, from the service of each job.
+// Not inlined, so that its loop has the registers to itself.
 #[inline(never)]
 fn served_together(waiting: &Waiting, services: &[u64]) -> u128
     requires visits { AreWaiting waiting.now }
@@ -174,7 +173,7 @@ fn served_together(waiting: &Waiting, services: &[u64]) -> u128
     busy
 }
 
-// The same, where this is how long each job stays that never waits.
+// Returns how long these visits were served, summed, in ticks, from the bare time of each job.
 pub fn busy_of(alloc: Global, waiting: &Waiting, bare: &[u64]) -> Result<u128, OutOfMemory>
     requires visits { AreWaiting waiting.now }
     requires bare { AreTimes (bare_time waiting.now.rows.now waiting.now.kind.now) waiting.now.job.now bare.now }
@@ -196,7 +195,7 @@ pub fn busy_of(alloc: Global, waiting: &Waiting, bare: &[u64]) -> Result<u128, O
     }
 }
 
-// The waits of those of some visits that depart, by position, in ticks, with the sum and the greatest of all waits.
+// The waits of the visits that depart, by position, with the sum and the greatest wait of all visits, in ticks.
 #[derive(Drop)]
 pub struct Waited {
     pub waits: List<u64>,
@@ -204,7 +203,7 @@ pub struct Waited {
     pub longest: u64,
 }
 
-// Those of these visits, from how long each job stays that never waits.
+// Returns the waits of these visits, from the bare time of each job.
 pub fn waits_from(waiting: &Waiting, bare: Vec<u64>) -> Waited
     requires visits { AreWaiting waiting.now }
     requires bare { AreTimes (bare_time waiting.now.rows.now waiting.now.kind.now) waiting.now.job.now bare.items }
@@ -220,7 +219,7 @@ pub fn waits_from(waiting: &Waiting, bare: Vec<u64>) -> Waited
     }
 }
 
-// Those of these visits.
+// Returns the waits of these visits.
 pub fn waits_of(alloc: Global, waiting: &Waiting) -> Result<Waited, OutOfMemory>
     requires { AreWaiting waiting.now }
     ensures { IfOk result (AreWaited waiting.now) }

@@ -14,11 +14,11 @@ tally right put taken = record { right = right; put = put; taken = taken }
 abbrev pub IdleIsEmpty : List Tally → Type 0
 IdleIsEmpty views = (i : ℕ) (v : Tally) → get_elem? views i ≡ some v → v.right ≡ 0 → (v.put ≡ []) × (v.taken ≡ [])
 
--- what holds of the items in the queue and of what all seats know
+-- the rule for the numbers in the queue and for what all seats know
 pub record Balanced (items : List ℕ) (views : List Tally) : Type 0 where
-  -- the right of all seats together is 64
+  -- all seats together have a right of 64
   pub whole : weigh (λ (v : Tally). v.right) views ≡ 64
-  -- what was put was taken or is in the queue, however the numbers are weighed
+  -- what was put was taken or is in the queue, whatever the weights of the numbers
   pub conserved : (h : ℕ → ℕ) → weigh (λ (v : Tally). weigh h v.put) views ≡ weigh (λ (v : Tally). weigh h v.taken) views + weigh h items
   pub idle : IdleIsEmpty views
 
@@ -26,7 +26,7 @@ pub record Balanced (items : List ℕ) (views : List Tally) : Type 0 where
 abbrev pub KnowsLeft : Tally → List ℕ → Type 0
 KnowsLeft v items = (h : ℕ → ℕ) → v.right ≡ 64 → weigh h v.put ≡ weigh h v.taken + weigh h items
 
--- what contracts see of a seat: of which queue it is, its right, what it put and what it took
+-- the value of a seat in contracts: its queue, its right, what it put and what it took
 pub record SeatState : Type 0 where
   pub table : TableId
   pub right : ℕ
@@ -41,14 +41,15 @@ seat_code =
 abbrev pub seat_state : TableId → ℕ → List ℕ → List ℕ → SeatState
 seat_state table right put taken = record { table = table; right = right; put = put; taken = taken }
 
--- the seat is of this queue, and has enough right for a seat of each of so many workers, of whom the first has this number
+-- the seat belongs to this queue, and has enough right to give each of these workers a seat; the first worker has this
+-- number
 pub record IsCrewSeat (queue : TableId) (seat : SeatState) (first workers : ℕ) : Type 0 where
   pub own : seat.table ≡ queue
   pub some : 1 ≤ workers
   pub room : first + workers ≤ 64
   pub right : workers ≤ seat.right
 
--- a seat did nothing but take numbers
+-- a seat did nothing except take numbers
 pub record OnlyTook (before now : SeatState) : Type 0 where
   pub table : now.table ≡ before.table
   pub right : now.right ≡ before.right

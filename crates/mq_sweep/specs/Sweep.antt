@@ -4,7 +4,8 @@ use Rattle.std.specs.List.{list_any}
 use Rattle.mq_base.specs.Text.{begins_with_dash}
 use Rattle.mq_sweep.specs.Scenario.{scenario_status, scenario_text}
 
--- what a run wrote, behind the head of its scenario: a number from 1, and the status
+-- what a run wrote, after the first line of its scenario, which has its number, from 1, and its
+-- status
 abbrev pub headed : (number status : ℕ) → List ℕ → List ℕ
 headed number status text = codes "scenario " ++ decimal (number + 1) ++ codes " status " ++ decimal status ++ 10 ∷ [] ++ text
 
@@ -12,7 +13,7 @@ headed number status text = codes "scenario " ++ decimal (number + 1) ++ codes "
 abbrev pub scenario_lines : List ℕ → ℕ → List ℕ → List ℕ
 scenario_lines trace number model = headed number (scenario_status trace model) (scenario_text trace model)
 
--- those of these models, of which the first has this number
+-- the lines of these models, the first of which has this number
 abbrev pub lines_from : List ℕ → ℕ → List (List ℕ) → List ℕ
 lines_from trace number [] = []
 lines_from trace number (model ∷ models) = scenario_lines trace number model ++ lines_from trace (number + 1) models
@@ -26,19 +27,20 @@ abbrev pub all_done : List ℕ → List (List ℕ) → Bool
 all_done trace [] = true
 all_done trace (model ∷ models) = (scenario_status trace model == 0) && all_done trace models
 
--- there aren't 2 to 65 words, or one begins with a dash
+-- whether there aren't 2 to 65 arguments, or one begins with a dash
 abbrev pub refuses_words : List (List ℕ) → Bool
 refuses_words words = nat_lt (length words) 2 || nat_lt 65 (length words) || list_any begins_with_dash words
 
--- the names of the files that are read: all words, or none where these are refused
+-- the names of the files that are read: all arguments, or none if the arguments are invalid
 abbrev pub names_read : List (List ℕ) → List (List ℕ)
 names_read words = if refuses_words words then [] else words
 
--- the most bytes of the file that a word names; words count from 1, and the first names the trace
+-- the most bytes of the file that an argument names; arguments count from 1, and the first names
+-- the trace
 abbrev pub limit_of : ℕ → ℕ
 limit_of word = if word == 1 then 134217728 else 65536
 
--- the first word, from this one on, whose file is too long
+-- the first argument, from this one on, whose file is too long
 abbrev pub first_long : ℕ → List (List ℕ) → Option ℕ
 first_long word [] = None
 first_long word (bytes ∷ files) = if nat_lt (limit_of word) (length bytes) then Some word else first_long (word + 1) files
@@ -57,14 +59,14 @@ abbrev pub answer_unless : Option ℕ → List (List ℕ) → SweepAnswer
 answer_unless None files = swept files
 answer_unless (Some word) files = LongFile word
 
--- the answer to a trace and models, in the order of the words
+-- the answer to a trace and models, in the order of the arguments
 abbrev pub sweep_answer : List (List ℕ) → SweepAnswer
 sweep_answer files = answer_unless (first_long 1 files) files
 
--- what is told of the file that a word names, of what is told of those of all words
+-- what is known of the file that an argument names, from what is known of all files
 abbrev pub told_of_word : List (Option (List ℕ)) → ℕ → Option (List ℕ)
 told_of_word told word = slice_index_or told (word - 1) None
 
--- all files are told, and these are their contents
+-- all files are known, and these are their contents
 abbrev pub AreFiles : List (Option (List ℕ)) → List (List ℕ) → Type 0
 AreFiles told files = told ≡ map Some files

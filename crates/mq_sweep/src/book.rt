@@ -27,7 +27,7 @@ impl<'a> Model for Book<'a> {
 }
 
 impl<'a> Book<'a> {
-    /// A book of this trace with no entry. It takes no memory.
+    /// Returns a book of this trace without entries. It allocates no memory.
     pub fn new(alloc: Global, trace: &'a [u8]) -> Self
         ensures { result ≡ record { trace = trace.now; entries = [] } }
     {
@@ -37,14 +37,14 @@ impl<'a> Book<'a> {
         }
     }
 
-    /// The trace.
+    /// Returns the trace.
     pub fn trace(&self) -> &[u8]
         ensures { result.now ≡ self.now.trace }
     {
         self.trace
     }
 
-    /// The entries.
+    /// Returns the entries.
     pub fn entries(&self) -> &List<Entry>
         ensures entries { result.now ≡ self.now.entries }
         ensures right { All (IsEntryOf self.now.trace) self.now.entries }
@@ -52,7 +52,7 @@ impl<'a> Book<'a> {
         &self.entries
     }
 
-    /// Adds an entry that is right for its model and the trace. Where memory runs out the book is as before.
+    /// Adds an entry that is right for its model and the trace. If memory runs out, the book is unchanged.
     pub fn put(&mut self, entry: Entry) -> Result<(), OutOfMemory>
         requires { IsEntryOf self.old.trace entry }
         ensures ok { OnOk result (self.new ≡ record self.old { entries = self.old.entries ++ entry ∷ [] }) }

@@ -1,4 +1,4 @@
-// Workers that take the numbers of the models from the queue, and run them.
+// Workers that take the numbers of the models from the queue, and run the models.
 ghost use Rattle.std.specs.Prelude.{◌≡◌, ◌⊎◌, ◌+◌, ◌≤◌, ◌<◌, ◌^◌, [], ◌∷◌, ◌++◌, length, List as Items, ℕ, IfOk};
 ghost use Rattle.std.specs.Thread.{IsSync};
 ghost use Rattle.std.specs.List.{range_with_len};
@@ -14,7 +14,7 @@ use std::marker::Sync;
 use std::sync::{Mutex, Wait};
 use std::thread::{Threads, join};
 
-// Puts an entry into a book of the same trace. Where the traces differ, or memory runs out, the book is as before.
+// Puts an entry into a book of the same trace. The book is unchanged if the traces differ or memory runs out.
 fn put_entry(book: &mut Book, trace: &[u8], entry: Entry)
     requires { IsEntryOf trace.now entry }
     ensures { (book.new ≡ book.old) ⊎ ((book.old.trace ≡ trace.now) × (book.new ≡ record book.old { entries = book.old.entries ++ entry ∷ [] })) }
@@ -24,7 +24,7 @@ fn put_entry(book: &mut Book, trace: &[u8], entry: Entry)
     }
 }
 
-// What a worker does with each number that it takes. A trait, so that a closure for a thread captures few things.
+// What a worker does with each number that it takes. It is a trait so that the closure of a thread captures few things.
 trait Task: Sync {
     fn run<R: Threads + Wait + Sync>(&self, rt: &R, worker: u32, number: u32)
         requires { IsSync R.row };
@@ -41,7 +41,7 @@ struct ModelRuns<'a, 't, G> {
 }
 
 impl<'a, 't, G: SweepGate> Task for ModelRuns<'a, 't, G> {
-    // Enters the gate, runs the model, and puts what it gave into the book; where memory runs out there is no entry.
+    // Enters the gate, runs the model, and puts the result into the book. If memory runs out, the book gets no entry.
     fn run<R: Threads + Wait + Sync>(&self, rt: &R, worker: u32, number: u32) {
         self.gate.enter(worker, number);
         let Some(model) = self.models.get(number as usize) else {
@@ -54,7 +54,7 @@ impl<'a, 't, G: SweepGate> Task for ModelRuns<'a, 't, G> {
     }
 }
 
-// One worker takes numbers until it finds the queue empty, and does the task with each.
+// Takes numbers as one worker until it finds the queue empty, and does the task with each.
 fn work<T: Task, R: Threads + Wait + Sync>(
     rt: &R,
     queue: &NumberQueue,
@@ -75,7 +75,7 @@ fn work<T: Task, R: Threads + Wait + Sync>(
     seat
 }
 
-// Each step gives half of the workers to a new thread, until there is one.
+// Gives half of the workers to a new thread at each step, until one is left.
 #[cycle(crew)]
 fn crew<T: Task, R: Threads + Wait + Sync>(
     rt: &R,
@@ -108,9 +108,10 @@ fn crew<T: Task, R: Threads + Wait + Sync>(
     mine
 }
 
-/// Runs the models over the trace by 1 to 64 workers, who take the numbers of the models from one queue, and enter the gate with
-/// each. The book has an entry for each run that found memory. The seat holds what all workers took together: each number was
-/// taken by one of them, or is left. It refuses for want of memory alone.
+/// Runs the models over the trace with 1 to 64 workers, which take the numbers of the models from one queue and enter the gate
+/// with each. The book may have an entry for each model; if memory ran out in a run, its entry is missing. Each entry is right
+/// for its model and the book's trace. The seat holds what all workers took together: each number was taken by one of them, or
+/// is left. The only error is out of memory.
 pub fn by_workers<'t, R: Threads + Wait + Sync, G: SweepGate>(
     rt: &R,
     alloc: Global,

@@ -1,4 +1,5 @@
-//! Many models over one trace: each run by one of several workers, who take the models from a queue.
+//! Many models over one trace. Several workers take the models from a queue, and each model is run
+//! by one worker.
 #![tactic(auto)]
 
 mod book;

@@ -1,4 +1,4 @@
-// How a sweep ends, its status, and the line that it puts on the error output.
+// How a sweep ends, its exit status, and its error line.
 ghost use Rattle.std.specs.Prelude.{◌≡◌};
 ghost use Rattle.mq_outcome.specs.Lines.{PutsLine};
 ghost use Rattle.mq_sweep.specs.Ends.{sweep_line, sweep_status};
@@ -13,26 +13,26 @@ pub enum SweepOutcome {
     Done,
     /// All scenarios were written, and the status of one or more isn't 0.
     Refused,
-    /// The words are refused.
+    /// The arguments are invalid.
     Usage,
     /// A file has too many bytes.
     TooLong {
-        /// The word that names it, from 1, which is the trace.
+        /// The number of the argument that names it, from 1. The first names the trace.
         word: u32,
     },
     /// A file can't be read.
     ReadFault {
-        /// The word that names it, from 1, which is the trace.
+        /// The number of the argument that names it, from 1. The first names the trace.
         word: u32,
     },
-    /// The scenarios can't be written; a first part of them was, which may be empty.
+    /// The scenarios can't be written. The output has taken a first part of them, perhaps an empty one.
     WriteFault,
-    /// Memory ran out, before the first byte was written.
+    /// Memory ran out before the first byte was written.
     Memory,
 }
 
 impl SweepOutcome {
-    /// The status with which the program ends.
+    /// Returns the exit status of the program.
     pub fn status(&self) -> u8
         ensures { result ≡ sweep_status self.now }
     {
@@ -48,7 +48,7 @@ impl SweepOutcome {
     }
 }
 
-/// Puts the line of an outcome; after `Done` and `Refused` nothing. A fault of the error output changes nothing.
+/// Writes the line of an outcome, or nothing for `Done` and `Refused`. A failure to write it is ignored.
 pub fn put_sweep_line<E: Sink>(err: &mut E, outcome: &SweepOutcome)
     ensures { PutsLine E.taken E.sure E.faults err.old err.new (sweep_line outcome.now) }
 {

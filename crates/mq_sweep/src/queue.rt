@@ -11,15 +11,15 @@ use std::collections::LinkedList;
 use std::marker::Model;
 use std::sync::Wait;
 
-/// What a seat knows: what it put, what it took, and its share of a right of 64 that all seats have together. No value of it is
-/// made.
+/// What a seat knows: what it put, what it took, and its share of the right of 64 that all seats have together. Only contracts use
+/// it; no value of it is made.
 pub struct Tally {
     pub right: u64,
     pub put: LinkedList<u32>,
     pub taken: LinkedList<u32>,
 }
 
-// The rule that nothing is lost and nothing comes twice.
+// The rule that no number is lost and none comes twice.
 struct Rule;
 
 impl Protocol<u32, Tally> for Rule {
@@ -31,7 +31,7 @@ impl Protocol<u32, Tally> for Rule {
     ghost first = { tally 64 [] [] };
 }
 
-// A seat gives half of its right to a new one.
+// A seat gives half of its right to a new seat.
 struct GiveHalf;
 
 impl Split<Tally> for GiveHalf {
@@ -43,7 +43,7 @@ impl Split<Tally> for GiveHalf {
     ghost right = { λ v. tally (v.right / 2) [] [] };
 }
 
-// A seat takes in all that another has.
+// A seat takes over all that another seat has.
 struct Both;
 
 impl Join<Tally> for Both {
@@ -87,7 +87,7 @@ impl Lesson<u32, Tally> for Takes {
     ghost fact = { KnowsLeft };
 }
 
-/// A queue of numbers, which contracts see as its name.
+/// A queue of numbers. In contracts it is its identity.
 #[derive(Drop)]
 pub struct NumberQueue {
     queue: RuledArrayQueue<u32, Tally, Rule>,
@@ -103,8 +103,8 @@ impl Model for NumberQueue {
     ghost view = { λ n. n.queue.table.shared.table_id };
 }
 
-/// The right to take numbers from a queue, and to make seats: a token of one thread, with no bytes. What it holds is seen by
-/// contracts alone: its share of the right, of 64, what it put, and what it took.
+/// The right to take numbers from a queue, and to make more seats: a token of one thread, without bytes. Only contracts see what
+/// it holds: its share of the right, of 64, what it put, and what it took.
 #[derive(Drop)]
 pub struct QueueSeat {
     pass: Pass<u32, Tally>,
@@ -125,8 +125,8 @@ impl Model for QueueSeat {
 }
 
 impl NumberQueue {
-    /// A queue of the numbers from 0 up to this count, and the seat that put them, which has all of the right. It refuses for want
-    /// of memory alone.
+    /// Returns a queue of the numbers from 0 up to `count`, without it, and the seat that put them, which has all of the right.
+    /// The only error is out of memory.
     pub fn filled<R: Wait>(
         rt: &R,
         alloc: Global,
@@ -145,7 +145,8 @@ impl NumberQueue {
         Ok((NumberQueue { queue }, QueueSeat { pass }))
     }
 
-    /// Takes the number at the front; none only where the queue was empty at one moment of the call.
+    /// Takes a number from the queue and notes it in the seat. If it finds the queue empty, it returns `None`; the contract says
+    /// only that the seat is then unchanged.
     pub fn take<R: Wait>(&self, rt: &R, seat: &mut QueueSeat) -> Option<u32>
         requires own { seat.old.table ≡ self.now }
         requires right { 1 ≤ seat.old.right }
@@ -166,7 +167,7 @@ impl NumberQueue {
         QueueSeat { pass }
     }
 
-    /// Takes in the right of another seat of this queue, and what it put and took.
+    /// Adds to a seat the right of another seat of this queue, and what that seat put and took.
     pub fn join(&self, seat: &mut QueueSeat, other: QueueSeat)
         requires own { seat.old.table ≡ self.now }
         requires its { other.table ≡ self.now }
@@ -176,7 +177,7 @@ impl NumberQueue {
         self.queue.absorb::<Both>(&mut seat.pass, other.pass);
     }
 
-    /// What a seat with all of the right learns: each number that was put was taken or is left, as often as it was put.
+    /// Shows a seat with all of the right that each number that was put was taken or is left, as often as it was put.
     pub fn learn(&self, seat: &mut QueueSeat)
         requires own { seat.old.table ≡ self.now }
         requires every { seat.old.right ≡ 64 }

@@ -1,4 +1,4 @@
-// The files that the words name.
+// The files that the arguments name.
 ghost use Rattle.std.specs.Prelude.{◌≡◌, ◌≤◌, ℕ, [], ◌∷◌, length, map, take, IfOk, IfErr, IfSome, OnOk};
 ghost use Rattle.mq_base.specs.Text.{texts};
 ghost use Rattle.mq_outside.specs.Reading.{IsReadCount, ReadsNames, is_unread};
@@ -10,23 +10,23 @@ use mq_base::{List, any_begins_with_dash};
 use mq_outside::{FileFault, Files};
 use std::alloc::Global;
 
-// The most bytes that the text of a trace may have.
+// The most bytes in the text of a trace.
 const TRACE_LIMIT: u64 = 134_217_728;
 
-// The most bytes that the text of a model may have.
+// The most bytes in the text of a model.
 const MODEL_LIMIT: u64 = 65_536;
 
-// The most words: a trace and 64 models.
+// The most arguments: a trace and 64 models.
 const MOST_WORDS: usize = 65;
 
-/// Whether the words are refused: there aren't 2 to 65, or one begins with a dash.
+/// Returns whether the arguments are invalid: there aren't 2 to 65, or one begins with a dash.
 pub fn refuses_words(words: &[&str]) -> bool
     ensures { result ≡ refuses_words_of (texts words.now) }
 {
     words.len() < 2 || words.len() > MOST_WORDS || any_begins_with_dash(words)
 }
 
-// Reads the file that a word names; words count from 1.
+// Reads the file that an argument names. Arguments count from 1.
 fn read_one<F: Files>(
     alloc: Global,
     word: u32,
@@ -47,7 +47,8 @@ fn read_one<F: Files>(
     }
 }
 
-/// Reads the files of all words in their order. A refusal is that of the first word whose read is refused.
+/// Reads the files of all arguments, in order. The error is that of the first file that can't be read, is
+/// too long or finds no memory.
 pub fn read_files<F: Files>(
     alloc: Global,
     words: &[&str],

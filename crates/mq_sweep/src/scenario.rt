@@ -9,13 +9,13 @@ use mq_top::{Outcome, simulate_bytes};
 use std::alloc::Global;
 use std::thread::Threads;
 
-// The jobs of a block of a station.
+// The number of jobs in a block of a station.
 const BLOCK: u32 = 4_096;
 
 // The form of the report.
 const FORM: u8 = 2;
 
-// Both of these, one after the other.
+// Returns both of these, one after the other.
 fn joined(alloc: Global, first: &[u8], second: &[u8]) -> Result<List<u8>, OutOfMemory>
     ensures { IfOk result (λ both. both ≡ first.now ++ second.now) }
 {
@@ -25,8 +25,8 @@ fn joined(alloc: Global, first: &[u8], second: &[u8]) -> Result<List<u8>, OutOfM
     Ok(List::from_vec(both))
 }
 
-// What a run with this outcome put into two sinks in memory, one after the other. There is none where it or one of them ran out
-// of memory. It borrows all, so that none of them waits at its exits.
+// Returns what a run with this outcome wrote to two sinks in memory, one after the other. It fails if the run or a sink ran out
+// of memory. It only borrows its arguments, so that its exits drop none of them.
 fn text_of(
     alloc: Global,
     outcome: &Outcome,
@@ -48,8 +48,8 @@ fn text_of(
     joined(alloc, out.bytes(), err.bytes())
 }
 
-/// What the run of a model over a trace gives: by one worker, with form 2 of the report and no lines of jobs. Where one of
-/// the two sinks in memory counts a fault, memory ran out.
+/// Returns the result of running a model over a trace with one worker, form 2 of the report and no job lines. It fails if
+/// memory runs out, which a fault counted by one of the two sinks in memory shows too.
 pub fn run_scenario<R: Threads + Sync>(
     rt: &R,
     alloc: Global,

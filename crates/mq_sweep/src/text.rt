@@ -18,7 +18,7 @@ pub struct Scenarios {
     pub done: bool,
 }
 
-// The entries of a book of this trace; of a book of another trace none.
+// Returns the entries of a book of this trace, or none if the book is of another trace.
 fn entries_of<'b>(book: &'b Book, trace: &[u8]) -> &'b [Entry]
     ensures { All (IsEntryOf trace.now) result.now }
 {
@@ -28,7 +28,7 @@ fn entries_of<'b>(book: &'b Book, trace: &[u8]) -> &'b [Entry]
     book.entries().as_slice()
 }
 
-// An entry with this number and this model, if there is one.
+// Returns an entry with this number and this model, if there is one.
 fn find_entry<'b>(entries: &'b [Entry], number: u32, model: &[u8]) -> Option<&'b Entry>
     ensures there { IfSome result (λ entry. Contains entries.now entry.now) }
     ensures model { IfSome result (λ entry. entry.now.model ≡ model.now) }
@@ -41,7 +41,7 @@ fn find_entry<'b>(entries: &'b [Entry], number: u32, model: &[u8]) -> Option<&'b
     None
 }
 
-// Adds the lines of a scenario: its head, and what its run wrote.
+// Adds the lines of a scenario: its first line, and what its run wrote.
 fn add_lines(number: u32, status: u8, wrote: &[u8], text: &mut Vec<u8>) -> Result<(), OutOfMemory>
     requires { number + 1 < 2 ^ 32 }
     ensures { OnOk result (text.new.items ≡ text.old.items ++ headed number status wrote.now) }
@@ -56,15 +56,15 @@ fn add_lines(number: u32, status: u8, wrote: &[u8], text: &mut Vec<u8>) -> Resul
     Ok(())
 }
 
-// Whether it was done so far, and this status is 0.
+// Returns whether all runs so far and this one have status 0.
 fn is_done(done: bool, status: u8) -> bool
     ensures { result ≡ (done && (status == 0)) }
 {
     done && status == 0
 }
 
-// Adds the lines of the scenario of this model, and gives its status: from its entry, or, where no worker put one, from a run made
-// here.
+// Adds the lines of the scenario of this model, and returns its status. It uses the model's entry or, if no worker put one, runs
+// the model itself.
 fn add_scenario<R: Threads + Sync>(
     rt: &R,
     alloc: Global,
@@ -88,8 +88,8 @@ fn add_scenario<R: Threads + Sync>(
     Ok(entry.status)
 }
 
-/// The text of the sweep of these models, in their order: from the entries of a book, and from runs made here where it has none.
-/// It refuses for want of memory alone.
+/// Returns the text of the sweep of these models, in their order. It uses the entries of a book, and runs the models that have
+/// none. The only error is out of memory.
 pub fn scenarios_of<R: Threads + Sync>(
     rt: &R,
     alloc: Global,

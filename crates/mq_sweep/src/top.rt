@@ -1,4 +1,4 @@
-// The call that the program makes.
+// What the program calls.
 ghost use Rattle.std.specs.Prelude.{◌≡◌, ◌<◌, ◌≤◌, ◌↔◌, ℕ, List as Items, false, length, map, Some, IsTrue, IfOk};
 ghost use Rattle.mq_base.specs.Text.{texts};
 ghost use Rattle.mq_outcome.specs.Lines.{PutsLine};
@@ -20,7 +20,7 @@ use std::alloc::Global;
 use std::sync::Wait;
 use std::thread::Threads;
 
-// What the sweep of these files writes: of a trace, and 1 to 64 models.
+// Returns what the sweep of these files writes: of a trace and 1 to 64 models.
 fn scenarios_in<R: Threads + Wait + Sync, G: SweepGate>(
     rt: &R,
     alloc: Global,
@@ -58,7 +58,7 @@ fn write_text<O: Sink>(scenarios: &Scenarios, out: &mut O) -> SweepOutcome
     }
 }
 
-// Runs the models in these files over the trace, and writes what they give.
+// Runs the models in these files over the trace, and writes the results.
 fn run_files<R: Threads + Wait + Sync, O: Sink, G: SweepGate>(
     rt: &R,
     alloc: Global,
@@ -83,7 +83,7 @@ fn run_files<R: Threads + Wait + Sync, O: Sink, G: SweepGate>(
     outcome
 }
 
-// All of a sweep but the line on the error output.
+// Does all of a sweep except writing the error line.
 fn sweep_words<R: Threads + Wait + Sync, F: Files, O: Sink, G: SweepGate>(
     rt: &R,
     alloc: Global,
@@ -117,15 +117,15 @@ fn sweep_words<R: Threads + Wait + Sync, F: Files, O: Sink, G: SweepGate>(
     }
 }
 
-/// Runs each of up to 64 models over one trace, and writes what the runs give, in the order of the words. The words are those
-/// behind the program's name: the name of the trace, and those of the models. 1 to 64 workers take the models from a queue, enter
-/// the gate with each and run it as one worker does, with form 2 of the report and no lines of jobs; of a model whose run found
-/// no memory there the caller makes the run. Of each model the text has the line `scenario I status S`, with I from 1 and the
-/// status of that run, then what the run writes on its output, and then its line on the error output.
+/// Runs each of up to 64 models over one trace, and writes the results in the order of the arguments. `words` are the arguments without the
+/// program's name: the name of the trace, then those of the models. 1 to 64 workers take the models from a queue and enter the gate with each.
+/// Each model is run by one worker, with form 2 of the report and no job lines. If a worker runs out of memory, the caller runs that model.
+/// For each model the text has the line `scenario I status S`, with I from 1 and the exit status of the run, then what the run writes to its
+/// output, and then its error line.
 ///
-/// `Usage`, `TooLong`, `ReadFault`, `WriteFault` and `Memory` put one line on `err`, whose faults change no outcome. All memory is
-/// taken before the first byte is written; `out` gains the whole text with `Done` and `Refused`, a first part of it with
-/// `WriteFault`, and else nothing. It may wait for its workers.
+/// `Usage`, `TooLong`, `ReadFault`, `WriteFault` and `Memory` write one line to `err`, whose faults change no outcome. All memory is allocated
+/// before the first byte is written. `out` gains the whole text with `Done` and `Refused`, a first part of it with `WriteFault`, and nothing
+/// otherwise. The call may wait for its workers.
 pub fn sweep<R: Threads + Wait + Sync, F: Files, O: Sink, E: Sink, G: SweepGate>(
     rt: &R,
     alloc: Global,
@@ -138,18 +138,18 @@ pub fn sweep<R: Threads + Wait + Sync, F: Files, O: Sink, E: Sink, G: SweepGate>
 ) -> SweepOutcome
     requires some { 1 ≤ workers }
     requires most { workers ≤ 64 }
-    // A finished sweep has written exactly the text of the single runs, and a sweep ends otherwise only with a file that is too
-    // long, with a fault of a device or want of memory.
+    // A finished sweep has written exactly the text of the single runs. Otherwise a sweep ends only with a file that is too long, with a fault
+    // of a device, or out of memory.
     ensures ends { (contents : Items (Items ℕ)) → refuses_words_of (texts words.now) ≡ false → AreFiles (map (F.told files.old) (texts words.now)) contents →
         SweepEnds (sweep_answer contents) result (takings O.taken O.sure out.old out.new) }
 
-    // The words are refused exactly so, and a file is too long whatever is told of the others.
+    // The arguments are invalid exactly as defined, and a file that is too long ends the sweep whatever is known of the others.
     ensures usage { IsTrue (refuses_words_of (texts words.now)) ↔ (result ≡ SweepOutcome.Usage) }
     ensures too_long { (w : ℕ) → result ≡ SweepOutcome.TooLong w → (1 ≤ w) × (w ≤ length words.now) × IsLong w (told_of_word (map (F.told files.old) (texts words.now)) w) }
     ensures too_long_comes { (w : ℕ) (bytes : Items ℕ) → refuses_words_of (texts words.now) ≡ false → 1 ≤ w → told_of_word (map (F.told files.old) (texts words.now)) w ≡ Some bytes → limit_of w < length bytes →
         StopsBy w result }
 
-    // What is read of the files, in their order, and what the two outputs gain. A fault of a device is counted, and a counted fault is answered.
+    // Which files are read, in order, and what the two outputs gain. A fault of a device is counted, and a counted fault shows in the outcome.
     ensures reads { ReadsFirst F.told F.is_sure F.reads F.faults files.old files.new (names_read (texts words.now)) (reading_of result) }
     ensures writes { Writes O.taken O.sure O.faults out.old out.new (writing_of result) (IsSweepOf (map (F.told files.old) (texts words.now))) }
     ensures line { PutsLine E.taken E.sure E.faults err.old err.new (sweep_line result) }

@@ -1,4 +1,4 @@
--- The answer to a model and a trace, as the definitions give it.
+-- The answer to a model and a trace, by the definitions.
 use Rattle.std.specs.Prelude.{ℕ, List, Option, Some, None, unwrap_or}
 use Rattle.mq_core.specs.NetworkRun.{refusal_in}
 use Rattle.mq_core.specs.Results.{Refusal}
@@ -13,24 +13,24 @@ use Rattle.mq_trace.specs.declared.fault.TraceFault.{TraceFault}
 use Rattle.mq_words.specs.Words.{form_asked, jobs_asked}
 use Rattle.mq_top.specs.declared.stages.Wanted.{Wanted}
 
--- what accepted words want of the report: the form that they ask for, or 2, and the lines of the jobs where they ask for them
+-- what the report contains if the arguments are valid: the form asked for, or 2, and whether job lines are asked for
 abbrev pub wanted_by : List (List ℕ) → Wanted
 wanted_by words = record { form = unwrap_or (form_asked words) 2; jobs = jobs_asked words }
 
--- the first fault of the model, the first fault of the trace, why the run is refused, or the report
+-- the first error in the model, the first error in the trace, why the run is refused, or the report
 pub data Answer : Type 0 where
   ModelRefused : ModelFault → Answer
   TraceRefused : TraceFault → Answer
   Refused : Refusal → Answer
   Reported : List ℕ → Answer
 
--- the report of the sequential event-list run, as it is wanted, unless the run is refused: a node has too many visits, or a
--- visit departs past the bound
+-- the report of the sequential event-list run, with the contents that are wanted, unless the run is refused: a node has too
+-- many visits, or a visit departs after the bound
 abbrev pub run_answer : Network → Rows → Wanted → Option Refusal → Answer
 run_answer net rows wanted (Some refusal) = Refused refusal
 run_answer net rows wanted None = Reported (report_in net rows wanted.form wanted.jobs)
 
--- what a trace gives over an accepted model
+-- the answer to a trace over a valid model
 abbrev pub trace_answer : Network → List ℕ → Wanted → Option TraceFault → Answer
 trace_answer net trace wanted (Some fault) = TraceRefused fault
 trace_answer net trace wanted None = run_answer net (rows_in net trace) wanted (refusal_in net (rows_in net trace))

@@ -1,11 +1,11 @@
-//! The top call: all that the program does.
+//! What `mpsim` calls: it reads the arguments and the files, runs the network, and writes the report.
 #![tactic(auto)]
 
-// Where a call of `drop` lets go of what is left, that spares proof: a call is proved once for a type, the end of a scope anew at each exit.
+// Calls of `drop` spare proof: a call is proved once for a type, but what the end of a scope drops is proved again at each exit.
 
 mod stages;
 
 pub use mq_outcome::Outcome;
-// Who matches on an outcome names the fault of the words here, without the crate that reads them.
+// Code that matches on an outcome names this fault here, and needs no dependency on `mq_words`.
 pub use mq_words::UsageFault;
 pub use stages::{simulate, simulate_bytes, simulate_gated};

@@ -34,19 +34,19 @@ use mq_words::{Settings, Subject, UsageFault, WordsFault, settings_of};
 use std::alloc::Global;
 use std::thread::Threads;
 
-// The most bytes that the text of a model may have.
+// The most bytes in the text of a model.
 const MODEL_LIMIT: u64 = 65_536;
 
-// The most bytes that the text of a trace may have.
+// The most bytes in the text of a trace.
 const TRACE_LIMIT: u64 = 134_217_728;
 
-// Rows of no more than so many blocks are one worker's: to start threads would take longer than they save.
+// Rows of at most this many blocks are left to one worker: starting threads would take longer than they save.
 const FEW_BLOCKS: u64 = 32;
 
-// Whoever asks for blocks of fewer jobs than so many has them shared, however few the rows are.
+// If blocks of fewer jobs than this are asked for, all workers share them, however few the rows are.
 const LEAST_BLOCK: u32 = 64;
 
-// What the words ask for, or how the call ends.
+// Returns what the arguments ask for, or how the run ends.
 fn accept_words<'a>(alloc: Global, words: &'a [&'a str]) -> Result<Settings<'a>, Outcome>
     ensures asked { IfOk result (λ settings. Asks (texts words.now) settings) }
     ensures refused { IfErr result (RefusesCall (texts words.now)) }
@@ -58,7 +58,7 @@ fn accept_words<'a>(alloc: Global, words: &'a [&'a str]) -> Result<Settings<'a>,
     }
 }
 
-// Who reads a trace and works out the runs: so many workers, by blocks of so many jobs, who enter this gate.
+// What reads a trace and computes runs: this many workers, which work by blocks of this many jobs and enter this gate.
 #[derive(Drop)]
 struct Crew<'a, R, G> {
     rt: &'a R,
@@ -70,16 +70,16 @@ struct Crew<'a, R, G> {
     ghost block_some: { 1 ≤ block },
 }
 
-// What the report is to have.
+// What the report contains.
 #[derive(Clone, Copy)]
 struct Wanted {
     // Its form, 1 or 2.
     form: u8,
-    // Whether it has the lines of the jobs.
+    // Whether it has job lines.
     jobs: bool,
 }
 
-// Judges the bytes of a model.
+// Reads the bytes of a model, and returns its plan or how the run ends.
 fn judge_model(alloc: Global, bytes: &[u8]) -> Result<Plan, Outcome>
     ensures accepted { IfOk result (λ plan. (model_fault bytes.now ≡ None) × (plan.net ≡ network_in bytes.now)) }
     ensures refused { IfErr result (λ outcome. RefusesModel outcome (Some bytes.now)) }
@@ -92,7 +92,7 @@ fn judge_model(alloc: Global, bytes: &[u8]) -> Result<Plan, Outcome>
     }
 }
 
-// Judges the bytes of a trace for the network of a plan.
+// Reads the bytes of a trace for the network of a plan, and returns its rows or how the run ends.
 fn judge_trace<R: Threads + Sync, G: Gate>(
     alloc: Global,
     crew: &Crew<R, G>,
@@ -111,7 +111,7 @@ fn judge_trace<R: Threads + Sync, G: Gate>(
     }
 }
 
-// The same of bytes that are handed over: where they are read in pieces they are let go before the rows of these are joined.
+// Does the same with bytes that it owns. If it reads them in pieces, it drops them before it joins the rows of the pieces.
 fn judge_own_trace<R: Threads + Sync, G: Gate>(
     alloc: Global,
     crew: &Crew<R, G>,
@@ -130,7 +130,7 @@ fn judge_own_trace<R: Threads + Sync, G: Gate>(
     }
 }
 
-// Reads the model of this name, and judges it.
+// Reads the model from the file of this name, and returns its plan or how the run ends.
 fn accept_model<F: Files>(alloc: Global, name: &str, files: &mut F) -> Result<Plan, Outcome>
     ensures reads { ReadsNames F.told F.is_sure F.reads F.faults files.old files.new (name.now ∷ []) (stops_unread result) }
     ensures accepted { IfOk result (λ plan. IfSome (F.told files.old name.now) (λ bytes. (model_fault bytes ≡ None) × (plan.net ≡ network_in bytes))) }
@@ -146,7 +146,7 @@ fn accept_model<F: Files>(alloc: Global, name: &str, files: &mut F) -> Result<Pl
     judge_model(alloc, &bytes)
 }
 
-// Reads the trace of this name, and judges it for the network of a plan.
+// Reads the trace from the file of this name for the network of a plan, and returns its rows or how the run ends.
 fn accept_trace<R: Threads + Sync, G: Gate, F: Files>(
     alloc: Global,
     crew: &Crew<R, G>,
@@ -169,7 +169,7 @@ fn accept_trace<R: Threads + Sync, G: Gate, F: Files>(
     judge_own_trace(alloc, crew, plan, bytes)
 }
 
-// How many of these workers work out a run over rows.
+// Returns how many of these workers compute a run over these rows.
 fn workers_for(rows: &Rows, workers: u32, block: u32) -> u32
     requires { 1 ≤ workers }
     ensures some { 1 ≤ result }
@@ -182,7 +182,7 @@ fn workers_for(rows: &Rows, workers: u32, block: u32) -> u32
     }
 }
 
-// Writes the report of a run that tells this, as it is wanted: the run is given where the lines of its jobs are wanted.
+// Writes the report with these counts, and with the job lines of the run if they are wanted.
 fn report_told<O: Sink>(
     plan: &Plan,
     rows: &Rows,
@@ -206,7 +206,7 @@ fn report_told<O: Sink>(
     }
 }
 
-// Writes the report of a run that is kept, with the lines of its jobs.
+// Writes the report of a run that is kept, with its job lines.
 fn report_kept<R: Threads + Sync, G: Gate, O: Sink>(
     alloc: Global,
     crew: &Crew<R, G>,
@@ -241,7 +241,7 @@ fn report_kept<R: Threads + Sync, G: Gate, O: Sink>(
     outcome
 }
 
-// Runs a plan over its rows, and writes the report with the lines of the jobs: the run is kept up to its end.
+// Runs a plan over its rows, keeps the run, and writes the report with the job lines.
 fn report_jobs<R: Threads + Sync, G: Gate, O: Sink>(
     alloc: Global,
     crew: &Crew<R, G>,
@@ -277,7 +277,7 @@ fn report_jobs<R: Threads + Sync, G: Gate, O: Sink>(
     outcome
 }
 
-// Runs a plan over its rows, counted as it goes, and writes the report without the lines of the jobs.
+// Runs a plan over its rows, counts as it goes, and writes the report without job lines.
 fn report_counts<R: Threads + Sync, G: Gate, O: Sink>(
     alloc: Global,
     crew: &Crew<R, G>,
@@ -314,7 +314,7 @@ fn report_counts<R: Threads + Sync, G: Gate, O: Sink>(
     outcome
 }
 
-// Runs a plan over its rows, and writes the report as it is wanted.
+// Runs a plan over its rows, and writes the report that is wanted.
 fn report_run<R: Threads + Sync, G: Gate, O: Sink>(
     alloc: Global,
     crew: &Crew<R, G>,
@@ -340,7 +340,7 @@ fn report_run<R: Threads + Sync, G: Gate, O: Sink>(
     report_counts(alloc, crew, plan, rows, wanted, out)
 }
 
-// Reads the trace of this name for a plan, runs it, and writes the report.
+// Reads the trace from the file of this name for a plan, runs the plan, and writes the report.
 fn run_trace<R: Threads + Sync, G: Gate, F: Files, O: Sink>(
     alloc: Global,
     crew: &Crew<R, G>,
@@ -365,7 +365,7 @@ fn run_trace<R: Threads + Sync, G: Gate, F: Files, O: Sink>(
     }
 }
 
-// Judges the bytes of a trace for a plan, runs the plan over them, and writes the report.
+// Reads the bytes of a trace for a plan, runs the plan over them, and writes the report.
 fn run_text<R: Threads + Sync, G: Gate, O: Sink>(
     alloc: Global,
     crew: &Crew<R, G>,
@@ -389,7 +389,7 @@ fn run_text<R: Threads + Sync, G: Gate, O: Sink>(
     }
 }
 
-// Runs the texts of a model and of a trace, writes the report, and puts the line of the outcome.
+// Runs the texts of a model and a trace, writes the report, and writes the line of the outcome.
 fn run_bytes<R: Threads + Sync, G: Gate, O: Sink, E: Sink>(
     alloc: Global,
     crew: &Crew<R, G>,
@@ -422,7 +422,7 @@ fn run_bytes<R: Threads + Sync, G: Gate, O: Sink, E: Sink>(
     }
 }
 
-// Runs the made input of this number, writes the report, and puts the line of the outcome.
+// Runs the made input of this number, writes the report, and writes the line of the outcome.
 fn run_made<R: Threads + Sync, G: Gate, O: Sink, E: Sink>(
     alloc: Global,
     crew: &Crew<R, G>,
@@ -454,9 +454,9 @@ fn run_made<R: Threads + Sync, G: Gate, O: Sink, E: Sink>(
     }
 }
 
-/// Runs the texts of a model and of a trace, and writes the report: what `simulate` does once both are read. `workers`, from 1 to 64,
-/// and `block`, from 1 to 65,536 jobs, change nothing but who makes which piece; `form` is that of the report, 1 or 2, and `jobs` asks
-/// for a line for each visit. It never answers `Usage` or `ReadFault`.
+/// Runs the texts of a model and a trace, and writes the report: what `simulate` does once it has read both. `workers`, from 1 to 64, and
+/// `block`, from 1 to 65,536 jobs, only decide which worker makes which piece. `form` is the form of the report, 1 or 2, and `jobs` asks for a
+/// line per visit. The outcome is never `Usage` or `ReadFault`.
 pub fn simulate_bytes<R: Threads + Sync, O: Sink, E: Sink>(
     rt: &R,
     alloc: Global,
@@ -472,8 +472,8 @@ pub fn simulate_bytes<R: Threads + Sync, O: Sink, E: Sink>(
     requires workers { (1 ≤ workers) × (workers ≤ 64) }
     requires block { (1 ≤ block) × (block ≤ 65536) }
     requires form { (1 ≤ form) × (form ≤ 2) }
-    // A finished run has written exactly the report of the event list, and a run ends otherwise only with the fault
-    // that the definitions give, or with a fault of a device or want of memory.
+    // A finished run has written exactly the report of the event list. Otherwise a run ends only with the error that the definitions give, with
+    // a fault of a device, or out of memory.
     ensures ends { Ends (answer model.now trace.now (record { form = form; jobs = jobs })) result (takings O.taken O.sure out.old out.new) }
     ensures model { (fault : ModelFault) → model_fault model.now ≡ Some fault → RefusesModel result (Some model.now) }
     ensures model_only { (fault : ModelFault) → result ≡ Outcome.Model fault → model_fault model.now ≡ Some fault }
@@ -481,7 +481,7 @@ pub fn simulate_bytes<R: Threads + Sync, O: Sink, E: Sink>(
     ensures unread { (second : Bool) → result ≢ Outcome.ReadFault second }
     ensures never { (result ≢ Outcome.Model ModelFault.Memory) × (result ≢ Outcome.Trace TraceFault.Memory) }
 
-    // What the two outputs gain. A fault of the output is counted, and a counted fault is answered.
+    // What the two outputs gain. A fault of the output is counted, and a counted fault shows in the outcome.
     ensures writes { Writes O.taken O.sure O.faults out.old out.new (writing_of result) (λ text. IsText text (answer model.now trace.now (record { form = form; jobs = jobs }))) }
     ensures line { PutsLine E.taken E.sure E.faults err.old err.new (line_text (name_of_outcome (network_in model.now) result) result) }
 {
@@ -494,16 +494,14 @@ pub fn simulate_bytes<R: Threads + Sync, O: Sink, E: Sink>(
     run_bytes(alloc, crew, model, trace, Wanted { form, jobs }, out, err)
 }
 
-/// Reads the model and the trace that the words name, or makes those of a number, runs the network
-/// over the rows, and writes the report: the same as that of a sequential event list. The words are
-/// those behind the program's name: the two names, or `--made` with a number, and among them
-/// `--workers`, from 1 to 64, and `--block`, from 1 to 65,536 jobs, which change nothing but who makes
-/// which piece, `--jobs`, which asks for a line for each visit, and `--report` with the form of the report, 1 or 2.
-/// The workers enter the gate with the pieces of the run, of its totals and of its percentiles; who reads a piece of the trace enters none.
+/// Reads the model and the trace that the arguments name, or makes those of a number, runs the network over the rows, and writes the report,
+/// which is that of a sequential event list. `words` are the arguments without the program's name: two file names, or `--made` with a number,
+/// and these options: `--workers`, from 1 to 64, and `--block`, from 1 to 65,536 jobs, which only decide which worker makes which piece;
+/// `--jobs`, which asks for a line per visit; and `--report` with the form of the report, 1 or 2. The workers enter the gate with the pieces of
+/// the run, of its totals and of its percentiles, but not with pieces of the trace.
 ///
-/// Every outcome but `Done` puts one line on `err`, whose faults change no outcome. All memory is
-/// taken before the first byte is written; `out` gains the whole report with `Done`, a first part
-/// of it with `WriteFault`, and else nothing.
+/// Every outcome except `Done` writes one line to `err`, whose faults change no outcome. All memory is allocated before the first byte is
+/// written. `out` gains the whole report with `Done`, a first part of it with `WriteFault`, and nothing otherwise.
 pub fn simulate_gated<R: Threads + Sync, F: Files, O: Sink, E: Sink, G: Gate>(
     rt: &R,
     alloc: Global,
@@ -513,15 +511,15 @@ pub fn simulate_gated<R: Threads + Sync, F: Files, O: Sink, E: Sink, G: Gate>(
     err: &mut E,
     gate: &G,
 ) -> Outcome
-    // A finished run has written exactly the report of the event list, and a run ends otherwise only with the fault
-    // that the definitions give, or with a fault of a device or want of memory. A made input is never refused.
+    // A finished run has written exactly the report of the event list. Otherwise a run ends only with the error that the definitions give, with
+    // a fault of a device, or out of memory. A made input is never refused.
     ensures ends { (m t model trace : List ℕ) → Names (texts words.now) m t → F.told files.old m ≡ Some model → F.told files.old t ≡ Some trace →
         Ends (answer model trace (wanted_by (texts words.now))) result (takings O.taken O.sure out.old out.new) }
     ensures made { (number : ℕ) → Makes (texts words.now) number →
         Ends (answer (made_model number) (made_trace number) (wanted_by (texts words.now))) result (takings O.taken O.sure out.old out.new) }
     ensures made_accepted { (number : ℕ) → Makes (texts words.now) number → IsOfMade result }
 
-    // The words are refused exactly so, and a model is refused whatever is told of the trace.
+    // The arguments are invalid exactly as defined, unless memory runs out; an invalid model ends the run whatever is known of the trace.
     ensures usage { (fault : UsageFault) → result ≡ Outcome.Usage fault → usage_fault (texts words.now) ≡ Some fault }
     ensures usage_comes { (fault : UsageFault) → usage_fault (texts words.now) ≡ Some fault → (result ≡ Outcome.Usage fault) ⊎ (result ≡ Outcome.Memory) }
     ensures words { IsTrue (refuses_words (texts words.now)) → result ≡ Outcome.Usage UsageFault.Words }
@@ -530,7 +528,7 @@ pub fn simulate_gated<R: Threads + Sync, F: Files, O: Sink, E: Sink, G: Gate>(
     ensures model_only { (m t model : List ℕ) (fault : ModelFault) → Names (texts words.now) m t → F.told files.old m ≡ Some model → result ≡ Outcome.Model fault → model_fault model ≡ Some fault }
     ensures never { (result ≢ Outcome.Model ModelFault.Memory) × (result ≢ Outcome.Trace TraceFault.Memory) }
 
-    // What is read of the files, in their order, and what the two outputs gain. A fault of a device is counted, and a counted fault is answered.
+    // Which files are read, in order, and what the two outputs gain. A fault of a device is counted, and a counted fault shows in the outcome.
     ensures reads { ReadsFirst F.told F.is_sure F.reads F.faults files.old files.new (names_read (texts words.now)) (reading_of result) }
     ensures writes { Writes O.taken O.sure O.faults out.old out.new (writing_of result) (IsReportOf (F.told files.old) (texts words.now)) }
     ensures line { (name : List ℕ) × PutsLine E.taken E.sure E.faults err.old err.new (line_text name result) ×
@@ -571,7 +569,7 @@ pub fn simulate_gated<R: Threads + Sync, F: Files, O: Sink, E: Sink, G: Gate>(
     }
 }
 
-/// All that the program does: `simulate_gated` with the gate that does nothing.
+/// Does all that the program does: `simulate_gated` with the gate that does nothing.
 pub fn simulate<R: Threads + Sync, F: Files, O: Sink, E: Sink>(
     rt: &R,
     alloc: Global,
@@ -580,15 +578,15 @@ pub fn simulate<R: Threads + Sync, F: Files, O: Sink, E: Sink>(
     out: &mut O,
     err: &mut E,
 ) -> Outcome
-    // A finished run has written exactly the report of the event list, and a run ends otherwise only with the fault
-    // that the definitions give, or with a fault of a device or want of memory. A made input is never refused.
+    // A finished run has written exactly the report of the event list. Otherwise a run ends only with the error that the definitions give, with
+    // a fault of a device, or out of memory. A made input is never refused.
     ensures ends { (m t model trace : List ℕ) → Names (texts words.now) m t → F.told files.old m ≡ Some model → F.told files.old t ≡ Some trace →
         Ends (answer model trace (wanted_by (texts words.now))) result (takings O.taken O.sure out.old out.new) }
     ensures made { (number : ℕ) → Makes (texts words.now) number →
         Ends (answer (made_model number) (made_trace number) (wanted_by (texts words.now))) result (takings O.taken O.sure out.old out.new) }
     ensures made_accepted { (number : ℕ) → Makes (texts words.now) number → IsOfMade result }
 
-    // The words are refused exactly so, and a model is refused whatever is told of the trace.
+    // The arguments are invalid exactly as defined, unless memory runs out; an invalid model ends the run whatever is known of the trace.
     ensures usage { (fault : UsageFault) → result ≡ Outcome.Usage fault → usage_fault (texts words.now) ≡ Some fault }
     ensures usage_comes { (fault : UsageFault) → usage_fault (texts words.now) ≡ Some fault → (result ≡ Outcome.Usage fault) ⊎ (result ≡ Outcome.Memory) }
     ensures words { IsTrue (refuses_words (texts words.now)) → result ≡ Outcome.Usage UsageFault.Words }
@@ -597,7 +595,7 @@ pub fn simulate<R: Threads + Sync, F: Files, O: Sink, E: Sink>(
     ensures model_only { (m t model : List ℕ) (fault : ModelFault) → Names (texts words.now) m t → F.told files.old m ≡ Some model → result ≡ Outcome.Model fault → model_fault model ≡ Some fault }
     ensures never { (result ≢ Outcome.Model ModelFault.Memory) × (result ≢ Outcome.Trace TraceFault.Memory) }
 
-    // What is read of the files, in their order, and what the two outputs gain. A fault of a device is counted, and a counted fault is answered.
+    // Which files are read, in order, and what the two outputs gain. A fault of a device is counted, and a counted fault shows in the outcome.
     ensures reads { ReadsFirst F.told F.is_sure F.reads F.faults files.old files.new (names_read (texts words.now)) (reading_of result) }
     ensures writes { Writes O.taken O.sure O.faults out.old out.new (writing_of result) (IsReportOf (F.told files.old) (texts words.now)) }
     ensures line { (name : List ℕ) × PutsLine E.taken E.sure E.faults err.old err.new (line_text name result) ×

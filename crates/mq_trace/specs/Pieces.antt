@@ -1,4 +1,4 @@
--- A text in pieces, which are cut at line feeds and read by themselves.
+-- A text in pieces, which are cut at line feeds and read separately.
 use Rattle.std.specs.Prelude.{◌≡◌, ◌⊎◌, ◌+◌, ◌<◌, ◌≤◌, ◌==◌, [], ℕ, List, flat_map, get_or, length, nat_lt, slice_index_or, if◌then◌else◌, None, Result, true}
 use Rattle.mq_core.specs.declared.model.Network.{Network}
 use Rattle.mq_core.specs.declared.model.Rows.{Rows}
@@ -12,7 +12,7 @@ use Rattle.mq_trace.specs.declared.fault.TraceFault.TheVariants.{TooLong, BadHea
 abbrev pub IsRest : List ℕ → Type 0
 IsRest text = (text ≡ []) ⊎ (get_or text 0 0 ≡ 10)
 
--- each piece but the first is nothing, or begins with a line feed
+-- each piece but the first is empty or begins with a line feed
 abbrev pub AreLines : List (List ℕ) → Type 0
 AreLines pieces = (k : ℕ) → 0 < k → k < length pieces → IsRest (get_or pieces k [])
 
@@ -20,7 +20,7 @@ AreLines pieces = (k : ℕ) → 0 < k → k < length pieces → IsRest (get_or p
 abbrev pub AreClosed : List (List ℕ) → Type 0
 AreClosed pieces = (k : ℕ) → k + 1 < length pieces → is_closed true (get_or pieces k []) ≡ true
 
--- the records of pieces that are read by themselves are those of the text
+-- the records of the pieces, each read separately, are those of the text
 abbrev pub ArePieces : List ℕ → List (List ℕ) → Type 0
 ArePieces text pieces = text_records text ≡ flat_map text_records pieces
 
@@ -28,11 +28,11 @@ ArePieces text pieces = text_records text ≡ flat_map text_records pieces
 abbrev pub piece_data : ℕ → List ℕ → List Record
 piece_data at piece = if at == 0 then data_of (text_records piece) else text_records piece
 
--- what a reader of these data records answers, who numbers them from 1
+-- what a reader of these data records returns, which numbers them from 1
 abbrev pub Reads : Network → Record → List Record → Result Rows TraceFault → Type 0
 Reads net header rs result = Answers result (rows_fault net header 1 rs) (rows_of net header rs)
 
--- What was read of each piece of a text by itself. The header is the first record of the first, and has no fault.
+-- What was read from each piece of a text. The header is the first record of the first piece, and has no error.
 pub record AreReadApart (net : Network) (text : List ℕ) (read : List (Result Rows TraceFault)) : Type 0 where
   pub pieces : List (List ℕ)
   pub same : ArePieces text pieces
@@ -41,11 +41,11 @@ pub record AreReadApart (net : Network) (text : List ℕ) (read : List (Result R
   pub len : length read ≡ length pieces
   pub each : (i : ℕ) (d : Result Rows TraceFault) → i < length read → Reads net (header_of (text_records text)) (piece_data i (get_or pieces i [])) (slice_index_or read i d)
 
--- a fault that names a row, unless the row is one too many
+-- an error that names a row, unless the row is one too many
 abbrev pub if_allowed : ℕ → TraceFault → TraceFault
 if_allowed row fault = if nat_lt 1048576 row then TooManyRows else fault
 
--- a fault of data records with so many others before them
+-- an error in data records that follow `before` others
 abbrev pub behind : ℕ → TraceFault → TraceFault
 behind before TooLong = TooLong
 behind before (BadHeader field) = BadHeader field

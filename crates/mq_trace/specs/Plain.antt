@@ -1,4 +1,4 @@
--- Records that are read as they stand in a text: in their fields no quote stands, but around them.
+-- Plain records, read from the text directly: their fields contain no quotes, except around a whole field.
 use Rattle.std.specs.Prelude.{◌≡◌, ◌⊎◌, ◌∷◌, ◌++◌, ◌<◌, ◌==◌, ◌^◌, ◌||◌, [], ℕ, List, Bool, true, false, None, Some, not, length}
 use Rattle.std.specs.List.{list_all}
 use Rattle.std.specs.Str.Parse.{digits_value}
@@ -19,22 +19,22 @@ use Rattle.mq_trace.specs.declared.plain_source.PlainSource.{PlainSource}
 abbrev pub is_line_end : ℕ → Bool
 is_line_end c = (c == 13) || (c == 10)
 
--- a byte of a field that no quotes stand around
+-- a byte of a field without quotes around it
 abbrev pub is_plain : ℕ → Bool
 is_plain c = not ((c == 34) || (c == 44) || (c == 13) || (c == 10))
 
--- A text begins with these bytes of a field, as they stand or between quotes, and this is left behind them. Where no quotes stand around them
--- more of the field may follow: what is left says whether it ends there.
+-- A text begins with the bytes of a field, as they are or between quotes, and `rest` is left after them. Without quotes around them
+-- more of the field may follow: `rest` shows whether it ends there.
 abbrev pub IsField : List ℕ → List ℕ → List ℕ → Type 0
 IsField text field rest = ((list_all is_plain field ≡ true) × (text ≡ field ++ rest)) ⊎ ((has_quote field ≡ false) × (text ≡ 34 ∷ (field ++ 34 ∷ rest)))
 
--- its text is the name of its node, as it stands or between quotes, and a comma
+-- its text is the name of its node, as it is or between quotes, and a comma
 pub record IsSource (net : Network) (source : PlainSource) : Type 0 where
   pub name : List ℕ
   pub stands : IsField source.text.now name (44 ∷ [])
   pub named : source_named net name ≡ Some source.node
 
--- a text begins with this source, and this is left behind it
+-- a text begins with this source, and `rest` is left after it
 pub record IsSourceOf (net : Network) (text : List ℕ) (source : PlainSource) (rest : List ℕ) : Type 0 where
   pub source_is : IsSource net source
   pub begins : text ≡ source.text.now ++ rest
@@ -43,7 +43,7 @@ pub record IsSourceOf (net : Network) (text : List ℕ) (source : PlainSource) (
 abbrev pub IsNoted : Bool → ℕ → List ℕ → Type 0
 IsNoted reads value field = (reads ≡ false) ⊎ (number_of field (2 ^ 36) ≡ Some value)
 
--- a text begins with a comma and the field of a column, and this is left behind it
+-- a text begins with a comma and the field of a column, and `rest` is left after it
 pub record IsColumnField (reads : Bool) (value : ℕ) (text rest : List ℕ) : Type 0 where
   pub from : List ℕ
   pub field : List ℕ
@@ -51,17 +51,17 @@ pub record IsColumnField (reads : Bool) (value : ℕ) (text rest : List ℕ) : T
   pub follows : IsField from field rest
   pub noted : IsNoted reads value field
 
--- where this text begins a record ends: there is nothing, or a byte that ends one
+-- a record ends where this text begins: it is empty, or begins with a byte that ends a record
 abbrev pub ends_record : List ℕ → Bool
 ends_record [] = true
 ends_record (c ∷ more) = is_line_end c
 
--- this is the first record of a text, and this is left behind it
+-- this is the first record of a text, and `rest` is left after it
 pub record BeginsWith (text : List ℕ) (first : Record) (rest : List ℕ) : Type 0 where
   pub records : records_at st.StartRecord text ≡ first ∷ records_at st.StartRecord rest
   pub less : length rest < length text
 
--- what was read is the first record of a text, which has this number and no fault
+-- what was read is the first record of a text, which has this number and no error
 pub record IsFirstRow (net : Network) (header : Header) (text : List ℕ) (number : ℕ) (row : PlainRow) (values : List ℕ) : Type 0 where
   pub fields : Record
   pub first : BeginsWith text fields row.rest.now

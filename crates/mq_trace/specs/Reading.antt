@@ -1,4 +1,4 @@
--- What a header that was read holds.
+-- What the reader keeps of a header and of rows.
 use Rattle.std.specs.Prelude.{◌≡◌, ◌+◌, ◌<◌, ◌≤◌, ◌++◌, ◌∷◌, [], ℕ, Bool, true, false, get_or, length, map, List, None, unwrap_or}
 use Rattle.std.specs.Str.Parse.{digits_value}
 use Rattle.mq_trace.specs.Records.{Record}
@@ -17,16 +17,16 @@ pub record IsHeaderOf (net : Network) (h : Header) : Type 0 where
   pub reads : h.reads.items ≡ map (λ name. is_among net.columns name) (columns_of (fields_of h.names))
   pub indices : h.indices.items ≡ map (λ name. position_or_len (λ other. bytes_eq other name) (columns_of (fields_of h.names))) net.columns
 
--- the indices of these columns hold the numbers of a record, where the column is read
+-- the indices of the columns that are read contain the numbers of a record
 abbrev pub HoldsValues : List Bool → List ℕ → Record → Type 0
 HoldsValues reads values r = (index : ℕ) → index < length reads → get_or reads index false ≡ true → get_or values index 0 ≡ digits_value 10 (field_of r (index + 2))
 
--- each list gained the value at its index
+-- each list got the value at its index
 pub record Pushes (old new : List (List ℕ)) (indices values : List ℕ) : Type 0 where
   pub len : length new ≡ length old
   pub each : (k : ℕ) → k < length old → get_or new k [] ≡ get_or old k [] ++ get_or values (get_or indices k 0) 0 ∷ []
 
--- what the rows of the data records so far hold, none of which has a fault
+-- what the rows of the data records so far contain; none of the records has an error
 pub record RowsSoFar (net : Network) (header : Record) (done : List Record) (source time : List ℕ) (demands : List (List ℕ)) : Type 0 where
   pub clean : rows_fault net header 1 done ≡ None
   pub sources : source ≡ map (λ r. unwrap_or (source_named net (field_of r 0)) 0) done

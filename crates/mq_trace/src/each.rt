@@ -1,4 +1,4 @@
-// The pieces of a trace, which workers read.
+// Reads the pieces of a trace, by workers.
 
 ghost use Rattle.std.specs.Prelude.{◌≡◌, ◌^◌, ◌<◌, ◌≤◌, ℕ, [], length, map, get_or, slice_index_or, IfOk};
 ghost use Rattle.csv.specs.Records.{fields_of};
@@ -15,7 +15,7 @@ use mq_crew::{Open, Pieces, made};
 use std::alloc::Global;
 use std::thread::Threads;
 
-// A text in pieces, of which each is read by itself. The header is the first record of the first.
+// A text in pieces, each read separately. The header is the first record of the first piece.
 #[derive(Drop)]
 struct TracePieces<'a> {
     pieces: &'a [&'a [u8]],
@@ -46,7 +46,7 @@ impl<'a> Pieces for TracePieces<'a> {
     }
 }
 
-/// Reads each piece by itself, by so many workers, and tells of each its rows or its first fault.
+/// Reads each piece separately, by `workers` workers, and returns its rows or its first error.
 pub fn read_each<R: Threads + Sync>(
     rt: &R,
     alloc: Global,

@@ -1,4 +1,4 @@
-// The ends of pieces, which workers find.
+// Finds the ends of pieces, by workers.
 
 ghost use Rattle.std.specs.Prelude.{◌≡◌, ◌^◌, ◌<◌, ◌≤◌, ℕ, [], true, false, length, map, get_or, IfOk};
 ghost use Rattle.mq_trace.specs.Quotes.{is_closed};
@@ -9,7 +9,7 @@ use mq_crew::{Open, Pieces, made};
 use std::alloc::Global;
 use std::thread::Threads;
 
-// Pieces of a text, of which each is read as if it began outside quotes.
+// The pieces of a text, each read as if it began outside quotes.
 #[derive(Drop)]
 struct Ends<'a> {
     pieces: &'a [&'a [u8]],
@@ -34,7 +34,7 @@ impl<'a> Pieces for Ends<'a> {
     }
 }
 
-/// Of each piece, whether it ends outside quotes where it begins outside them.
+/// Returns for each piece whether it ends outside quotes if it begins outside them.
 pub fn find_ends<R: Threads + Sync>(
     rt: &R,
     alloc: Global,

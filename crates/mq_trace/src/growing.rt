@@ -15,7 +15,7 @@ pub struct GrowingRows {
     pub demands: Vec<List<u64>>,
 }
 
-// Empty lists with room, one for each column.
+// Empty lists with room for `room` values, one for each column.
 fn empty_lists(
     alloc: Global,
     columns: &[List<u8>],
@@ -30,7 +30,7 @@ fn empty_lists(
     Ok(lists)
 }
 
-// Each list gains the value at its index.
+// Each list gets the value at its index.
 fn push_values(
     lists: &mut [List<u64>],
     indices: &[usize],
@@ -48,7 +48,7 @@ fn push_values(
 }
 
 impl GrowingRows {
-    /// No rows, and room for so many.
+    /// Returns no rows, with room for `room` of them.
     pub fn new(alloc: Global, columns: &[List<u8>], room: usize) -> Result<Self, OutOfMemory>
         ensures source { IfOk result (λ rows. rows.source ≡ []) }
         ensures time { IfOk result (λ rows. rows.time ≡ []) }
@@ -64,7 +64,7 @@ impl GrowingRows {
         })
     }
 
-    /// One row more: its source's node, its time, and for each column the value at its index.
+    /// Adds a row: its source node, its time, and for each column the value at its index.
     pub fn push(
         &mut self,
         node: u32,
@@ -83,7 +83,7 @@ impl GrowingRows {
         push_values(self.demands.as_mut_slice(), indices, values)
     }
 
-    /// The rows, without taking memory.
+    /// Returns the rows, without taking memory.
     pub fn into_rows(self) -> Rows
         ensures { result ≡ record { source = self.source; time = self.time; demands = self.demands.items } }
     {

@@ -14,14 +14,14 @@ use mq_base::List;
 use mq_core::Network;
 use std::alloc::{AllocError, Global};
 
-/// What the data records are read by.
+/// What is needed to read the data records.
 #[derive(Drop)]
 pub struct Header {
     /// The header itself.
     pub names: ByteRecord,
-    /// Of each column behind the time, whether the model names it.
+    /// For each column of the trace after the time, whether the model names it.
     pub reads: Vec<bool>,
-    /// Of each column of the model, its index behind the time.
+    /// For each column of the model, its index among the trace's columns after the time.
     pub indices: Vec<usize>,
 }
 
@@ -32,14 +32,14 @@ fn is_listed(names: &[List<u8>], name: &[u8]) -> bool
     names.iter().any(|other| other.as_slice() == name)
 }
 
-// The same, of names in a text.
+// Whether one of these names in a text is this one.
 fn is_seen(names: &[&[u8]], name: &[u8]) -> bool
     ensures { result ≡ list_any (λ other. bytes_eq other.now name.now) names.now }
 {
     names.iter().any(|other| *other == name)
 }
 
-// Where a name stands among these, if it does.
+// The index of a name among these, if it is among them.
 fn index_among(names: &[&[u8]], name: &[u8]) -> Option<usize>
     ensures { result ≡ position (λ other. bytes_eq other.now name.now) names.now }
 {
@@ -57,7 +57,7 @@ fn has_field(row: &ByteRecord, index: usize, name: &[u8]) -> bool
     }
 }
 
-// The name at an index of a header, behind these, if its field isn't faulty.
+// The column at an index of a header, which follows the columns `before`, or its error.
 fn column_name<'a>(
     row: &'a ByteRecord,
     index: usize,
@@ -82,7 +82,7 @@ fn column_name<'a>(
 }
 
 #[tactic(auto, using(crate::proofs::TraceFacts::column_steps), unfolding(crate::specs::Header::bad_header))]
-// The columns of a header without a fault in its fields.
+// The columns of a header, or the error in its first invalid field.
 fn read_columns<'a>(alloc: Global, row: &'a ByteRecord) -> Result<Vec<&'a [u8]>, TraceFault>
     ensures ok { IfOk result (λ v. (bad_header (fields_of row.now) ≡ None) × (map (λ s. s.now) v.items ≡ columns_of (fields_of row.now))) }
     ensures size { IfOk result (λ _. (2 ≤ length (fields_of row.now)) × (length (fields_of row.now) ≤ 18)) }
@@ -102,7 +102,7 @@ fn read_columns<'a>(alloc: Global, row: &'a ByteRecord) -> Result<Vec<&'a [u8]>,
     Ok(columns)
 }
 
-// Of each column of a text, whether it is among these names.
+// For each column of a text, whether it is among these names.
 fn listed(alloc: Global, names: &[List<u8>], columns: &[&[u8]]) -> Result<Vec<bool>, AllocError>
     ensures { IfOk result (λ v. v.items ≡ map (λ column. is_among names.now column.now) columns.now) }
 {
@@ -112,7 +112,7 @@ fn listed(alloc: Global, names: &[List<u8>], columns: &[&[u8]]) -> Result<Vec<bo
         .collect(alloc)
 }
 
-// Of each column of the model, its index among these names of a text.
+// For each column of the model, its index among these names in a text.
 fn indices_among(alloc: Global, net: &Network, names: &[&[u8]]) -> Result<Vec<usize>, TraceFault>
     requires { length net.now.columns ≤ 16 }
     ensures none { IfOk result (λ _. position (λ name. not (is_among (map (λ s. s.now) names.now) name)) net.now.columns ≡ None) }
@@ -131,7 +131,7 @@ fn indices_among(alloc: Global, net: &Network, names: &[&[u8]]) -> Result<Vec<us
     Ok(indices)
 }
 
-/// Reads a header for a network.
+/// Reads the header of a trace for a network, or finds its first error.
 pub fn read_header(alloc: Global, names: ByteRecord, net: &Network) -> Result<Header, TraceFault>
     requires { length net.now.columns ≤ 16 }
     ensures ok { IfOk result (λ h. (header_fault net.now (fields_of names) ≡ None) × (fields_of h.names ≡ fields_of names) × IsHeaderOf net.now h) }

@@ -1,4 +1,4 @@
-// The rows of pieces, one behind the other.
+// The rows of pieces, one piece after another.
 
 ghost use Rattle.std.specs.Prelude.{◌≡◌, ◌≤◌, ℕ, List, length, Ok, OnOk, IfErr};
 ghost use Rattle.mq_core.specs.declared.model.Rows.{Rows};
@@ -13,7 +13,7 @@ use mq_core::{Network, Rows};
 use std::alloc::Global;
 use std::thread::Threads;
 
-// The fault of a piece, where so many data records stand before it.
+// The error of a piece that follows `before` data records.
 fn fault_behind(before: u32, fault: TraceFault) -> TraceFault
     requires { before ≤ 1048576 }
     ensures { result ≡ behind before fault }
@@ -34,7 +34,7 @@ fn fault_behind(before: u32, fault: TraceFault) -> TraceFault
     }
 }
 
-// How many rows all pieces have. The first fault is that of the first piece that has one, unless there are too many
+// The number of rows in all pieces. The first error is that of the first piece that has one, unless there are too many
 // rows before it.
 fn judge(read: &[Result<Rows, TraceFault>], net: &Network) -> Result<u32, TraceFault>
     requires { (text : List ℕ) × AreReadApart net.now text read.now }
@@ -57,8 +57,8 @@ fn judge(read: &[Result<Rows, TraceFault>], net: &Network) -> Result<u32, TraceF
     Ok(before)
 }
 
-/// Puts together what was read of each piece of a text, by so many workers. A fault is judged before anything is joined.
-/// The text itself isn't asked any more.
+/// Joins what was read from each piece of a text, by `workers` workers. Errors are found before anything is joined.
+/// The text itself isn't needed any more.
 pub fn join_rows<R: Threads + Sync>(
     rt: &R,
     alloc: Global,

@@ -1,7 +1,7 @@
-// What holds of the definitions.
+// Laws of the definitions.
 ghost use Rattle.mq_trace.specs.Trace.{TracesAreRead};
 
-/// The rows that a text without a fault declares for a network are such as that network reads.
+/// A network can read the rows that a text without an error declares for it.
 pub fn traces_are_read()
     ensures { TracesAreRead }
 {}

@@ -1,7 +1,7 @@
-//! The reader of a trace: comma-separated records, of which the first names the columns and each further one is a job.
+//! Reads a trace: comma-separated records, of which the first names the columns and each further one is a job.
 #![tactic(auto)]
 
-// Where a call of `drop` lets go of what is left, that spares proof: a call is proved once for a type, the end of a scope anew at each exit.
+// A call of `drop` before an exit shortens the proof: the call is proved once per type, but the end of a scope is proved again at each exit.
 
 mod each;
 mod ends;

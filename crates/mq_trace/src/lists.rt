@@ -1,4 +1,4 @@
-// The rows of pieces, put one behind the other: one list a piece of work, which a worker makes whole.
+// The rows of pieces, one piece after another. Each list is a piece of work, which one worker makes whole.
 
 ghost use Rattle.std.specs.Prelude.{◌≡◌, ◌+◌, ◌-◌, ◌<◌, ◌≤◌, length, IfOk};
 ghost use Rattle.mq_trace.specs.Joined.{AreJoined, HaveColumns, IsListAt, all_numbers, all_sources, piece_numbers, piece_sources};
@@ -10,19 +10,19 @@ use mq_crew::{Open, Pieces, made};
 use std::alloc::Global;
 use std::thread::Threads;
 
-/// A list of rows.
+/// One list of the rows.
 #[derive(Drop)]
 pub enum RowList {
     /// The source node of each job.
     Sources(List<u32>),
-    /// When each job comes, or its values in a column.
+    /// The arrival time of each job, in ticks, or its values in a column.
     Numbers(List<u64>),
 }
 
-/// What was read of pieces without a fault: so many rows together, with so many columns.
+/// What was read from pieces without an error: `count` rows in all, each with `columns` columns.
 ///
-/// Its lists are made in an order in which they are popped: the sources are the last, the times the last but one,
-/// and before them stand the columns, the first of them last.
+/// The lists are made in the reverse of the order in which they are popped: first the columns, from the last to
+/// the first, then the times, then the sources.
 #[derive(Drop)]
 pub struct Lists<'a> {
     pub read: &'a [Result<Rows, TraceFault>],
@@ -52,7 +52,7 @@ impl<'a> Pieces for Lists<'a> {
     }
 }
 
-// The sources of a piece. One with a fault has none.
+// The sources of a piece. A piece with an error has none.
 fn sources_of(piece: &Result<Rows, TraceFault>) -> &[u32]
     ensures { result.now ≡ piece_sources piece.now }
 {
@@ -62,7 +62,7 @@ fn sources_of(piece: &Result<Rows, TraceFault>) -> &[u32]
     }
 }
 
-// The times of a piece, at place 0, or behind them its values in a column.
+// The numbers of a piece at a place: the times at place 0, the values of the columns at the places after it.
 fn numbers_of(piece: &Result<Rows, TraceFault>, place: usize) -> &[u64]
     requires { IfOk piece.now (λ rows. place ≤ length rows.demands) }
     ensures { result.now ≡ piece_numbers place piece.now }
@@ -100,7 +100,7 @@ fn numbers(alloc: Global, lists: &Lists, place: usize) -> Result<List<u64>, OutO
     Ok(all)
 }
 
-/// The rows of pieces, one behind the other, joined by so many workers.
+/// Returns the rows of pieces, one piece after another, joined by `workers` workers.
 pub fn joined<R: Threads + Sync>(
     rt: &R,
     alloc: Global,

@@ -16,7 +16,7 @@ use csv::{ByteRecord, Reader};
 use mq_core::{Network, Rows};
 use std::alloc::Global;
 
-// Passes over the first record that a reader has left, which is the header.
+// Skips the first record that a reader has left, which is the header.
 fn pass_header(alloc: Global, reader: &mut Reader<&[u8]>) -> Result<(), TraceFault>
     requires between { IsBetween reader.old }
     requires some { 1 ≤ length (records_left reader.old) }
@@ -30,7 +30,7 @@ fn pass_header(alloc: Global, reader: &mut Reader<&[u8]>) -> Result<(), TraceFau
     Ok(())
 }
 
-// The same as `read_piece`, by `csv`, which finds the first fault.
+// Reads a piece as `read_piece` does, but always by `csv`, which finds the first error.
 fn read_by_csv(
     alloc: Global,
     room: usize,
@@ -56,8 +56,8 @@ fn read_by_csv(
     read
 }
 
-/// Reads the data records of a piece, without the header where it is the first. They are numbered from 1. Records that
-/// aren't all plain are read by `csv`.
+/// Reads the data records of a piece, numbered from 1; the first piece begins with the header, which isn't one of
+/// them. Unless all records are plain and without an error, they are read by `csv`.
 pub fn read_piece(
     alloc: Global,
     at: usize,

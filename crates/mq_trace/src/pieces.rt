@@ -1,4 +1,4 @@
-// A text in pieces, which are cut at line feeds.
+// A text in pieces, cut at line feeds.
 
 ghost use Rattle.std.specs.Prelude.{◌≡◌, ◌⊎◌, ◌+◌, ◌<◌, ◌≤◌, ℕ, [], true, false, length, get_or, map, vec_len, IfOk};
 ghost use Rattle.std.specs.List.{concat};
@@ -12,7 +12,7 @@ use mq_base::OutOfMemory;
 use std::alloc::Global;
 use std::thread::Threads;
 
-// The index of the first line feed from an index on, or the end.
+// The index of the first line feed at or after an index, or the end.
 fn line_from(text: &[u8], from: usize) -> usize
     requires { from ≤ length text.now }
     ensures within { result ≤ length text.now }
@@ -24,7 +24,7 @@ fn line_from(text: &[u8], from: usize) -> usize
     }
 }
 
-// Cuts a text into as many pieces, of about one length. Each but the first is empty or begins with a line feed.
+// Cuts a text into `count` pieces of about the same length. Each but the first is empty or begins with a line feed.
 fn cut_lines<'a>(alloc: Global, text: &'a [u8], count: u32) -> Result<Vec<&'a [u8]>, OutOfMemory>
     requires { 1 ≤ count }
     ensures len { IfOk result (λ v. vec_len v ≡ count) }
@@ -43,7 +43,7 @@ fn cut_lines<'a>(alloc: Global, text: &'a [u8], count: u32) -> Result<Vec<&'a [u
     Ok(pieces)
 }
 
-// Whether a piece ends outside quotes, where it is known for the case that it begins outside them.
+// Whether a piece ends outside quotes, given whether it begins outside them, and `end`, the answer if it does.
 fn ends_from(piece: &[u8], outside: bool, end: bool) -> bool
     requires { end ≡ is_closed true piece.now }
     ensures { result ≡ is_closed outside piece.now }
@@ -55,8 +55,8 @@ fn ends_from(piece: &[u8], outside: bool, end: bool) -> bool
     }
 }
 
-// The pieces of a text, of which each that begins within quotes is put behind the one before it. Where the last one ends
-// isn't asked.
+// The pieces of a text, each that begins within quotes appended to the one before it. Where the last piece ends doesn't
+// matter.
 fn merge_quoted<'a>(
     alloc: Global,
     text: &'a [u8],
@@ -91,10 +91,10 @@ fn merge_quoted<'a>(
     Ok(merged)
 }
 
-/// A text in at most so many pieces, whose records are those of the text. It isn't cut at a line feed that is part of
-/// a quoted field: a piece that begins there is put behind the one before it.
+/// Cuts a text into at most `count` pieces, whose records are those of the text. It isn't cut at a line feed within
+/// a quoted field: a piece that begins there is appended to the one before it.
 ///
-/// A piece ends in front of a line feed, so that none but the first begins with a byte order mark.
+/// Each piece but the first is empty or begins with a line feed, so only the first can begin with a byte order mark.
 pub fn pieces_of<'a, R: Threads + Sync>(
     rt: &R,
     alloc: Global,

@@ -1,4 +1,4 @@
-// Records that are read as they stand in the text: in their fields no quote stands, but around them.
+// Plain records: their fields contain no quotes, except around a whole field, so they are read from the text directly.
 
 ghost use Rattle.std.specs.Prelude.{◌≡◌, ◌+◌, ◌^◌, ◌<◌, ◌≤◌, ◌∷◌, ◌++◌, ℕ, All, List, length, true, Some, IfSome, drop, take};
 ghost use Rattle.std.specs.Char.{is_ascii_digit};
@@ -16,27 +16,27 @@ use crate::rows::MOST_ROWS;
 use memchr::memchr;
 use mq_core::Network;
 
-/// What a record gives, beside the numbers of its columns.
+/// What a record gives, apart from the numbers in its columns.
 #[derive(Clone, Copy)]
 pub struct PlainRow<'a> {
     /// Its source.
     pub source: PlainSource<'a>,
-    /// Whether that is none of those that are known.
+    /// Whether the source isn't among the known ones.
     pub is_new: bool,
-    /// When the job comes, in ticks.
+    /// The arrival time of the job, in ticks.
     pub time: u64,
-    /// The text behind the record.
+    /// The text after the record.
     pub rest: &'a [u8],
 }
 
-// Whether a field that no quotes stand around may have this byte.
+// Whether a field without quotes around it may contain this byte.
 fn is_plain_byte(byte: u8) -> bool
     ensures { result ≡ is_plain byte }
 {
     byte != b'"' && !ends_field(byte)
 }
 
-// How many bytes of a field a text begins with.
+// The number of bytes of a field with which a text begins.
 fn field_length(text: &[u8]) -> usize
     ensures at { result ≡ prefix_len is_plain text.now }
     ensures within { result ≤ length text.now }
@@ -44,7 +44,7 @@ fn field_length(text: &[u8]) -> usize
     text.iter().take_while(|byte| is_plain_byte(**byte)).count()
 }
 
-/// What stands behind a byte, where a text begins with it.
+/// Returns the text after this byte, if the text begins with it.
 pub fn behind_byte(byte: u8, text: &[u8]) -> Option<&[u8]>
     ensures { IfSome result (λ more. text.now ≡ byte ∷ more.now) }
 {
@@ -54,13 +54,13 @@ pub fn behind_byte(byte: u8, text: &[u8]) -> Option<&[u8]>
     }
 }
 
-/// The field that a text begins with, and what stands behind it. Where quotes stand around the field, the second one
-/// that the text has ends it.
+/// Returns the field with which a text begins, and the text after it. If the text begins with a quote, the next quote
+/// ends the field.
 pub fn split_field(text: &[u8]) -> Option<(&[u8], &[u8])>
     ensures { IfSome result (λ p. IsField text.now p.0.now p.1.now) }
 {
     if let Some(quoted) = behind_byte(b'"', text) {
-        // Here and below a `let` with an `else` stands in place of `?`: its code has half as many steps to prove.
+        // Here and below, a `let` with an `else` replaces `?`: its code has half as many steps to prove.
         let Some(index) = memchr(b'"', quoted) else {
             return None;
         };
@@ -70,7 +70,7 @@ pub fn split_field(text: &[u8]) -> Option<(&[u8], &[u8])>
     Some(text.split_at(field_length(text)))
 }
 
-// How many digits a text begins with, of which at most 19 are taken, and their value.
+// The number of digits with which a text begins, at most 19, and their value.
 fn leading_digits(text: &[u8]) -> (usize, u64)
     ensures within { result.0 ≤ length text.now }
     ensures few { result.0 ≤ 19 }
@@ -88,8 +88,8 @@ fn leading_digits(text: &[u8]) -> (usize, u64)
     (most, value)
 }
 
-// The number that a text begins with, and what stands behind it. Nothing where there is no digit or the number is
-// greater than the limit. Of more than 19 digits the others stand behind it.
+// The number with which a text begins, and the text after it. Nothing if there is no digit or the number is greater
+// than the limit. Digits after the first 19 are left in the text.
 fn split_number(text: &[u8], limit: u64) -> Option<(u64, &[u8])>
     ensures { IfSome result (λ p. (digits : List ℕ) × (text.now ≡ digits ++ p.1.now) × (number_of digits limit ≡ Some p.0)) }
 {
@@ -100,7 +100,7 @@ fn split_number(text: &[u8], limit: u64) -> Option<(u64, &[u8])>
     Some((value, &text[length..]))
 }
 
-/// What stands behind a record, where one ends here.
+/// Returns the text after the end of a record, if a record ends here.
 pub fn behind_record(text: &[u8]) -> Option<&[u8]>
     ensures ends { IfSome result (λ _. ends_record text.now ≡ true) }
     ensures rest { IfSome result (λ more. more.now ≡ drop 1 text.now) }
@@ -112,7 +112,7 @@ pub fn behind_record(text: &[u8]) -> Option<&[u8]>
     }
 }
 
-/// What stands behind the first record of a text, where it is plain and has more than one field.
+/// Returns the text after the first record, if that record is plain and has more than one field.
 pub fn behind_first(text: &[u8]) -> Option<&[u8]>
     ensures { IfSome result (λ rest. (first : Record) × BeginsWith text.now first rest.now) }
 {
@@ -133,8 +133,8 @@ pub fn behind_first(text: &[u8]) -> Option<&[u8]>
     }
 }
 
-// The field behind a comma, of which this is the text, and what stands behind it. Where the model reads its column the
-// number goes into `value`.
+// Reads a comma and the field of a column, and returns the text after them. If the model reads the column, its number
+// goes into `value`.
 fn column_field<'a>(text: &'a [u8], reads: bool, value: &mut u64) -> Option<&'a [u8]>
     ensures { IfSome result (λ rest. IsColumnField reads value.new text.now rest.now) }
 {
@@ -154,8 +154,8 @@ fn column_field<'a>(text: &'a [u8], reads: bool, value: &mut u64) -> Option<&'a 
     Some(rest)
 }
 
-/// Reads the first record of a text, behind so many others, where it is plain and has no fault. Some sources
-/// are known from other records. The numbers of its columns go into `values`.
+/// Reads the first record of a text, which follows `before` others, if it is plain and has no error. The sources
+/// in `known` come from other records. The numbers in the record's columns go into `values`.
 pub fn plain_row<'a>(
     text: &'a [u8],
     before: usize,

@@ -1,4 +1,4 @@
-// The data records of a piece, where all are plain.
+// Reads the data records of a piece, if all are plain.
 
 ghost use Rattle.std.specs.Prelude.{◌≡◌, ◌^◌, ◌<◌, length, Ok, IfOk, IfSome};
 ghost use Rattle.csv.specs.Records.{fields_of};
@@ -16,7 +16,7 @@ use mq_base::OutOfMemory;
 use mq_core::{Network, Rows};
 use std::alloc::Global;
 
-// The text of the data records of a piece, where the header is plain.
+// The text of the data records of a piece, if the header is plain.
 fn data_text(at: usize, piece: &[u8]) -> Option<&[u8]>
     ensures { IfSome result (λ text. piece_data at piece.now ≡ records_at st.StartRecord text.now) }
 {
@@ -28,7 +28,7 @@ fn data_text(at: usize, piece: &[u8]) -> Option<&[u8]>
     }
 }
 
-// Reads the records of a text. It is not inlined, so that its loop has the registers to itself.
+// Reads the records of a text. It isn't inlined, so that its loop has the registers to itself.
 #[inline(never)]
 fn plain_rows(
     alloc: Global,
@@ -47,7 +47,7 @@ fn plain_rows(
     let mut known = [PlainSource { text: b"", node: 0 }; 8];
     let mut count = 0;
     while !rest.is_empty() {
-        // An empty line is no record.
+        // An empty line isn't a record.
         if let Some(more) = behind_record(rest) {
             rest = more;
             continue;
@@ -81,8 +81,8 @@ fn plain_rows(
     Ok(Some(rows.into_rows()))
 }
 
-/// Reads the data records of a piece, without the header where it is the first, if they are plain and have no fault. Else it
-/// answers nothing, and `csv` decides.
+/// Reads the data records of a piece, which don't include the header of the first piece, if they are plain and without an
+/// error. Otherwise returns nothing, and `csv` decides.
 pub fn read_plain(
     alloc: Global,
     room: usize,

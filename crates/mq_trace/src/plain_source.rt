@@ -1,4 +1,4 @@
-// The source of a record that is read as it stands in the text. Records of one source begin with the same bytes.
+// The source of a plain record. Records from one source usually begin with the same bytes.
 
 ghost use Rattle.std.specs.Prelude.{◌≡◌, ◌^◌, ◌<◌, ◌++◌, length, All, IfSome};
 ghost use Rattle.mq_trace.specs.Plain.{IsSource, IsSourceOf};
@@ -10,24 +10,24 @@ use mq_core::Network;
 /// The source of a record.
 #[derive(Clone, Copy)]
 pub struct PlainSource<'a> {
-    /// Its name as it stands in the text, and the comma behind it.
+    /// Its name as written in the text, with its quotes if it has them, and the comma after it.
     pub text: &'a [u8],
     /// Its node.
     pub node: u32,
 }
 
-/// What a record begins with.
+/// The beginning of a record.
 #[derive(Clone, Copy)]
 pub struct SourceField<'a> {
     /// Its source.
     pub source: PlainSource<'a>,
-    /// Whether it is none of those that are known.
+    /// Whether the source isn't among the known ones.
     pub is_new: bool,
-    /// The text behind the comma.
+    /// The text after the comma.
     pub rest: &'a [u8],
 }
 
-// The source of a record, which is looked up in the network.
+// The source of a record, looked up in the network.
 fn new_source<'a>(text: &'a [u8], net: &Network) -> Option<SourceField<'a>>
     requires { length net.now.nodes < 2 ^ 32 }
     ensures { IfSome result (λ field. IsSourceOf net.now text.now field.source field.rest.now) }
@@ -52,7 +52,7 @@ fn new_source<'a>(text: &'a [u8], net: &Network) -> Option<SourceField<'a>>
     })
 }
 
-/// The source of a record. Those that are known are tried first, by the bytes that their records began with.
+/// Returns the source of a record. The known ones are tried first, by the bytes with which their records began.
 pub fn plain_source<'a>(
     text: &'a [u8],
     known: &[PlainSource<'a>],

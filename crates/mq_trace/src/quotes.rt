@@ -1,4 +1,4 @@
-// Where csv stands behind a piece of a text: outside quotes, or within them.
+// Where a piece of a text leaves csv: outside quotes, or within them.
 
 ghost use Rattle.std.specs.Prelude.{◌≡◌, ◌∷◌, ◌++◌, ◌==◌, ◌||◌, ℕ, List, [], false};
 ghost use Rattle.csv.specs.Reading.{strip_bom};
@@ -6,10 +6,10 @@ ghost use Rattle.mq_trace.specs.Quotes.{has_quote, is_closed, is_outside, place_
 
 use memchr::memchr;
 
-/// What a quote does where csv stands.
+/// What a quote would do at the point that csv has reached.
 #[derive(Clone, Copy)]
 pub enum Place {
-    /// It begins a quoted field, or goes on with one.
+    /// It begins a quoted field, or continues one.
     Start,
     /// It is a byte of a field without quotes.
     Field,
@@ -17,14 +17,14 @@ pub enum Place {
     Quoted,
 }
 
-/// Whether a byte outside quotes ends a field.
+/// Returns whether a byte outside quotes ends a field.
 pub fn ends_field(byte: u8) -> bool
     ensures { result ≡ ((byte == 44) || (byte == 13) || (byte == 10)) }
 {
     byte == b',' || byte == b'\r' || byte == b'\n'
 }
 
-// The place behind bytes without a quote.
+// The place after bytes without a quote.
 fn place_behind_bytes(place: Place, bytes: &[u8]) -> Place
     requires { has_quote bytes.now ≡ false }
     ensures { (front : List ℕ) → place_after front ≡ place → place_after (front ++ bytes.now) ≡ result }
@@ -39,7 +39,7 @@ fn place_behind_bytes(place: Place, bytes: &[u8]) -> Place
     }
 }
 
-// The place behind a quote.
+// The place after a quote.
 fn place_behind_quote(place: Place) -> Place
     ensures { (front : List ℕ) → place_after front ≡ place → place_after (front ++ 34 ∷ []) ≡ result }
 {
@@ -60,7 +60,7 @@ fn stands_outside(place: Place) -> bool
     }
 }
 
-/// A text less its byte order mark.
+/// Returns a text without the byte order mark at its start, if it has one.
 pub fn unmarked(text: &[u8]) -> &[u8]
     ensures { result.now ≡ strip_bom text.now }
 {
@@ -71,7 +71,7 @@ pub fn unmarked(text: &[u8]) -> &[u8]
     }
 }
 
-/// Whether a piece ends outside quotes, where it begins outside them or within.
+/// Returns whether a piece ends outside quotes, given whether it begins outside them.
 pub fn ends_outside(piece: &[u8], outside: bool) -> bool
     ensures { result ≡ is_closed outside piece.now }
 {

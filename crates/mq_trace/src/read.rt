@@ -1,4 +1,4 @@
-// The reader of a trace.
+// Reads a trace.
 
 ghost use Rattle.std.specs.Prelude.{◌≡◌, ◌^◌, ◌<◌, ◌≤◌, ◌∷◌, [], List, length, map, IfErr, IfNone, IfOk, IfSome, Some};
 ghost use Rattle.std.specs.Bool.{MatchBool};
@@ -22,10 +22,10 @@ use mq_core::{Network, Rows};
 use std::alloc::Global;
 use std::thread::Threads;
 
-// A piece of a text has at least so many bytes.
+// A text is cut into pieces of at least this many bytes on average.
 const PIECE_BYTES: usize = 65_536;
 
-// So many pieces for each worker, so that none waits long for another.
+// The most pieces per worker: several, so that none waits long for another.
 const PIECES_EACH: u32 = 4;
 
 // Reads the first record of a text, if it has one.
@@ -62,7 +62,7 @@ fn read_whole(alloc: Global, text: &[u8], net: &Network) -> Result<Rows, TraceFa
     }
 }
 
-// What is read of each piece of a text. Nothing, where the first has no record: the header stands in a later one.
+// What is read from each piece of a text; nothing if the first piece has no record, since the header is then in a later one.
 fn read_apart<R: Threads + Sync>(
     rt: &R,
     alloc: Global,
@@ -100,7 +100,7 @@ fn read_apart<R: Threads + Sync>(
     }
 }
 
-// The same, where a text is cut into so many pieces.
+// What is read from each piece, if a text is cut into `count` pieces; nothing if it isn't cut.
 fn read_pieces<R: Threads + Sync>(
     rt: &R,
     alloc: Global,
@@ -123,7 +123,7 @@ fn read_pieces<R: Threads + Sync>(
     Ok(None)
 }
 
-// Reads a text by so many pieces and workers.
+// Reads a text by `workers` workers, cut into `count` pieces.
 fn read_text<R: Threads + Sync>(
     rt: &R,
     alloc: Global,
@@ -144,7 +144,7 @@ fn read_text<R: Threads + Sync>(
     }
 }
 
-// Reads a text of one's own, and lets it go before the rows of its pieces are joined.
+// Reads a text that it owns. If the text is cut, it is freed before the rows of its pieces are joined.
 fn take_text<R: Threads + Sync>(
     rt: &R,
     alloc: Global,
@@ -168,7 +168,7 @@ fn take_text<R: Threads + Sync>(
     }
 }
 
-// How many pieces a text is cut into. One worker reads it whole.
+// The number of pieces that a text is cut into. One worker reads it whole.
 fn pieces_for(workers: u32, len: usize) -> u32 {
     if workers == 1 {
         return 1;
@@ -177,7 +177,7 @@ fn pieces_for(workers: u32, len: usize) -> u32 {
     (len / PIECE_BYTES).min(most as usize) as u32
 }
 
-// The fault that a text has whatever its records are: its length, or two byte order marks.
+// The error that a text has whatever its records are: its length, or two byte order marks.
 fn fault_before(text: &[u8]) -> Option<TraceFault>
     ensures some { IfSome result (λ fault. (net : Network) → trace_fault net text.now ≡ Some fault) }
     ensures none { IfNone result ((net : Network) → trace_fault net text.now ≡ records_fault net (text_records text.now)) }
@@ -193,15 +193,15 @@ fn fault_before(text: &[u8]) -> Option<TraceFault>
 
 /// Reads a trace for the network of a plan. The row of job j is data record j + 1, in the order of the text.
 ///
-/// After at most one byte order mark the text is comma-separated records, as `csv` reads them. The first is the
-/// header: `source`, `time` and up to 16 columns of distinct names. Each other record has as many fields: the name
+/// After at most one byte order mark, the text consists of comma-separated records, as `csv` reads them. The first is the
+/// header: `source`, `time` and up to 16 columns with distinct names. Each other record has as many fields: the name
 /// of a source node, a time of at most 2^60 ticks and, in each column that the model names, a number of at most 2^36.
 /// The fields of other columns aren't read.
 ///
-/// A text is refused for its first fault: its length, the least faulty field of the header, the least column of the
-/// model that the header lacks, or the first faulty record.
+/// Unless memory runs out, an error is the first one in the text: its length, the first invalid field of the header,
+/// the first column of the model that the header lacks, or the first invalid record.
 ///
-/// A long text is read in pieces by 1 to 64 workers. The answer is the same for each number of them.
+/// The text is read by 1 to 64 workers, in pieces if it is long and there are several workers. The result is the same.
 pub fn read_trace<R: Threads + Sync>(
     rt: &R,
     alloc: Global,
@@ -225,7 +225,8 @@ pub fn read_trace<R: Threads + Sync>(
     }
 }
 
-/// The same of a text that is handed over. It is let go before the rows of its pieces are joined, though no clause asks for that.
+/// Reads a trace as `read_trace` does, from a text that it owns. If the text is read in pieces, it is freed before their rows
+/// are joined; no clause requires that.
 pub fn take_trace<R: Threads + Sync>(
     rt: &R,
     alloc: Global,

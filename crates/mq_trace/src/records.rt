@@ -1,4 +1,4 @@
-// The records of a text, one after the other.
+// The records of a text, one after another.
 
 ghost use Rattle.std.specs.Prelude.{◌≡◌, IfErr, IfOk, true};
 ghost use Rattle.csv.specs.Records.{fields_of};
@@ -9,7 +9,7 @@ use crate::fault::TraceFault;
 use csv::{ByteRecord, Reader, ReaderBuilder};
 use std::alloc::Global;
 
-/// A reader at the start of a text. The header is a record like the others, and records may differ in length.
+/// Returns a reader at the start of a text. The header is a record like any other, and lengths may differ.
 pub fn text_reader(alloc: Global, text: &[u8]) -> Reader<&[u8]>
     ensures between { IsBetween result }
     ensures all { records_left result ≡ records default_config (strip_bom text.now) }
@@ -20,8 +20,9 @@ pub fn text_reader(alloc: Global, text: &[u8]) -> Reader<&[u8]>
         .from_reader(alloc, text)
 }
 
-/// Reads the next record, if there is one. A record of another length is no error, and bytes in memory are always
-/// read, so an error is want of memory. The reader has then failed, and gives no more records.
+/// Reads the next record, if there is one. A record of another length isn't an error, and bytes in memory can
+/// always be read, so the only error is that memory runs out. The reader has then failed, and returns no more
+/// records.
 pub fn next_record(reader: &mut Reader<&[u8]>, row: &mut ByteRecord) -> Result<bool, TraceFault>
     requires { IsBetween reader.old }
     ensures found { IfOk result (λ found. Takes reader.old reader.new found (fields_of row.new)) }

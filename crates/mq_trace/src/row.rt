@@ -15,14 +15,14 @@ use csv::ByteRecord;
 use mq_base::read_number;
 use mq_core::{Network, Node, is_source};
 
-// Whether a node is the source of this name.
+// Whether a node is the source with this name.
 fn is_source_named(node: &Node, name: &[u8]) -> bool
     ensures { result ≡ (is_source_kind node.now.kind && bytes_eq node.now.name name.now) }
 {
     is_source(&node.kind) && node.name.as_slice() == name
 }
 
-/// The source node of this name, if there is one.
+/// Returns the index of the source node with this name, if there is one.
 pub fn find_source(net: &Network, name: &[u8]) -> Option<usize>
     ensures { result ≡ source_named net.now name.now }
 {
@@ -33,7 +33,7 @@ pub fn find_source(net: &Network, name: &[u8]) -> Option<usize>
 }
 
 #[tactic(auto, using(crate::proofs::TraceFacts::value_steps))]
-// Puts the numbers that the model reads at their indices, or answers the number of the least field that is none.
+// Puts the numbers that the model reads at their indices, or returns the number of the first field that isn't one.
 fn read_values(row: &ByteRecord, net: &Network, header: &Header, values: &mut [u64]) -> Option<u32>
     requires header { IsHeaderOf net.now header.now }
     requires len { length (fields_of row.now) ≡ length (fields_of header.now.names) }
@@ -56,7 +56,7 @@ fn read_values(row: &ByteRecord, net: &Network, header: &Header, values: &mut [u
 }
 
 #[tactic(auto, using(crate::proofs::TraceFacts::value_steps), unfolding(crate::specs::Trace::row_fault))]
-/// Reads a data record, whose number is given: its source's node and its time. The numbers of its columns go into `values`.
+/// Reads the data record with this number. Returns its source node and its time; its columns' numbers go into `values`.
 pub fn read_row(
     row: &ByteRecord,
     number: u32,

@@ -1,4 +1,4 @@
-// The data records that a reader has left, as rows.
+// Reads the data records that a reader has left, as rows.
 
 ghost use Rattle.std.specs.Prelude.{◌^◌, ◌<◌, [], length, IfErr, OnOk};
 ghost use Rattle.csv.specs.Records.{fields_of};
@@ -19,14 +19,14 @@ use std::alloc::Global;
 /// The most data records that a trace may have.
 pub const MOST_ROWS: u32 = 1_048_576;
 
-// A record has room for so many bytes at first, so that the reader mostly takes a record at once.
+// A record has room for this many bytes at first, so that the reader usually takes a record in one step.
 const RECORD_ROOM: usize = 1024;
 
-// So many bytes in the middle of a text are looked through for line feeds, before room is made for its rows.
+// Line feeds are counted in this many bytes in the middle of a text, to estimate its number of rows.
 const SAMPLE_BYTES: usize = 4096;
 
-/// For how many rows room is made before a text is read: as many as it has where all its lines are as long as those in
-/// its middle, and a sixteenth more. Where it has still more their lists grow.
+/// Returns the number of rows to make room for before a text is read: as many as it has if its lines are as long as
+/// those in its middle, and a sixteenth more, at most `MOST_ROWS`. If a text has more rows, the lists grow.
 pub fn room_for(text: &[u8]) -> usize {
     let size = text.len().min(SAMPLE_BYTES);
     let from = (text.len() - size) / 2;
@@ -36,8 +36,7 @@ pub fn room_for(text: &[u8]) -> usize {
     rows.saturating_add(rows / 16).min(MOST_ROWS as usize)
 }
 
-// Puts the data records that are left into rows, of which there are none yet. The last turn of the loop is the record
-// that is one too many.
+// Adds the data records that are left to empty rows. The last turn of the loop is for the record that is one too many.
 fn take_rows(
     reader: &mut Reader<&[u8]>,
     net: &Network,

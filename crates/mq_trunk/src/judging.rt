@@ -5,8 +5,8 @@ ghost use Rattle.mq_core.specs.Recurrences.{busy_at};
 use mq_base::Steps;
 use std::sync::ledger::Ledger;
 
-/// Whether a trunk group has a server for one job more: true exactly where fewer are busy than there
-/// are. It counts one step, takes no memory and refuses nothing.
+/// Returns whether a trunk group has a server for one more job: whether fewer are busy than there
+/// are. Counts one step, takes no memory and can't fail.
 pub fn judge_trunk<L: Ledger>(busy: u32, servers: u8, steps: &mut Steps<L>) -> bool
     ensures answer { result ≡ nat_lt busy servers }
     ensures cost { steps.new ≡ steps.old + 1 }
@@ -15,7 +15,7 @@ pub fn judge_trunk<L: Ledger>(busy: u32, servers: u8, steps: &mut Steps<L>) -> b
     busy < servers as u32
 }
 
-// How many of these departures, the latest first, come after this time: by halves.
+// How many of these departures, the latest first, come after this time; found by halving.
 pub fn busy_among(latest: &[u64], now: u64) -> usize
     requires { IsFalling latest.now }
     ensures { result ≡ busy_at now latest.now }
@@ -33,8 +33,8 @@ pub fn busy_among(latest: &[u64], now: u64) -> usize
     low
 }
 
-// How many of these departures, the latest first, may come after this time, as far as a judgement asks: all,
-// or one fewer where the earliest doesn't.
+// An upper bound on how many of these departures, the latest first, come after this time, which is enough
+// for a judgement: all of them, or one fewer if the earliest doesn't.
 pub fn busy_at_most(latest: &[u64], now: u64) -> usize
     requires { IsFalling latest.now }
     ensures within { result ≤ length latest.now }
@@ -49,8 +49,8 @@ pub fn busy_at_most(latest: &[u64], now: u64) -> usize
     }
 }
 
-// Puts one departure more in its place among these, the latest first: each from there on moves one place
-// further, and the earliest goes.
+// Inserts a departure among these, the latest first: each after it moves one place further, and the
+// earliest goes.
 fn put_in_place(latest: &mut [u64], depart: u64)
     requires { IsFalling latest.old }
     ensures { latest.new ≡ take_place depart latest.old }
@@ -64,7 +64,7 @@ fn put_in_place(latest: &mut [u64], depart: u64)
     }
 }
 
-// The same in a vector.
+// Inserts a departure in a vector of the latest ones; the earliest goes.
 pub fn keep_latest(latest: &mut Vec<u64>, depart: u64)
     requires { IsFalling latest.old.items }
     ensures { latest.new.items ≡ take_place depart latest.old.items }

@@ -1,11 +1,11 @@
 //! The trunk group: several servers and no place to wait; an arrival that finds all servers busy is
-//! lost. Which arrivals are admitted is settled by rounds of guesses (Greenberg, Lubachevsky and
-//! Mitrani 1991): each round judges every arrival by the departures that a guess gives.
+//! lost. Rounds of guesses settle which arrivals are admitted (Greenberg, Lubachevsky and Mitrani
+//! 1991): each round judges every arrival by the departures that a guess gives.
 //!
-//! Of the departures only the latest are kept, one a server, the latest first. An arrival is judged
-//! by them in at most as many comparisons as the number of servers has binary digits, and one that is
-//! admitted takes its place among them in at most as many as there are servers. A window judges no
-//! arrival behind the first that its round changes, so each arrival is judged once.
+//! Only the latest departures are kept, one per server, the latest first. In a window, an arrival is
+//! judged by one comparison with the earliest of them. The departure of an admitted one finds its
+//! place by halving, and at most as many move as there are servers. A window judges no arrival after
+//! the first that its round changes, so each arrival is judged once.
 #![tactic(auto)]
 
 mod answer;

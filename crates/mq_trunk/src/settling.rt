@@ -16,8 +16,8 @@ use mq_rounds::{Settled, settle_windows};
 use std::alloc::Global;
 use std::sync::ledger::Ledger;
 
-// The jobs that are admitted, so many, by position.
-// Not inlined, so that its loop has the registers to itself.
+// The admitted jobs, `many` of them, by position.
+// It isn't inlined, so that its loop has the registers to itself.
 #[inline(never)]
 fn admitted_jobs(
     alloc: Global,
@@ -38,7 +38,7 @@ fn admitted_jobs(
     Ok(List::from_vec(served))
 }
 
-// The jobs that are admitted, as they leave.
+// The admitted jobs, as they leave.
 fn leaving_jobs(
     alloc: Global,
     jobs: &List<u32>,
@@ -55,8 +55,8 @@ fn leaving_jobs(
     Ok(leaving)
 }
 
-// The jobs that are lost, so many, as they came.
-// Not inlined, so that its loop has the registers to itself.
+// The lost jobs, `many` of them, in order of arrival.
+// It isn't inlined, so that its loop has the registers to itself.
 #[inline(never)]
 fn lost_jobs(
     alloc: Global,
@@ -89,15 +89,15 @@ fn lost_jobs(
 /// What leaves a trunk group by each output.
 #[derive(Drop)]
 pub struct Parts {
-    /// The jobs that are admitted, as they leave by output 0: by departure, those of one departure by
+    /// The admitted jobs, as they leave by output 0: by departure, those with the same departure by
     /// position.
     pub leaving: Stream,
-    /// The jobs that are lost, as they leave by output 1: in order of arrival.
+    /// The lost jobs, as they leave by output 1: in order of arrival.
     pub lost: Stream,
 }
 
-/// What leaves a trunk group by each output, of which arrivals it admits and when those depart, in ticks, both by
-/// position. It refuses for want of memory alone.
+/// Returns what leaves a trunk group by each output, given whether it admits each arrival, and when the admitted
+/// depart, in ticks; both by position. The only error is that memory runs out.
 pub fn trunk_parts(
     alloc: Global,
     stream: &Stream,
@@ -112,7 +112,7 @@ pub fn trunk_parts(
     Ok(Parts { leaving, lost })
 }
 
-// What is settled, with what leaves.
+// The settled arrivals, with what leaves.
 fn with_parts(alloc: Global, stream: &Stream, settled: Settled) -> Result<Trunk, OutOfMemory>
     requires { (servers : ℕ) × (demands : Items ℕ) × AreAdmitted servers stream.now demands settled.admitted settled.departs }
     ensures settled { IfOk result (λ trunk. (servers : ℕ) (demands : Items ℕ) → AreAdmitted servers stream.now demands settled.admitted settled.departs → IsSettled servers stream.now demands trunk) }
@@ -130,17 +130,17 @@ fn with_parts(alloc: Global, stream: &Stream, settled: Settled) -> Result<Trunk,
     })
 }
 
-/// Which arrivals of the stream a trunk group with these servers admits, and when they depart: settled by
-/// rounds over windows, one round a window, the first of `first` arrivals. Those of a window are guessed
-/// admitted; its round settles them up to the first that it changes, or all. The next window begins behind
-/// the settled arrivals, and is twice as long where all were settled; else it has as many arrivals as were
-/// settled.
+/// Returns which arrivals of the stream a trunk group with these servers admits, and when they depart.
+/// Rounds over windows settle the arrivals, one round per window; the first window has `first` arrivals. All
+/// arrivals of a window are guessed admitted; its round settles them up to the first that it changes, or all.
+/// The next window begins after the settled arrivals. It is twice as long if all were settled; otherwise it
+/// has as many arrivals as were settled.
 ///
-/// Times and departures are in ticks, demands are ticks of service; there is one demand per item of
-/// the stream, and a first window of at least 1. Each arrival is judged once, which counts one step: a
-/// round judges no arrival behind the first that it changes. `judged` is the sum of the lengths of the
-/// windows, at most twice the arrivals and `first`. There are at most as many rounds as arrivals. It
-/// refuses for want of memory alone; the steps that it made stay.
+/// Times and departures are in ticks, demands in ticks of service; there is one demand per item of
+/// the stream, and `first` must be at least 1. Each arrival is judged once, which counts one step: a
+/// round judges no arrival after the first that it changes. `judged` is the sum of the lengths of the
+/// windows, at most twice the number of arrivals plus `first`. There are at most as many rounds as
+/// arrivals. The only error is that memory runs out.
 pub fn admit_trunk<L: Ledger>(
     alloc: Global,
     stream: &Stream,
@@ -166,7 +166,8 @@ pub fn admit_trunk<L: Ledger>(
     Ok(settled)
 }
 
-/// What `admit_trunk` settles, counted as there, and what leaves by each output.
+/// Returns what `admit_trunk` settles, counting the same steps, and what leaves by each output. If
+/// memory runs out, the steps counted so far stay counted.
 pub fn settle_trunk<L: Ledger>(
     alloc: Global,
     stream: &Stream,

@@ -10,7 +10,7 @@ use mq_base::{List, OutOfMemory};
 use mq_core::Stream;
 use std::alloc::Global;
 
-// The latest departures, one a server, before the first job: none is after any arrival.
+// The latest departures, one per server, before the first job: all 0, so none is after an arrival.
 pub fn all_free(alloc: Global, servers: u8) -> Result<Vec<u64>, OutOfMemory>
     ensures { IfOk result (λ latest. latest.items ≡ replicate servers 0) }
 {
@@ -25,7 +25,7 @@ fn has_server(latest: &[u64], servers: u8, arrive: u64) -> bool
     busy_among(latest, arrive) < servers as usize
 }
 
-// The latest departures behind one more job, which departs where it is admitted.
+// Updates the latest departures for one more job, which departs at `depart` if it is admitted.
 fn follow(latest: &mut Vec<u64>, admit: bool, depart: u64)
     requires { IsFalling latest.old.items }
     ensures { latest.new.items ≡ (if admit then take_place depart latest.old.items else latest.old.items) }
@@ -35,12 +35,12 @@ fn follow(latest: &mut Vec<u64>, admit: bool, depart: u64)
     }
 }
 
-/// One round: which arrivals of the stream a trunk group with these servers admits where, of those
-/// before each, the ones that the guess admits were admitted and departed their demand after they
-/// came.
+/// Makes one round. Returns which arrivals of the stream a trunk group with these servers admits if,
+/// of those before each, the ones that the guess admits were admitted and departed their demand
+/// after they came.
 ///
-/// Times are in ticks and demands ticks of service; there is one demand and one guess per item of
-/// the stream. It refuses for want of memory alone.
+/// Times are in ticks and demands in ticks of service; there is one demand and one guess per item of
+/// the stream. The only error is that memory runs out.
 pub fn trunk_round(
     alloc: Global,
     stream: &Stream,

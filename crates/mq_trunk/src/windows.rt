@@ -9,15 +9,15 @@ use mq_core::Stream;
 use mq_rounds::Judge;
 use std::sync::ledger::Ledger;
 
-// A trunk group with this many servers, and the latest departures from it, one a server. It judges no
-// arrival of a window behind the first that the round changes, since nothing is settled there.
+// A trunk group with this many servers, and its latest departures, one per server. It judges no
+// arrival of a window after the first that the round changes, since nothing is settled there.
 #[derive(Drop)]
 pub struct Group {
     pub servers: u8,
     pub latest: Vec<u64>,
 }
 
-// Whether an arrival finds a server, by the latest departures, one a server; counts one step.
+// Whether an arrival finds a server, given the latest departures, one per server; counts one step.
 fn judge_arrival<L: Ledger>(latest: &[u64], servers: u8, arrive: u64, steps: &mut Steps<L>) -> bool
     requires falls { IsFalling latest.now }
     requires number { length latest.now ≡ servers }

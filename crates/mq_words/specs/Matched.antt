@@ -1,4 +1,4 @@
--- What clap finds in words that meet the rule.
+-- What clap finds in arguments that meet the rule.
 use Rattle.std.specs.Prelude.{◌≡◌, ◌-◌, ◌^◌, ℕ, false, List, [], ◌∷◌, Option, Some, option_map, codes, slice_get, if◌then◌else◌}
 use Rattle.clap.specs.Matches.{first_value, one_text}
 use Rattle.clap.specs.declared.parser.matches.Found.{Found}
@@ -9,8 +9,8 @@ use Rattle.mq_words.specs.declared.words.Form.TheVariants as form
 use Rattle.mq_words.specs.declared.words.Subject.{Subject}
 use Rattle.mq_words.specs.declared.words.Subject.TheVariants as subject
 
--- each option has the word directly behind it, the flag is set where it stands, and of the words left the first is the
--- model's name and the second the trace's
+-- Each option has the argument directly after it, the flag is set if it is given, and of the other arguments the first
+-- is the model's name and the second the trace's.
 pub record Finds (words : List (List ℕ)) (found : Found) : Type 0 where
   pub model : first_value found (codes "model") ≡ slice_get (words_left words) 0
   pub trace : first_value found (codes "trace") ≡ slice_get (words_left words) 1
@@ -20,12 +20,12 @@ pub record Finds (words : List (List ℕ)) (found : Found) : Type 0 where
   pub report : first_value found (codes "report") ≡ value_of report_option words
   pub jobs : one_text found (codes "jobs") ≡ Some (if jobs_asked words then codes "true" else codes "false")
 
--- the words have this form: two names and no made input, or a made input and no names
+-- the arguments have this form: two names and no made input, or a made input and no names
 abbrev pub HasForm : List (List ℕ) → Form → Type 0
 HasForm words (form.Names model trace) = (asks_made words ≡ false) × (words_left words ≡ model.now ∷ trace.now ∷ [])
 HasForm words (form.Made text) = (value_of made_option words ≡ Some text.now) × (words_left words ≡ [])
 
--- what is to be read, unless the text for the number of the made input isn't one
+-- the input, unless the value of `--made` isn't a number
 abbrev pub subject_of : Form → Option Subject
 subject_of (form.Names model trace) = Some (subject.Named model trace)
 subject_of (form.Made text) = option_map subject.Made (number_of text.now (2 ^ 64 - 1))

@@ -1,4 +1,4 @@
--- The words behind the program's name: which lists are refused and why, and what the others ask for.
+-- The arguments of the program: which lists are invalid and why, and what the others ask for.
 use Rattle.std.specs.Prelude.{◌≡◌, ◌==◌, ◌&&◌, ◌||◌, ℕ, Bool, true, false, not, List, [], ◌∷◌, length, codes, bytes_eq, slice_get, nat_lt, nat_le, ◌-◌, ◌^◌, Option, Some, None, is_some, is_none, option_and_then, if◌then◌else◌}
 use Rattle.std.specs.List.{list_any}
 use Rattle.mq_base.specs.Text.{begins_with_dash, number_of}
@@ -33,7 +33,7 @@ takes_value word = bytes_eq word workers_option || bytes_eq word block_option ||
 abbrev pub is_option : List ℕ → Bool
 is_option word = takes_value word || bytes_eq word jobs_option
 
--- begins with a dash, and is no option
+-- begins with a dash, and isn't an option
 abbrev pub is_unknown : List ℕ → Bool
 is_unknown word = begins_with_dash word && not (is_option word)
 
@@ -41,16 +41,16 @@ is_unknown word = begins_with_dash word && not (is_option word)
 abbrev pub is_bad_word : List ℕ → Bool
 is_bad_word word = (length word == 0) || is_unknown word
 
--- the word stands in the list
+-- whether the argument is in the list
 abbrev pub has_word : List ℕ → List (List ℕ) → Bool
 has_word word words = list_any (λ w. bytes_eq w word) words
 
--- the word stands in the list, and once more behind that place
+-- whether the argument is in the list at least twice
 abbrev pub stands_twice : List ℕ → List (List ℕ) → Bool
 stands_twice word [] = false
 stands_twice word (w ∷ rest) = (bytes_eq w word && has_word word rest) || stands_twice word rest
 
--- there is a first word, and it doesn't begin with a dash
+-- whether there is a first argument, and it doesn't begin with a dash
 abbrev pub begins_with_value : List (List ℕ) → Bool
 begins_with_value [] = false
 begins_with_value (w ∷ rest) = not (begins_with_dash w)
@@ -60,8 +60,7 @@ abbrev pub lacks_value : List (List ℕ) → Bool
 lacks_value [] = false
 lacks_value (w ∷ rest) = (takes_value w && not (begins_with_value rest)) || lacks_value rest
 
--- the words that are left when the options and the words directly behind those that take a value are taken out; `is_value`
--- says that the first word is such a value
+-- the arguments that are neither options nor values of options; `is_value` means that the first argument is such a value
 abbrev pub left_from : Bool → List (List ℕ) → List (List ℕ)
 left_from is_value [] = []
 left_from true (w ∷ rest) = left_from false rest
@@ -70,23 +69,24 @@ left_from false (w ∷ rest) = if takes_value w then left_from true rest else if
 abbrev pub words_left : List (List ℕ) → List (List ℕ)
 words_left words = left_from false words
 
--- a word is empty or an unknown option, an option stands twice or lacks its value, or more than two words are left
+-- an argument is empty or an unknown option, an option is given twice or lacks its value, or more than two other arguments
+-- are left
 abbrev pub refuses_words : List (List ℕ) → Bool
 refuses_words words = list_any is_bad_word words || stands_twice workers_option words
     || stands_twice block_option words || stands_twice made_option words || stands_twice report_option words || stands_twice jobs_option words
     || lacks_value words || nat_lt 2 (length (words_left words))
 
--- the word directly behind the option
+-- the argument directly after the option
 abbrev pub value_of : List ℕ → List (List ℕ) → Option (List ℕ)
 value_of option [] = None
 value_of option (w ∷ rest) = if bytes_eq w option then slice_get rest 0 else value_of option rest
 
--- the number where it is there and not below `least`
+-- the number, if there is one and it isn't below `least`
 abbrev pub at_least : ℕ → Option ℕ → Option ℕ
 at_least least None = None
 at_least least (Some n) = if nat_le least n then Some n else None
 
--- the number that the value of an option asks for, from `least` to `most`; the default where there is no value
+-- the number that the value of an option gives, from `least` to `most`, or the default without a value
 abbrev pub number_asked : (default least most : ℕ) → Option (List ℕ) → Option ℕ
 number_asked default least most None = Some default
 number_asked default least most (Some text) = at_least least (number_of text most)
@@ -103,7 +103,7 @@ block_asked words = number_asked 4096 1 65536 (value_of block_option words)
 abbrev pub asks_made : List (List ℕ) → Bool
 asks_made words = is_some (value_of made_option words)
 
--- the number of the made input, from 0 to 2 ^ 64 - 1, where one is asked for
+-- the number of the made input, from 0 to 2 ^ 64 - 1, if one is asked for
 abbrev pub made_asked : List (List ℕ) → Option ℕ
 made_asked words = option_and_then (λ text. number_of text (2 ^ 64 - 1)) (value_of made_option words)
 
@@ -111,15 +111,15 @@ made_asked words = option_and_then (λ text. number_of text (2 ^ 64 - 1)) (value
 abbrev pub form_asked : List (List ℕ) → Option ℕ
 form_asked words = number_asked 2 1 2 (value_of report_option words)
 
--- the lines of the jobs are asked for
+-- whether job lines are asked for
 abbrev pub jobs_asked : List (List ℕ) → Bool
 jobs_asked words = has_word jobs_option words
 
--- how many names the words need: those of a model and of a trace, unless a made input is asked for
+-- the number of names needed: those of a model and of a trace, unless a made input is asked for
 abbrev pub names_needed : List (List ℕ) → ℕ
 names_needed words = if asks_made words then 0 else 2
 
--- the first fault of the words, or none
+-- the first error in the arguments, if there is one
 abbrev pub usage_fault : List (List ℕ) → Option UsageFault
 usage_fault words =
     if refuses_words words then Some Words
@@ -130,22 +130,22 @@ usage_fault words =
     else if is_none (form_asked words) then Some Report
     else None
 
--- the words are accepted, and name this model and this trace
+-- valid arguments that name this model and this trace
 pub record Names (words : List (List ℕ)) (model trace : List ℕ) : Type 0 where
   pub accepted : usage_fault words ≡ None
   pub named : words_left words ≡ model ∷ trace ∷ []
 
--- the words are accepted, and ask for the made input of this number
+-- valid arguments that ask for the made input of this number
 pub record Makes (words : List (List ℕ)) (number : ℕ) : Type 0 where
   pub accepted : usage_fault words ≡ None
   pub made : made_asked words ≡ Some number
 
--- the words are accepted, and ask for this
+-- valid arguments that ask for this input
 abbrev pub AsksFor : List (List ℕ) → Subject → Type 0
 AsksFor words (subject.Named model trace) = Names words model.now trace.now
 AsksFor words (subject.Made number) = Makes words number
 
--- the words are accepted, and ask for these settings
+-- valid arguments that ask for these settings
 pub record Asks (words : List (List ℕ)) (s : Settings) : Type 0 where
   pub accepted : usage_fault words ≡ None
   pub subject : AsksFor words s.subject
@@ -154,7 +154,7 @@ pub record Asks (words : List (List ℕ)) (s : Settings) : Type 0 where
   pub form : form_asked words ≡ Some s.form
   pub jobs : jobs_asked words ≡ s.jobs
 
--- how words may be refused; want of memory comes only where they meet the rule
+-- how arguments may fail; memory can run out only if they meet the rule
 abbrev pub RefusesWords : List (List ℕ) → WordsFault → Type 0
 RefusesWords words (Usage f) = usage_fault words ≡ Some f
 RefusesWords words Memory = refuses_words words ≡ false

@@ -1,11 +1,11 @@
-// How words are refused.
-/// Why the words are refused.
+// Why arguments are invalid.
+/// Why the arguments are invalid.
 #[derive(Clone, Copy, PartialEq, Eq)]
 pub enum UsageFault {
-    /// A word is empty or an unknown option, an option stands twice or lacks its value, or more
-    /// than two words are left.
+    /// An argument is empty or an unknown option, an option is given twice or lacks its value,
+    /// or more than two other arguments are left.
     Words,
-    /// Without `--made` there aren't two names, or with it there is any.
+    /// There aren't two names without `--made`, or there is a name with it.
     Form,
     /// The number of workers isn't a number from 1 to 64.
     Workers,
@@ -20,7 +20,7 @@ pub enum UsageFault {
 /// Why there are no settings.
 #[derive(Clone, Copy, PartialEq, Eq)]
 pub enum WordsFault {
-    /// The words are refused.
+    /// The arguments are invalid.
     Usage(UsageFault),
     /// Memory ran out.
     Memory,

@@ -1,4 +1,4 @@
-//! The words behind the program's name: which are refused, and what the others ask for.
+//! The arguments of the program: which are invalid, and what the others ask for.
 #![tactic(auto)]
 
 mod fault;

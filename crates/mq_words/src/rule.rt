@@ -1,4 +1,4 @@
-// Which lists of words are refused outright.
+// Which lists of arguments are invalid by their shape alone.
 ghost use Rattle.std.specs.Prelude.{◌≡◌, ◌≤◌, ◌∷◌, [], true, length, IsNone, IfSome, nat_lt};
 ghost use Rattle.std.specs.List.{list_any};
 ghost use Rattle.mq_base.specs.Text.{texts};
@@ -6,7 +6,7 @@ ghost use Rattle.mq_words.specs.Words.{begins_with_value as begins_with_value_of
 
 use mq_base::begins_with_dash;
 
-// The word is an option that takes a value.
+// Returns whether an argument is an option that takes a value.
 fn takes_value(word: &str) -> bool
     ensures { result ≡ takes_value_of word.now }
 {
@@ -92,7 +92,7 @@ fn lacks_value(words: &[&str]) -> bool
     false
 }
 
-// What stands behind the value that the words begin with.
+// Returns the arguments after the first one, which is an option's value.
 fn behind_value<'a, 'b>(words: &'a [&'b str]) -> &'a [&'b str]
     ensures left { words_left (texts result.now) ≡ left_from true (texts words.now) }
     ensures within { length result.now ≤ length words.now }
@@ -103,7 +103,7 @@ fn behind_value<'a, 'b>(words: &'a [&'b str]) -> &'a [&'b str]
     }
 }
 
-// The first of the words that are left, and the words behind it.
+// Returns the first name, which is neither an option nor its value, and the arguments after it.
 fn next_name<'a, 'b>(words: &'a [&'b str]) -> Option<(&'b str, &'a [&'b str])>
     ensures none { IsNone result → words_left (texts words.now) ≡ [] }
     ensures some { IfSome result (λ next. words_left (texts words.now) ≡ next.0.now ∷ words_left (texts next.1.now)) }
@@ -121,7 +121,7 @@ fn next_name<'a, 'b>(words: &'a [&'b str]) -> Option<(&'b str, &'a [&'b str])>
     None
 }
 
-// More than two words are left.
+// Returns whether there are more than two names.
 fn has_third_name(words: &[&str]) -> bool
     ensures { result ≡ nat_lt 2 (length (words_left (texts words.now))) }
 {
@@ -134,8 +134,9 @@ fn has_third_name(words: &[&str]) -> bool
     next_name(behind_second).is_some()
 }
 
-/// Whether the words are refused outright: a word is empty or an unknown option, an option stands
-/// twice or lacks its value, or more than two words are left.
+/// Returns whether the arguments are invalid by their shape alone: an argument is empty or an
+/// unknown option, an option is given twice or lacks its value, or more than two other arguments
+/// are left.
 pub fn refuses_words(words: &[&str]) -> bool
     ensures { result ≡ refuses_words_of (texts words.now) }
 {

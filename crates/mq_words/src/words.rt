@@ -1,4 +1,4 @@
-// What the words behind the program's name ask for.
+// What the arguments of the program ask for.
 ghost use Rattle.std.specs.Prelude.{◌≡◌, ℕ, List, Some, false, option_map, IfOk, IfErr, IfSome, IsNone};
 ghost use Rattle.clap.specs.Matches.{found_of};
 ghost use Rattle.clap.specs.Values.{kind_of};
@@ -13,7 +13,7 @@ use clap::{Arg, ArgAction, ArgMatches, Command, Error};
 use mq_base::read_number;
 use std::alloc::Global;
 
-/// What is to be read.
+/// The input.
 #[derive(Clone, Copy)]
 pub enum Subject<'a> {
     /// Two files.
@@ -27,22 +27,22 @@ pub enum Subject<'a> {
     Made(u64),
 }
 
-/// What accepted words ask for.
+/// What valid arguments ask for.
 #[derive(Clone, Copy)]
 pub struct Settings<'a> {
-    /// What is to be read.
+    /// The input.
     pub subject: Subject<'a>,
-    /// How many workers, from 1 to 64; 4 where the words don't say.
+    /// The number of workers, from 1 to 64; the default is 4.
     pub workers: u64,
-    /// How many jobs a block has, from 1 to 65,536; 4,096 where the words don't say.
+    /// The number of jobs in a block, from 1 to 65,536; the default is 4,096.
     pub block: u64,
-    /// The form of the report, 1 or 2; 2 where the words don't say.
+    /// The form of the report, 1 or 2; the default is 2.
     pub form: u64,
-    /// Whether the report has the lines of the jobs, one for each visit.
+    /// Whether the report has a line per visit.
     pub jobs: bool,
 }
 
-/// Which of the two forms the words have.
+/// The two forms of the command.
 #[derive(Clone, Copy)]
 pub enum Form<'a> {
     /// Two names.
@@ -52,11 +52,12 @@ pub enum Form<'a> {
         /// The name of the trace's file.
         trace: &'a str,
     },
-    /// The text behind `--made`, not yet read as a number.
+    /// The value of `--made`, not yet read as a number.
     Made(&'a str),
 }
 
-// The number that the value of an option asks for, or the default where the option isn't given.
+// Returns the number that the value of an option gives, the default without a value, or `None`
+// if the value isn't a number from `least` to `most`.
 fn number_of(value: Option<&str>, default: u64, least: u64, most: u64) -> Option<u64>
     ensures { result ≡ number_asked default least most (option_map (λ w. w.now) value.entry) }
 {
@@ -69,7 +70,8 @@ fn number_of(value: Option<&str>, default: u64, least: u64, most: u64) -> Option
     }
 }
 
-// The form of the words that clap found this in, unless they have none.
+// Returns the form of the arguments in which clap found this, or `None` if they have neither
+// form.
 fn form_of<'a>(matches: &ArgMatches<'a>) -> Option<Form<'a>>
     ensures some { IfSome result (λ form. (words : List (List ℕ)) → refuses_words_of words ≡ false → Finds words (found_of matches.now) → HasForm words form) }
     ensures none { IsNone result → (words : List (List ℕ)) → refuses_words_of words ≡ false → Finds words (found_of matches.now) → usage_fault words ≡ Some UsageFault.Form }
@@ -88,7 +90,7 @@ fn form_of<'a>(matches: &ArgMatches<'a>) -> Option<Form<'a>>
     Some(Form::Made(text))
 }
 
-// What is to be read, unless the text behind `--made` is no number.
+// Returns the input, or `None` if the value of `--made` isn't a number.
 fn subject_of<'a>(form: Form<'a>) -> Option<Subject<'a>>
     ensures { result ≡ subject_of_form form.entry }
 {
@@ -101,7 +103,8 @@ fn subject_of<'a>(form: Form<'a>) -> Option<Subject<'a>>
     }
 }
 
-// What clap finds in the words, which it takes where they meet the rule.
+// Returns what clap finds in the arguments. If they meet the rule, its only error is a lack of
+// memory.
 fn matches_of<'a>(alloc: Global, words: &'a [&'a str]) -> Result<ArgMatches<'a>, Error>
     ensures found { refuses_words_of (texts words.now) ≡ false → IfOk result (λ matches. Finds (texts words.now) (found_of matches)) }
     ensures memory { refuses_words_of (texts words.now) ≡ false → IfErr result (λ error. kind_of error ≡ ErrorKind.OutOfMemory) }
@@ -124,7 +127,7 @@ fn matches_of<'a>(alloc: Global, words: &'a [&'a str]) -> Result<ArgMatches<'a>,
     command.try_get_matches_from(words)
 }
 
-// What the words ask for that clap found this in, or their first fault.
+// Returns what the arguments in which clap found this ask for, or their first error.
 fn settings_in<'a>(matches: &ArgMatches<'a>) -> Result<Settings<'a>, UsageFault>
     ensures asked { IfOk result (λ settings. (words : List (List ℕ)) → refuses_words_of words ≡ false → Finds words (found_of matches.now) → Asks words settings) }
     ensures refused { IfErr result (λ fault. (words : List (List ℕ)) → refuses_words_of words ≡ false → Finds words (found_of matches.now) → usage_fault words ≡ Some fault) }
@@ -154,7 +157,7 @@ fn settings_in<'a>(matches: &ArgMatches<'a>) -> Result<Settings<'a>, UsageFault>
     })
 }
 
-/// What the words ask for, or the first fault of the words, or want of memory.
+/// Returns what the arguments ask for, or their first error, or out of memory.
 pub fn settings_of<'a>(alloc: Global, words: &'a [&'a str]) -> Result<Settings<'a>, WordsFault>
     ensures asked { IfOk result (λ settings. Asks (texts words.now) settings) }
     ensures refused { IfErr result (RefusesWords (texts words.now)) }
@@ -166,7 +169,7 @@ pub fn settings_of<'a>(alloc: Global, words: &'a [&'a str]) -> Result<Settings<'
         return Err(WordsFault::Memory);
     };
     let settings = settings_in(&matches);
-    // They are let go before the settings are handed on.
+    // They are dropped before the settings are returned.
     drop(matches);
     match settings {
         Ok(settings) => Ok(settings),

@@ -1,4 +1,5 @@
-//! Tests of what workers share and of the numbers of a run, by public calls.
+//! Tests of what workers share and of the numbers of a run, through public
+//! functions.
 #![tactic(auto)]
 
 #[cfg(test)]

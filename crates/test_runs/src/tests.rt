@@ -1,4 +1,4 @@
-// Of each module the tests are those of one crate.
+// Each module has the tests of one crate.
 mod chain;
 mod claims;
 mod crew;

@@ -1,4 +1,5 @@
-//! Tests of the stations and of what they stand on, by public calls.
+//! Tests of the stations and of what they are built on, through
+//! public functions.
 #![tactic(auto)]
 
 #[cfg(test)]

@@ -1,4 +1,4 @@
-// A file for each crate.
+// One file per crate.
 mod delay;
 mod join;
 mod loss;

@@ -1,4 +1,4 @@
-//! Tests of the sweep, by its worked cases, devices that fail, and a gate.
+//! Tests of the sweep, with worked cases, failing devices and a gate.
 #![tactic(auto)]
 
 #[cfg(test)]

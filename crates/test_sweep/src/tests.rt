@@ -26,7 +26,7 @@ node src source in 3 out 3 lost 0 held 0 wait 0 max 0 p50 0 p90 0 p99 0 busy 0 a
 node desk server in 3 out 3 lost 0 held 0 wait 6 max 3 p50 3 p90 3 p99 3 busy 8 area 14 peak 3 util 1.0000\n\
 exit desk.0 3 sojourn 14\n";
 
-// How a sweep ends, and what the two outputs gained: the output these texts, one behind the other.
+// How a sweep ends, and what the two outputs gained. The output gained these texts, one after the other.
 #[derive(Clone, Copy)]
 struct Ending<'a> {
     outcome: SweepOutcome,
@@ -42,7 +42,8 @@ fn file(alloc: Global, name: &str, bytes: Vec<u8>) -> Result<MemFile, OutOfMemor
     })
 }
 
-// The trace `t`, the model `m`, and a file `x` of these bytes. The read of this number fails, from 1; of number 0 none does.
+// Returns the trace `t`, the model `m`, and a file `x` with these bytes. The read with this number, from 1, fails; with 0 none
+// fails.
 fn files_with(alloc: Global, bytes: Vec<u8>, failing: u64) -> Result<MemFiles, OutOfMemory> {
     let mut files = Vec::new(alloc);
     files.push(file(alloc, "t", Vec::from_slice(alloc, TRACE)?)?)?;
@@ -51,7 +52,7 @@ fn files_with(alloc: Global, bytes: Vec<u8>, failing: u64) -> Result<MemFiles, O
     Ok(MemFiles::new(files, Vec::from_slice(alloc, &[failing])?))
 }
 
-// Whether the bytes are these texts, one behind the other.
+// Returns whether the bytes are these texts, one after the other.
 fn is_joined(bytes: &[u8], texts: &[&[u8]]) -> bool {
     let mut left = bytes;
     for text in texts {
@@ -63,7 +64,8 @@ fn is_joined(bytes: &[u8], texts: &[&[u8]]) -> bool {
     left.is_empty()
 }
 
-// Whether the sweep of these words by so many workers ends so. Puts on the output take 64 bytes, and that of this number fails.
+// Returns whether the sweep with these arguments and this many workers ends this way. Puts on the output take 64 bytes, and the
+// one with this number fails.
 fn ends<R: Threads + Wait + Sync>(
     rt: &R,
     alloc: Global,

@@ -1,5 +1,4 @@
-//! Tests of the call that gives texts, by what it gives to any caller: the canonical text of a model; and of what it stands on: lists,
-//! lines, files and sinks.
+//! Tests of the canonical text of a model, which callers get, and of what it is built on: lists, lines, files and sinks.
 #![tactic(auto)]
 
 #[cfg(test)]

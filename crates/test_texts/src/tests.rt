@@ -1,4 +1,5 @@
-// Each public law is called once: it runs as nothing.
+// The test calls each public lemma once; at run time the call
+// does nothing.
 use mq_model::{
     ModelFault, examples_are_answered, first_bad_word, print_model, printed_models_are_read,
     read_model,
@@ -8,7 +9,8 @@ use std::alloc::Global;
 mod base;
 mod outside;
 
-// Whether the canonical text of what a text declares is this one.
+// Returns whether this is the canonical text of the model that a
+// text declares.
 fn is_printed(alloc: Global, text: &[u8], wanted: &[u8]) -> Result<bool, ModelFault> {
     let plan = read_model(alloc, text)?;
     let printed = print_model(alloc, &plan);
@@ -23,7 +25,8 @@ fn prints(alloc: Global, text: &[u8], wanted: &[u8]) -> bool {
     }
 }
 
-// Whether this is the canonical text of a text, and of itself.
+// Returns whether this is the canonical text of a text, and of
+// itself.
 fn is_canonical(alloc: Global, canonical: &[u8], text: &[u8]) -> bool {
     prints(alloc, text, canonical) && prints(alloc, canonical, canonical)
 }

@@ -1,4 +1,5 @@
-//! Tests of the call that the program makes, by failing devices and a gate.
+//! Tests of the call that the program makes, with failing devices and a
+//! gate.
 #![tactic(auto)]
 
 #[cfg(test)]

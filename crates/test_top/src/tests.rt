@@ -1,4 +1,4 @@
-// What needs a device that fails, or a gate of its own. The other cases are files that the program is given.
+// Tests that need a failing device or a gate. The other cases are files that the program is given.
 use mq_base::OutOfMemory;
 use mq_outside::{MemFile, MemFiles};
 use std::alloc::Global;
@@ -9,16 +9,16 @@ mod gates;
 // A source and a server.
 const MODEL: &[u8] = b"model 1\nsource src\nserver desk d from src\n";
 
-// Its jobs.
+// The trace of its jobs.
 const TRACE: &[u8] = b"source,time,d\nsrc,0,4\nsrc,1,1\nsrc,2,3\n";
 
-// The model `m` and the trace `t` of the server. The read of this number fails, from 1; of number 0 none
-// does.
+// Returns the model `m` and the trace `t` of the server. The read with this number, from 1, fails; with 0
+// none fails.
 fn files_of(alloc: Global, failing: u64) -> Result<MemFiles, OutOfMemory> {
     files_with(alloc, MODEL, TRACE, failing)
 }
 
-// The same with this model and this trace.
+// Returns the model `m` and the trace `t` with these contents.
 fn files_with(
     alloc: Global,
     model: &[u8],

@@ -12,22 +12,7 @@ each function says what it takes and raises; `docs/PYTHON.md` is organised by ta
 Times are whole ticks, from 0. A tick is whatever unit the trace uses.
 """
 
-import os as _os
-
-
-
-def _version():
-    """Returns the content of VERSION: next to the installed package, or at the top of a clone."""
-    here = _os.path.dirname(_os.path.abspath(__file__))
-    for folder in here, _os.path.join(here, "..", "..", ".."):
-        file = _os.path.join(folder, "VERSION")
-        if _os.path.exists(file):
-            with open(file) as text:
-                return text.read().strip()
-    return "unknown"
-
-
-__version__ = _version()
+from .version import __version__
 
 # The module of each name, imported when the name is first used, so that the wheel's commands start quickly. (No module has the name of one of these,
 # since importing it would replace that name.)
@@ -46,9 +31,9 @@ _MODULES = {
     "Node": "lines",
     "Exit": "lines",
     "Again": "lines",
-    "Sweep": "sweeps",
-    "Scenario": "sweeps",
-    "load": "sweeps",
+    "Sweep": "sweeps.results",
+    "Scenario": "sweeps.results",
+    "load": "sweeps.results",
     "Visits": "node_visits",
     "NodeVisits": "node_visits",
     "Visit": "node_visits",

@@ -2,6 +2,9 @@
 
 from typing import NamedTuple, Optional
 
+# No job waits or is lost at these.
+PASSED = "source", "split", "fork"
+
 
 class Node(NamedTuple):
     """A `node` line: its name and kind (str), and its numbers (int). Times are in ticks: `wait` is the sum of the waits, `max` the longest, `p50`,

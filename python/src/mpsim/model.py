@@ -221,3 +221,14 @@ def sources(text):
     ['phone', 'web']
     """
     return [words[1] for words in map(str.split, text.split("\n")) if words[:1] == ["source"] and len(words) > 1]
+
+
+def lines_of(text):
+    """Returns the lines (list of str) of a model that aren't comments."""
+    return [part for part in text.removeprefix("\ufeff").split("\n") if not part.lstrip(" \t").startswith("#")]
+
+
+def in_braces(text):
+    """Returns the first name in braces (a match, with the name as its group) in a model, such as `{agents}` or `{agents:d}`, which sweeps fill in; or
+    None."""
+    return re.search(r"\{([A-Za-z_]\w*)[^{}]*\}", "\n".join(lines_of(text)), re.ASCII)

@@ -1,12 +1,11 @@
 """Finds the three programs, sets up their environment, and provides the wheel's commands, which answer --help and --version."""
 
 import os
-import resource
 import shutil
 import sys
 
-from . import __version__
 from .errors import ProgramError
+from .version import __version__
 
 HERE = os.path.dirname(os.path.abspath(__file__))
 # The same settings as in tools/memory.sh: the C library takes memory in large pieces, on huge pages if possible, which saves a quarter of the time
@@ -36,6 +35,8 @@ def find(name):
 
 def surroundings():
     """Returns the environment of a program: this process's, with memory settings unless it already has some."""
+    import resource
+
     is_free = resource.getrlimit(resource.RLIMIT_AS)[0] == resource.RLIM_INFINITY
     return {"GLIBC_TUNABLES": TUNABLES if is_free else ONE_HEAP, **os.environ}
 

@@ -15,18 +15,19 @@ behind: no process, no open file, no file on disk.
 """
 
 import contextlib
+import os
 import time
 from collections.abc import Iterable, Mapping
 
-from .errors import BoundError, ModelError, TraceError, VisitsError
+from .errors import BoundError, Error, ModelError, ProgramError, TraceError, VisitsError
+from .files import text_of
 from .inputs import edits_input, model_input, trace_input
-from .model import Model
+from .limits import MODELS
+from .model import Model, in_braces
 from .processes import Running
+from .programs import find
 from .report import Reading, with_model
-from .sweeps import Scenario, Sweep, scenarios_of
-
-# The most models that mpsweep takes.
-MODELS = 64
+from .sweeps.results import Scenario, Sweep, scenarios_of
 
 
 @contextlib.contextmanager
@@ -187,3 +188,21 @@ def _by_mpsim(rows, models, labels, timeout):
     except (ModelError, TraceError, BoundError, VisitsError) as error:
         found = Scenario(label, error.status, None, error)
     yield found
+
+
+def judged_text(path, warn):
+    """Returns the text (str) of a model that mpsim has checked by running it without records. If the program is missing or the model has names in
+    braces, it isn't checked, and `warn` is called with that. Raises what `text_of` does, and what `mpsim.run` does, with the path."""
+    text = text_of(path)
+    if found := in_braces(text):
+        warn(f"warning: {path} isn't checked: {found[0]} gets its values from mpplan sweep --set")
+        return text
+    try:
+        find("mpsim")
+        run(text.encode(errors="surrogateescape"), [])
+    except ProgramError as error:
+        warn(f"warning: {path} isn't checked: {error.why}")
+    except Error as error:
+        error.file = os.fsdecode(path)
+        raise
+    return text

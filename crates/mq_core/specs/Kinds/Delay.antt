@@ -35,7 +35,7 @@ delay_on rows demand visits local now (Finish time node server position) =
       services = [];
     }
 
--- what these visits let out at a delay, the first at this position: each leaves its demand after it came
+-- what these visits let out, the first of them at this position: each leaves its demand after it came
 abbrev pub delayed_from : Rows → Demand → ℕ → List Visit → List Emission
 delayed_from rows demand position [] = []
 delayed_from rows demand position (visit ∷ visits) =
@@ -50,7 +50,7 @@ delay_fates rows demand came = map (λ time. Departs time) (delayed came.arrive 
 abbrev pub delay_outs : Rows → Demand → Came → List ℕ
 delay_outs rows demand came = map (λ _. 0) came.job
 
--- serves each job at once, for as long as it asks
+-- serves each job at once, for its demand
 abbrev pub delay : Demand → Behaviour
 delay demand =
     record {

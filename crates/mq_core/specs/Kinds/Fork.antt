@@ -16,36 +16,36 @@ use Rattle.mq_core.specs.declared.model.Fate.{Fate}
 use Rattle.mq_core.specs.declared.model.Fate.TheVariants.{Departs}
 use Rattle.mq_core.specs.declared.model.Stream.{Stream}
 
--- a position, once by each of the first so many outputs, in order
+-- the position let out by each of the first `outputs` outputs, in order
 abbrev pub copies : ℕ → ℕ → List Release
 copies zero position = []
 copies (suc outputs) position = copies outputs position ++ record { out = outputs; position = position } ∷ []
 
--- a fork lets each job out by each output as it comes
+-- a fork lets each job out by each output when it comes
 abbrev pub fork_on : ℕ → List Visit → Local → Event → Reaction Local
 fork_on outputs visits local (Arrive time node port job) = record { local = local; releases = copies outputs (latest visits); services = [] }
 fork_on outputs visits local (Finish time node server position) = quiet local
 
--- what a visit at this position lets out, by each of the first so many outputs
+-- what a visit at this position lets out, by each of the first `outputs` outputs
 abbrev pub copied : ℕ → ℕ → Visit → List Emission
 copied zero position visit = []
 copied (suc outputs) position visit = copied outputs position visit ++ record { out = outputs; position = position; job = visit.job; time = visit.arrive } ∷ []
 
--- what these visits let out, the first at this position
+-- what these visits let out, the first of them at this position
 abbrev pub copied_from : ℕ → ℕ → List Visit → List Emission
 copied_from outputs position [] = []
 copied_from outputs position (visit ∷ visits) = copied outputs position visit ++ copied_from outputs (suc position) visits
 
--- the fates of the arrivals: each departs as it comes
+-- the fates of the arrivals: each departs when it comes
 abbrev pub fork_fates : Came → List Fate
 fork_fates came = map (λ time. Departs time) came.arrive
 
--- what leaves by an output: all arrivals, in order, where there is that output
+-- what leaves by an output: all arrivals, in order, if the fork has that output
 abbrev pub copies_by : Bool → Came → Stream
 copies_by true came = record { job = came.job; time = came.arrive }
 copies_by false came = record { job = []; time = [] }
 
--- copies each job to so many outputs
+-- copies each job to this many outputs
 abbrev pub fork : ℕ → Behaviour
 fork outputs =
     record {

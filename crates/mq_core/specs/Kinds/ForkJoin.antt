@@ -21,13 +21,13 @@ use Rattle.mq_core.specs.Event.Event.{Arrive, Finish}
 use Rattle.mq_core.specs.Local.{Local, Branch, empty}
 use Rattle.mq_core.specs.Late.{Late, both-late, begins_at-late, begins_alone-late}
 
--- servers in series after an event, with what went through and what begins
+-- servers in series after an event, with how many jobs went through and which services begin
 pub record Moved : Type 0 where
   pub queues : List (List ℕ)
   pub through : ℕ
   pub services : List Service
 
--- a position enters the first of these servers, or goes through where there is none
+-- a position enters the first of these servers, or goes through if there is none
 abbrev pub goes_in : Rows → List Visit → ℕ → ℕ → List Demand → List (List ℕ) → ℕ → Moved
 goes_in rows visits now server [] queues position = record { queues = queues; through = 1; services = [] }
 goes_in rows visits now server (demand ∷ demands) [] position = record { queues = []; through = 0; services = [] }
@@ -38,14 +38,14 @@ goes_in rows visits now server (demand ∷ demands) (queue ∷ queues) position 
       services = begins_alone rows demand visits now server queue position;
     }
 
--- the front of a server goes on to the next, and the position behind it begins
+-- the front of a server goes on to the next, and the service of the position after it begins
 abbrev pub goes_on : Rows → List Visit → ℕ → ℕ → Demand → List Demand → List ℕ → List (List ℕ) → Moved
 goes_on rows visits now server demand demands [] queues = record { queues = [] ∷ queues; through = 0; services = [] }
 goes_on rows visits now server demand demands (front ∷ queue) queues =
     let moved = goes_in rows visits now (server + 1) demands queues front in
     record moved { queues = queue ∷ moved.queues; services = begins_at rows demand visits now server queue ++ moved.services }
 
--- the finish of one of these servers, of which the first has this number
+-- a finish at the server number `finished`; the first of these servers has the number `server`
 abbrev pub finishes_at : Rows → List Visit → ℕ → ℕ → ℕ → List Demand → List (List ℕ) → Moved
 finishes_at rows visits now finished server [] queues = record { queues = []; through = 0; services = [] }
 finishes_at rows visits now finished server (demand ∷ demands) [] = record { queues = []; through = 0; services = [] }
@@ -58,7 +58,7 @@ pub record ForkJoinMoved : Type 0 where
   pub branches : List Branch
   pub services : List Service
 
--- each branch after its part; each has its first server's number
+-- each branch after `part`, which gets the number of the branch's first server
 abbrev pub each_branch : (ℕ → List Demand → List (List ℕ) → Moved) → ℕ → List (List Demand) → List Branch → ForkJoinMoved
 each_branch part server [] branches = record { branches = []; services = [] }
 each_branch part server (demands ∷ more) [] = record { branches = []; services = [] }
@@ -70,26 +70,26 @@ each_branch part server (demands ∷ more) (branch ∷ branches) =
       services = moved.services ++ rest.services;
     }
 
--- how many went through every branch
+-- the number of jobs that went through every branch
 abbrev pub least_through : List Branch → ℕ
 least_through [] = 0
 least_through (branch ∷ []) = branch.through
 least_through (branch ∷ (next ∷ branches)) = min branch.through (least_through (next ∷ branches))
 
--- what a fork-join keeps at the start: nobody at any server, and nobody through
+-- what a fork-join keeps at the start: no jobs at any server, and none that went through
 abbrev pub forkjoin_opening : List (List Demand) → Local
 forkjoin_opening branches = record empty { branches = map (λ demands. record { queues = map (λ _. []) demands; through = 0 }) branches }
 
--- a server has a job
+-- whether a server has a job
 abbrev pub is_busy : List ℕ → Bool
 is_busy [] = false
 is_busy (front ∷ queue) = true
 
--- how many servers have a job
+-- the number of servers that have a job
 abbrev pub busy_servers : List Branch → ℕ
 busy_servers branches = count_by is_busy (flat_map (λ (branch : Branch). branch.queues) branches)
 
--- a fork-join: an arrival enters every branch; a finish moves a job on, and a position goes out once it is through all
+-- a fork-join: an arrival enters every branch; a finish moves a job on, and a position leaves once it is through all branches
 abbrev pub forkjoin_on : Rows → List (List Demand) → List Visit → Local → ℕ → Event → Reaction Local
 forkjoin_on rows demands visits local now (Arrive time node port job) =
     let moved_on = each_branch (λ server ds queues. goes_in rows visits now server ds queues (latest visits)) 0 demands local.branches in
@@ -103,14 +103,14 @@ forkjoin_on rows demands visits local now (Finish time node server position) =
       services = moved_on.services;
     }
 
--- 2 to 8 branches of 1 to 4 servers, at most 8 servers together, and sound demands
+-- 2 to 8 branches of 1 to 4 servers, at most 8 servers in all, and sound demands
 abbrev pub are_sound_branches : ℕ → List (List Demand) → Bool
 are_sound_branches columns branches =
     is_within 2 8 (length branches)
     && list_all (λ demands. is_within 1 4 (length demands) && list_all (is_sound_demand columns) demands) branches
     && nat_le (length (flat_map (λ demands. demands) branches)) 8
 
--- what each of these jobs asks for at each server of each branch of a fork-join
+-- the demand of each of these jobs at each server of each branch
 abbrev pub branch_demands : Rows → List (List Demand) → List ℕ → List (List (List ℕ))
 branch_demands rows branches job = map (λ demands. map (λ demand. map (demand_of_job rows demand) job) demands) branches
 

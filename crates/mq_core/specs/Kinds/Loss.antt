@@ -1,4 +1,4 @@
--- A loss station, as one value: one server, so many places, and two outputs.
+-- A loss station, as one value: one server, a number of places, and two outputs.
 use Rattle.std.specs.Prelude.{List, [], false, if◌then◌else◌, length, map, nat_lt, true, ℕ, ◌&&◌, ◌==◌}
 use Rattle.std.proofs.Common.{Bool}
 use Rattle.mq_core.specs.Behaviour.{Behaviour}
@@ -20,7 +20,7 @@ use Rattle.mq_core.specs.Event.{Event}
 use Rattle.mq_core.specs.Event.Event.{Arrive, Finish}
 use Rattle.mq_core.specs.Late.{Late, queues_up-late, front_leaves-late}
 
--- a loss station: where all places are taken an arrival goes out by output 1, else it does as at a server
+-- a loss station: if all places are taken, an arrival leaves by output 1, otherwise it does as at a server
 abbrev pub loss_on : Rows → ℕ → Demand → List Visit → Local → ℕ → Event → Reaction Local
 loss_on rows places demand visits local now (Arrive time node port job) =
     if nat_lt (length local.queue) places
@@ -36,7 +36,7 @@ loss_by rows places demand came = loss_fates places [] came.arrive (map (demand_
 abbrev pub loss_outs : Rows → ℕ → Demand → Came → List ℕ
 loss_outs rows places demand came = map out_of_fate (loss_fates places [] came.arrive (map (demand_of_job rows demand) came.job))
 
--- one server and so many places; who finds none is lost, and goes out by output 1
+-- one server and a number of places; an arrival that finds no place is lost, and leaves by output 1
 abbrev pub loss : ℕ → Demand → Behaviour
 loss places demand =
     record {
@@ -69,7 +69,7 @@ loss places demand =
       stream = λ rows came out. once_out Mixed came (loss_by rows places demand came) (loss_outs rows places demand came) out;
     }
 
--- a visit that is admitted or not
+-- an arrival, admitted or not
 admits-late : (rows : Rows) (places : ℕ) (demand : Demand) (visits : List Visit) (local : Local) (now : ℕ) (b : Bool) → Late now (if b then queues_up rows demand visits local now local.queue (latest visits) else passes_on local 1 (latest visits)).services
 admits-late rows places demand visits local now true = queues_up-late rows demand visits local now local.queue (latest visits)
 admits-late rows places demand visits local now false = tt

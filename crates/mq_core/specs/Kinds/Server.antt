@@ -24,11 +24,11 @@ abbrev pub server_on : Rows → Demand → List Visit → Local → ℕ → Even
 server_on rows demand visits local now (Arrive time node port job) = queues_up rows demand visits local now local.queue (latest visits)
 server_on rows demand visits local now (Finish time node server position) = front_leaves rows demand visits local now local.queue
 
--- when a visit leaves a server that the visit before it left at this time
+-- when a visit leaves a server that the visit before it left at time `last`
 abbrev pub served : Rows → Demand → ℕ → Visit → ℕ
 served rows demand last visit = max visit.arrive last + demand_of_job rows demand visit.job
 
--- what these visits let out, the first at this position: each leaves when it is served
+-- what these visits let out, the first of them at this position: each leaves when it has been served
 abbrev pub served_from : Rows → Demand → ℕ → ℕ → List Visit → List Emission
 served_from rows demand position last [] = []
 served_from rows demand position last (visit ∷ visits) =

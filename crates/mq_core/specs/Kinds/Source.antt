@@ -16,7 +16,7 @@ use Rattle.mq_core.specs.declared.model.Fate.TheVariants.{Departs}
 use Rattle.mq_core.specs.declared.model.Rows.{Rows}
 use Rattle.mq_core.specs.Late.{Late}
 
--- a source lets each job out as it comes
+-- a source lets each job out when it comes
 abbrev pub source_on : List Visit → Local → Event → Reaction Local
 source_on visits local (Arrive time node port job) = passes_on local 0 (latest visits)
 source_on visits local (Finish time node server position) = quiet local
@@ -29,7 +29,7 @@ source_fates rows came = map (λ time. Departs time) came.arrive
 abbrev pub source_outs : Rows → Came → List ℕ
 source_outs rows came = map (λ _. 0) came.job
 
--- where jobs come from: each goes on as it comes
+-- where jobs come from: each goes on when it comes
 abbrev pub source : Behaviour
 source =
     record {

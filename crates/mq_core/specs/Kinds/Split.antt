@@ -1,4 +1,4 @@
--- A split, as one value: its routes, and which output each job leaves by.
+-- A split, as one value: its routes, and the output by which each job leaves.
 use Rattle.std.specs.List.{list_all}
 use Rattle.std.specs.Prelude.{Bool, List, [], count_by, false, length, map, nat_le, nat_lt, suc, true, ℕ, ◌%◌, ◌&&◌, ◌+◌, ◌^◌, ◌∷◌}
 use Rattle.mq_core.specs.Behaviour.{Behaviour}
@@ -22,19 +22,19 @@ use Rattle.mq_core.specs.declared.model.Route.TheVariants.{Cut, Modulo, Turn}
 use Rattle.mq_core.specs.declared.model.Rows.{Rows}
 use Rattle.mq_core.specs.Late.{Late}
 
--- the output that a route gives to a value at a position
+-- the output that a route gives to a value, or to a position if the outputs take turns
 abbrev pub output_at : Route → ℕ → ℕ → ℕ
 output_at (Modulo outputs column) value position = value % outputs
 output_at (Turn outputs) value position = position % outputs
 output_at (Cut column thresholds) value position = count_by (λ threshold. nat_le threshold value) thresholds
 
--- the value that a route looks at; by turns it looks at none
+-- the value of a job that a route reads; 0 if the outputs take turns, since that reads none
 abbrev pub route_value : Rows → Route → ℕ → ℕ
 route_value rows (Modulo outputs column) job = value_of rows column job
 route_value rows (Turn outputs) job = 0
 route_value rows (Cut column thresholds) job = value_of rows column job
 
--- the rows have the value of this job that a route looks at; by turns it looks at none
+-- the rows have the value of this job that a route reads, if it reads one
 abbrev pub HasRouteValue : Rows → Route → ℕ → Type 0
 HasRouteValue rows (Modulo outputs column) job = HasDemand rows (Column column) job
 HasRouteValue rows (Turn outputs) job = Unit {0}
@@ -44,19 +44,19 @@ HasRouteValue rows (Cut column thresholds) job = HasDemand rows (Column column) 
 abbrev pub output_by : Rows → Route → ℕ → ℕ → ℕ
 output_by rows route job position = output_at route (route_value rows route job) position
 
--- a split lets each job out as it comes, by the output of its route
+-- a split lets each job out when it comes, by the output that its route gives
 abbrev pub split_on : Rows → Route → List Visit → Local → Event → Reaction Local
 split_on rows route visits local (Arrive time node port job) = passes_on local (output_by rows route job (latest visits)) (latest visits)
 split_on rows route visits local (Finish time node server position) = quiet local
 
--- 2 to 8 outputs, a column that there is, and thresholds that rise and are in their limit
+-- 2 to 8 outputs, a column that exists, and thresholds that rise and are in their limit
 abbrev pub is_sound_route : ℕ → Route → Bool
 is_sound_route columns (Modulo outputs column) = is_within 2 8 outputs && nat_lt column columns
 is_sound_route columns (Turn outputs) = is_within 2 8 outputs
 is_sound_route columns (Cut column thresholds) =
     nat_lt column columns && is_within 1 7 (length thresholds) && rises thresholds && list_all (λ threshold. nat_le threshold (2 ^ 36)) thresholds
 
--- how many outputs a route chooses from
+-- the number of outputs that a route chooses from
 abbrev pub outputs_by : Route → ℕ
 outputs_by (Modulo outputs column) = outputs
 outputs_by (Turn outputs) = outputs
@@ -68,7 +68,7 @@ columns_of_route (Modulo outputs column) = column ∷ []
 columns_of_route (Turn outputs) = []
 columns_of_route (Cut column thresholds) = column ∷ []
 
--- the output by which each job leaves, the first at this position.
+-- the output by which each job leaves, the first of them at this position
 abbrev pub routes_from : Rows → Route → ℕ → List ℕ → List ℕ
 routes_from rows route position [] = []
 routes_from rows route position (job ∷ jobs) = output_by rows route job position ∷ routes_from rows route (suc position) jobs

@@ -21,13 +21,13 @@ use Rattle.mq_core.specs.Event.{Event}
 use Rattle.mq_core.specs.Event.Event.{Arrive, Finish}
 use Rattle.mq_core.specs.Late.{Late, begins_alone-late, begins_at-late, both-late}
 
--- stages after a sweep, with what it let out and what it scheduled
+-- the stages after a sweep, with what it let out and scheduled
 pub record Swept : Type 0 where
   pub lines : List Line
   pub releases : List Release
   pub services : List Service
 
--- the next stage has room; behind the last there is always room
+-- the next stage has room; after the last stage there is always room
 abbrev pub has_room : List Stage → List Line → Bool
 has_room [] lines = true
 has_room (next ∷ stages) [] = false
@@ -42,14 +42,14 @@ enters rows visits now server stage position later (line ∷ lines) =
       services = later.services ++ begins_alone rows stage.demand visits now server line.queue position;
     }
 
--- a position that is done leaves a stage: out of the node from the last, else to the next one
+-- a position that is done leaves a stage: from the last it leaves the node, from any other it enters the next stage
 abbrev pub leaves : Rows → List Visit → ℕ → ℕ → List Stage → ℕ → Swept → Swept
 leaves rows visits now server [] position later =
     record later { releases = later.releases ++ record { out = 0; position = position } ∷ [] }
 leaves rows visits now server (next ∷ stages) position later =
     enters rows visits now (server + 1) next position later later.lines
 
--- a stage, once the later ones are swept: a front that is done leaves if there is room, and the next begins
+-- a stage, once the later ones are swept: a front that is done leaves if there is room, and the service of the next one begins
 abbrev pub moves : Rows → List Visit → ℕ → ℕ → Stage → List Stage → Line → List ℕ → Swept → Swept
 moves rows visits now server stage stages line [] later = record later { lines = line ∷ later.lines }
 moves rows visits now server stage stages line (front ∷ queue) later =
@@ -61,14 +61,14 @@ moves rows visits now server stage stages line (front ∷ queue) later =
     })
     else record later { lines = line ∷ later.lines }
 
--- the sweep from the last stage to the first; the first of these stages is this server
+-- a sweep from the last stage to the first; the first of these stages has the number `server`
 abbrev pub sweep : Rows → List Visit → ℕ → ℕ → List Stage → List Line → Swept
 sweep rows visits now server [] lines = record { lines = []; releases = []; services = [] }
 sweep rows visits now server (stage ∷ stages) [] = record { lines = []; releases = []; services = [] }
 sweep rows visits now server (stage ∷ stages) (line ∷ lines) =
     moves rows visits now server stage stages line line.queue (sweep rows visits now (server + 1) stages lines)
 
--- the front of a stage is done
+-- the stages with the front of this one marked as done
 abbrev pub marked : ℕ → List Line → List Line
 marked server [] = []
 marked zero (line ∷ lines) = record line { done = true } ∷ lines
@@ -90,42 +90,42 @@ tandem_on rows stages visits local now (Finish time node server position) =
     let swept = sweep rows visits now 0 stages (marked server local.lines) in
     record { local = record local { lines = swept.lines }; releases = swept.releases; services = swept.services }
 
--- as many empty stages
+-- as many empty stages as there are stages
 abbrev pub empty_lines : List Stage → List Line
 empty_lines stages = map (λ _. record { queue = []; done = false }) stages
 
--- how many jobs are in these stages
+-- the number of jobs in these stages
 abbrev pub held_in : List Line → ℕ
 held_in lines = length (flat_map (λ (line : Line). line.queue) lines)
 
--- 1 where the front of a stage is in service
+-- 1 if the front of a stage is in service, otherwise 0
 abbrev pub one_if_serving : List ℕ → Bool → ℕ
 one_if_serving [] done = 0
 one_if_serving (front ∷ queue) done = if done then 0 else 1
 
--- how many stages serve a job
+-- the number of stages that are serving a job
 abbrev pub serving_in : List Line → ℕ
 serving_in [] = 0
 serving_in (line ∷ lines) = one_if_serving line.queue line.done + serving_in lines
 
--- a stage with so many places, and a demand that is sound
+-- a stage with a number of places between two limits, and a sound demand
 abbrev pub is_sound_stage : ℕ → ℕ → ℕ → Stage → Bool
 is_sound_stage columns low high stage = is_within low high stage.places && is_sound_demand columns stage.demand
 
--- 2 to 4 stages: the first has places 0, which nothing reads, and each other 1 to 4
+-- 2 to 4 stages: the first has 0 places, which nothing reads, and each other 1 to 4
 abbrev pub are_sound_stages : ℕ → List Stage → Bool
 are_sound_stages columns [] = false
 are_sound_stages columns (stage ∷ stages) =
     is_sound_stage columns 0 0 stage && is_within 1 3 (length stages) && list_all (is_sound_stage columns 1 4) stages
 
--- when these jobs, which come at these times, leave a tandem; with no stage they go on as they come
+-- when these jobs, which come at these times, leave a tandem; without stages they leave when they come
 abbrev pub tandem_times : Rows → List Stage → List ℕ → List ℕ → List ℕ
 tandem_times rows [] jobs arrives = arrives
 tandem_times rows (stage ∷ stages) jobs arrives =
     tandem_departs (map (λ (s : Stage). s.places) (stage ∷ stages)) (map (λ _. []) (stage ∷ stages)) arrives
     (map (λ (s : Stage). map (demand_of_job rows s.demand) jobs) (stage ∷ stages))
 
--- what these visits let out at a tandem, each when it leaves the last stage
+-- what these visits let out at a tandem: each leaves when it leaves the last stage
 abbrev pub tandem_flow : Rows → List Stage → List Visit → List Emission
 tandem_flow rows stages visits =
     leaving_from 0 (tandem_times rows stages (map (λ (x : Visit). x.job) visits) (map (λ (x : Visit). x.arrive) visits)) visits

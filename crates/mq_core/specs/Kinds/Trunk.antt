@@ -20,7 +20,7 @@ use Rattle.mq_core.specs.Event.{Event}
 use Rattle.mq_core.specs.Event.Event.{Arrive, Finish}
 use Rattle.mq_core.specs.Late.{Late}
 
--- the position begins its service at once, beside those that are being served
+-- a position begins its service at once, beside those in service
 abbrev pub joins_service : Rows → Demand → List Visit → Local → ℕ → ℕ → Reaction Local
 joins_service rows demand visits local now position =
     record {
@@ -29,8 +29,8 @@ joins_service rows demand visits local now position =
       services = begins rows demand visits now position ∷ [];
     }
 
--- a trunk group: where all servers are busy an arrival goes out by output 1, else it begins its service at once, and leaves
--- by output 0 when that ends
+-- a trunk group: if all servers are busy, an arrival leaves by output 1; otherwise it begins its service at once, and leaves by
+-- output 0 when that ends
 abbrev pub trunk_on : Rows → ℕ → Demand → List Visit → Local → ℕ → Event → Reaction Local
 trunk_on rows servers demand visits local now (Arrive time node port job) =
     if nat_lt (length local.scheduled) servers
@@ -51,7 +51,7 @@ trunk_by rows servers demand came = trunk_fates servers [] came.arrive (map (dem
 abbrev pub trunk_outs : Rows → ℕ → Demand → Came → List ℕ
 trunk_outs rows servers demand came = map out_of_fate (trunk_fates servers [] came.arrive (map (demand_of_job rows demand) came.job))
 
--- so many servers and no place to wait; who finds all of them busy is lost, and goes out by output 1
+-- a number of servers and no place to wait; an arrival that finds them all busy is lost, and leaves by output 1
 abbrev pub trunk : ℕ → Demand → Behaviour
 trunk servers demand =
     record {
@@ -84,7 +84,7 @@ trunk servers demand =
       stream = λ rows came out. once_out Overtaking came (trunk_by rows servers demand came) (trunk_outs rows servers demand came) out;
     }
 
--- a visit that is admitted or not
+-- an arrival, admitted or not
 admits-late : (rows : Rows) (demand : Demand) (visits : List Visit) (local : Local) (now : ℕ) (b : Bool) → Late now (if b then joins_service rows demand visits local now (latest visits) else passes_on local 1 (latest visits)).services
 admits-late rows demand visits local now true = (omega arith, tt)
 admits-late rows demand visits local now false = tt

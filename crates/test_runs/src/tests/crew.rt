@@ -1,4 +1,4 @@
-// Squares as pieces, by several workers and through gates that count and hold.
+// Squares as pieces, made by several workers, with gates that count and hold.
 ghost use Rattle.std.specs.Prelude.{◌≡◌, ◌+◌, ◌*◌, ◌<◌, ◌≤◌, ◌^◌, length, IfOk};
 
 use super::meeting::Meeting;
@@ -35,7 +35,7 @@ impl Pieces for Squares {
     }
 }
 
-// Whether these workers make the first squares so.
+// Returns whether these workers make these squares, the first ones.
 fn squares_are<R: Threads + Sync>(
     rt: &R,
     alloc: Global,
@@ -53,7 +53,7 @@ fn squares_are<R: Threads + Sync>(
     Ok(found.as_slice() == wanted)
 }
 
-// The first hundred squares.
+// Returns the first hundred squares.
 fn hundred(alloc: Global) -> Result<Vec<u64>, OutOfMemory>
     ensures { IfOk result (λ squares. length squares.items ≡ 100) }
 {
@@ -64,7 +64,7 @@ fn hundred(alloc: Global) -> Result<Vec<u64>, OutOfMemory>
     Ok(squares)
 }
 
-// Whether 64 workers make the first hundred.
+// Returns whether 64 workers make the first hundred squares.
 fn hundred_stand<R: Threads + Sync>(rt: &R, alloc: Global) -> Result<bool, OutOfMemory> {
     let wanted = hundred(alloc)?;
     let stand = squares_are(rt, alloc, 64, &wanted);
@@ -89,7 +89,8 @@ fn the_pieces_stand_at_their_places(rt: HostRuntime) -> Result<(), Fail> {
     Ok(())
 }
 
-// Whether what two workers hand back, out of order, is put at its indices.
+// Returns whether the pieces that two workers return, out of order, are put at their
+// indices.
 fn both_are_placed(alloc: Global) -> Result<bool, OutOfMemory> {
     let first = Vec::from_slice(alloc, &[(2u32, 4u64), (0, 0)])?;
     let second = Vec::from_slice(alloc, &[(1u32, 1u64)])?;
@@ -117,7 +118,7 @@ impl Gate for Counter {
     fn enter_block(&self, _seat: &ChainSeat, _worker: u32, _block: u32) {}
 }
 
-// Whether as many squares are made so, and enter the gate as often.
+// Returns whether workers make these squares, and enter the gate this many times.
 fn made_are<R: Threads + Sync>(
     rt: &R,
     alloc: Global,
@@ -144,7 +145,7 @@ fn fewer_than_two_enter_no_gate(rt: HostRuntime) -> Result<(), Fail> {
     Ok(())
 }
 
-// Whether three parts are made in lists of their own, of which the second has no piece.
+// Returns whether three parts make lists of their own, the second of them empty.
 fn parts_are_apart<R: Threads + Sync>(rt: &R, alloc: Global) -> Result<bool, OutOfMemory> {
     let parts = [
         Squares { count: 3 },
@@ -180,7 +181,7 @@ impl Gate for AtPieces {
     fn enter_block(&self, _seat: &ChainSeat, _worker: u32, _block: u32) {}
 }
 
-// Whether so many workers make so many squares, and the first five of them meet.
+// Returns whether this many workers make this many squares, and five of them meet.
 fn five_meet<R: Threads + Sync>(
     rt: &R,
     alloc: Global,

@@ -1,4 +1,4 @@
-// Fates whose last are departures at other times, and come back.
+// Fates whose last items are replaced by departures at other times, and then put back.
 ghost use Rattle.std.specs.Prelude.{◌≡◌, length};
 
 use crate::tests::stats::list;
@@ -7,7 +7,7 @@ use mq_core::{Fate, Fates};
 use std::alloc::Global;
 use std::test::Fail;
 
-// Whether a visit departs at this time.
+// Returns whether a visit departs at this time.
 fn departs_at(fate: Fate, time: u64) -> bool {
     match fate {
         Fate::Departs(departure) => departure == time,
@@ -15,7 +15,8 @@ fn departs_at(fate: Fate, time: u64) -> bool {
     }
 }
 
-// Whether departures at 7 and 9 stand behind the first of two fates, and then one at 5.
+// Returns whether departures at 7 and 9 follow the first of two fates, and then one
+// departure at 5.
 fn come_back(alloc: Global, fates: Fates) -> Result<bool, OutOfMemory>
     requires { length fates ≡ 2 }
 {

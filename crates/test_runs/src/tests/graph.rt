@@ -17,7 +17,7 @@ fn network(alloc: Global, nodes: List<Node>) -> Network {
     }
 }
 
-// A server that reads these.
+// Returns a server with these inputs.
 fn server(alloc: Global, inputs: &[Input]) -> Result<Node, OutOfMemory> {
     Ok(Node {
         name: List::new(alloc),
@@ -26,7 +26,8 @@ fn server(alloc: Global, inputs: &[Input]) -> Result<Node, OutOfMemory> {
     })
 }
 
-// A server that reads itself alone, behind so many that read nothing.
+// Returns a network of a server that reads only itself, after this
+// many servers that read nothing.
 fn circle(alloc: Global, node: u32) -> Result<Network, OutOfMemory> {
     let mut nodes = List::new(alloc);
     for _ in 0..node {
@@ -47,7 +48,7 @@ fn is_wired(net: &Network) -> bool
         .all(|input| (input.node as usize) < count))
 }
 
-// Whether the ranking of a network comes to this.
+// Returns whether ranking a network gives this.
 fn comes_to(alloc: Global, net: &Network, wanted: Result<&[u32], RankFault>) -> bool {
     if net.nodes.len() > 64 || !is_wired(net) {
         return false;

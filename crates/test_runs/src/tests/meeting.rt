@@ -2,7 +2,7 @@
 use std::sync::atomic::AtomicU64;
 use std::sync::atomic::Ordering::SeqCst;
 
-// How often a held entry looks whether the others have come.
+// How many times a held entry checks whether the others have come.
 const TURNS: u64 = 2_000_000_000;
 
 // The entries with the numbers 0 to 4, each held until all five have come. They are counted by number and by worker.
@@ -24,7 +24,7 @@ fn none() -> [AtomicU64; 5] {
     ]
 }
 
-// Whether each of these was counted once.
+// Returns whether each of these was counted once.
 fn are_ones(counts: &[AtomicU64; 5]) -> bool {
     for count in counts {
         if count.load(SeqCst) != 1 {
@@ -61,7 +61,7 @@ impl Meeting {
         self.alone.fetch_add(1, SeqCst);
     }
 
-    // Whether each of the five workers came with a number of its own, and none waited in vain.
+    // Returns whether each of the five workers came with a number of its own, and none waited in vain.
     pub fn is_whole(&self) -> bool {
         self.alone.load(SeqCst) == 0 && are_ones(&self.numbers) && are_ones(&self.workers)
     }

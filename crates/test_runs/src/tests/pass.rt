@@ -1,4 +1,4 @@
-// The single pass against the recurrence, and through gates that count and hold.
+// The single pass compared with the recurrence, and with gates that count and hold.
 ghost use Rattle.std.specs.Prelude.{◌≡◌, ◌*◌, ◌≤◌, length, IfOk};
 ghost use Rattle.mq_core.specs.Sequences.{IsSoundLoad};
 
@@ -31,7 +31,7 @@ fn list_of(alloc: Global, items: &[u64]) -> Result<List<u64>, OutOfMemory>
     Ok(List::from_vec(Vec::from_slice(alloc, items)?))
 }
 
-// Whether the jobs of a stream, with these demands, depart so.
+// Returns whether the jobs of a stream, with these demands, depart at these times.
 fn pass_gives<R: Threads + Sync, G: Gate>(
     rt: &R,
     alloc: Global,
@@ -52,7 +52,7 @@ fn pass_gives<R: Threads + Sync, G: Gate>(
     Ok(departs.as_slice() == wanted)
 }
 
-// Whether those that come at these times do.
+// Returns whether jobs that come at these times, with these demands, depart at these times.
 fn departs_are<R: Threads + Sync, G: Gate>(
     rt: &R,
     alloc: Global,
@@ -101,7 +101,7 @@ fn every_cut_and_crew_gives_the_recurrence(rt: HostRuntime) -> Result<(), Fail> 
     Ok(())
 }
 
-// Jobs that come every 8 ticks, with demands of up to 16.
+// Returns jobs that come every 8 ticks, with demands of at most 16.
 fn many(alloc: Global, jobs: u32) -> Result<(Stream, List<u64>), OutOfMemory>
     requires { jobs ≤ 1048576 }
     ensures sound { IfOk result (λ r. IsSoundLoad r.0.time r.1) }
@@ -120,7 +120,7 @@ fn many(alloc: Global, jobs: u32) -> Result<(Stream, List<u64>), OutOfMemory>
     Ok((stream, List::from_vec(demands)))
 }
 
-// Whether the jobs of a stream depart as the recurrence says.
+// Returns whether the jobs of a stream depart as the recurrence says.
 fn pass_is_plain<R: Threads + Sync>(
     rt: &R,
     alloc: Global,
@@ -142,7 +142,7 @@ fn pass_is_plain<R: Threads + Sync>(
     right
 }
 
-// Whether 3,000 jobs do.
+// Returns whether 3,000 jobs depart as the recurrence says.
 fn many_depart<R: Threads + Sync>(
     rt: &R,
     alloc: Global,
@@ -170,7 +170,7 @@ fn many_blocks_give_the_recurrence(rt: HostRuntime) -> Result<(), Fail> {
     Ok(())
 }
 
-// Counts the blocks that are passed over, and the pieces that are made of those that were left.
+// Counts the blocks of the pass, and the pieces made for blocks that it left.
 #[derive(Drop)]
 struct Counter {
     blocks: AtomicU64,
@@ -187,7 +187,8 @@ impl Gate for Counter {
     }
 }
 
-// Whether the jobs depart so, the gate is entered with so many blocks, and none of them was left.
+// Returns whether the jobs depart at these times, the gate is entered for this many blocks, and
+// no block was left.
 fn none_is_left<R: Threads + Sync>(
     rt: &R,
     alloc: Global,
@@ -212,7 +213,7 @@ fn none_is_left<R: Threads + Sync>(
     Ok(right && gate.blocks.load(SeqCst) == blocks && gate.pieces.load(SeqCst) == 0)
 }
 
-// A worker that is alone finds each carry before.
+// A single worker finds the carry in front of each block.
 #[test]
 fn one_worker_leaves_no_block(rt: HostRuntime) -> Result<(), Fail> {
     let times: &[u64] = &[0, 1, 2];
@@ -248,7 +249,7 @@ impl Gate for AtBlocks {
     }
 }
 
-// Whether five of so many workers pass over five blocks, and meet.
+// Returns whether five of these workers pass over five blocks, and meet.
 fn five_pass<R: Threads + Sync>(rt: &R, alloc: Global, workers: u32) -> Result<bool, OutOfMemory>
     requires some { 1 ≤ workers }
     requires most { workers ≤ 64 }

@@ -1,4 +1,4 @@
-// Worked numbers of visits: the last event, the span, and what each visit found.
+// Worked examples of visits: the last event, the span, and what each visit found.
 ghost use Rattle.std.specs.Prelude.{◌≡◌, ◌≤◌, List as Items, length, IfOk};
 ghost use Rattle.std.specs.List.{AllByRecursion, zip};
 ghost use Rattle.mq_core.specs.SequenceLaws.{LeavesFrom};
@@ -27,7 +27,7 @@ fn three_demands(alloc: Global) -> Result<List<List<u64>>, OutOfMemory> {
     Ok(demands)
 }
 
-// Three jobs with these demands, which come at 0, 1 and 2.
+// Returns the rows of three jobs with these demands, which come at 0, 1 and 2.
 pub fn three_rows(alloc: Global) -> Result<Rows, OutOfMemory> {
     Ok(Rows {
         source: list(alloc, &[0u32, 0, 0])?,
@@ -36,7 +36,7 @@ pub fn three_rows(alloc: Global) -> Result<Rows, OutOfMemory> {
     })
 }
 
-// Sequences of visits.
+// The columns of visits.
 #[derive(Clone, Copy)]
 pub struct Columns<'a> {
     pub job: &'a [u32],
@@ -45,7 +45,7 @@ pub struct Columns<'a> {
     pub fate: &'a [Fate],
 }
 
-// Visits with these fates in place of their own.
+// Returns visits with these columns, but with these fates.
 pub fn visits_with(alloc: Global, columns: &Columns, fate: Fates) -> Result<Visits, OutOfMemory> {
     Ok(Visits {
         job: list(alloc, columns.job)?,
@@ -59,14 +59,14 @@ fn visits_of(alloc: Global, columns: &Columns) -> Result<Visits, OutOfMemory> {
     visits_with(alloc, columns, Fates::each(list(alloc, columns.fate)?))
 }
 
-// Jobs, and visits of theirs. Who owns them drops them before it answers: by a call that is quicker to prove than the end of a scope.
+// Jobs and their visits. The owner drops them before it returns, by a call, which takes less to prove than the end of a scope.
 #[derive(Drop)]
 pub struct Case {
     pub rows: Rows,
     pub visits: Visits,
 }
 
-// The three jobs, with these visits.
+// Returns the three jobs with these visits.
 pub fn case_of(alloc: Global, visits: Visits) -> Result<Case, OutOfMemory> {
     Ok(Case {
         rows: three_rows(alloc)?,
@@ -78,7 +78,7 @@ pub fn three_case(alloc: Global, columns: &Columns) -> Result<Case, OutOfMemory>
     case_of(alloc, visits_of(alloc, columns)?)
 }
 
-// The visits of three jobs that a server serves one after another.
+// The visits of three jobs that a server serves one at a time.
 pub const SERVED: Columns<'static> = Columns {
     job: &[0, 1, 2],
     arrive: &[0, 1, 2],
@@ -86,7 +86,7 @@ pub const SERVED: Columns<'static> = Columns {
     fate: &[Fate::Departs(4), Fate::Departs(5), Fate::Departs(8)],
 };
 
-// The second is lost.
+// The same visits, with the second lost.
 pub const LOST: Columns<'static> = Columns {
     job: &[0, 1, 2],
     arrive: &[0, 1, 2],
@@ -94,7 +94,7 @@ pub const LOST: Columns<'static> = Columns {
     fate: &[Fate::Departs(4), Fate::Lost, Fate::Departs(7)],
 };
 
-// The second is held.
+// The same visits, with the second held.
 pub const HELD: Columns<'static> = Columns {
     job: &[0, 1, 2],
     arrive: &[0, 1, 2],
@@ -109,7 +109,7 @@ pub const NO_VISITS: Columns<'static> = Columns {
     fate: &[],
 };
 
-// The last event at a node with these visits, which nobody leaves by its one output.
+// Returns the time of the last event at a node with these visits, whose one output no job leaves by.
 fn last_arrival(alloc: Global, visits: &Visits) -> Result<u64, OutOfMemory> {
     let mut streams = List::new(alloc);
     streams.push(Stream {
@@ -142,13 +142,13 @@ const LOST_AT_NINE: Columns<'static> = Columns {
     fate: &[Fate::Lost],
 };
 
-// The span of a run with one node more, which has these visits.
+// Adds a node with these visits to a run, and returns the span of the run.
 fn span_with(alloc: Global, run: &mut List<Visits>, columns: &Columns) -> Result<u64, OutOfMemory> {
     run.push(visits_of(alloc, columns)?)?;
     Ok(span(run))
 }
 
-// The spans of a run of no node, of a server, and of a server and a node that loses a job at 9.
+// Returns the spans of a run without nodes, with a server, and with a server and a node that loses a job at 9.
 fn spans_of(alloc: Global, run: &mut List<Visits>) -> Result<(u64, u64, u64), OutOfMemory> {
     let none = span(run);
     let one = span_with(alloc, run, &SERVED)?;
@@ -168,7 +168,7 @@ fn a_run_has_its_span(rt: HostRuntime) -> Result<(), Fail> {
     Ok(())
 }
 
-// Whether visits of these arrivals and fates found so many.
+// Returns whether visits with these arrivals and fates found these numbers of jobs.
 fn visits_find(
     alloc: Global,
     arrive: &[u64],
@@ -234,7 +234,7 @@ fn table_has(table: &AheadTable, wanted: &Lists) -> bool {
         && table.still.as_slice() == wanted.still
 }
 
-// Whether a table of three visits is this, and those from the second on, which come at these times, found so many.
+// Returns whether a table of three visits has these lists, and the second and third, at these arrival times, found these numbers.
 fn piece_tells(
     alloc: Global,
     arrive: &List<u64>,
@@ -249,7 +249,7 @@ fn piece_tells(
     Ok(table_has(ahead, table) && founds.as_slice() == wanted)
 }
 
-// Whether the table of three visits is this, and those from the second on found so many.
+// Returns whether the table of three visits has these lists, and the second and third found these numbers.
 fn table_tells(alloc: Global, table: &Lists, wanted: &[u32]) -> Result<bool, OutOfMemory> {
     let arrive = list(alloc, &[0u64, 3, 3])?;
     let fate = Fates::departures(list(alloc, &[5u64, 3, 3])?);
@@ -259,7 +259,7 @@ fn table_tells(alloc: Global, table: &Lists, wanted: &[u32]) -> Result<bool, Out
     found
 }
 
-// The same of the departures alone, which are given in order too.
+// Returns the same for a table made from the departures and their order.
 fn departures_tell(alloc: Global, table: &Lists, wanted: &[u32]) -> Result<bool, OutOfMemory> {
     let arrive = list(alloc, &[0u64, 3, 3])?;
     let departs = list(alloc, &[5u64, 3, 3])?;
@@ -270,7 +270,7 @@ fn departures_tell(alloc: Global, table: &Lists, wanted: &[u32]) -> Result<bool,
     found
 }
 
-// Whether those from the third on of five visits that leave in order found so many.
+// Returns whether the third to fifth of five visits that leave in order found these numbers.
 fn order_tells(alloc: Global, wanted: &[u32]) -> Result<bool, OutOfMemory> {
     let arrive = list(alloc, &[0u64, 1, 2, 5, 6])?;
     let departs = list(alloc, &[4u64, 5, 8, 9, 9])?;

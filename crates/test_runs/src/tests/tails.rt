@@ -1,4 +1,4 @@
-// Worked percentiles of the waits at a node.
+// Worked examples of the percentiles of waits at a node.
 ghost use Rattle.std.specs.Prelude.{ℕ, List as Items};
 ghost use Rattle.mq_core.specs.Asked.{HasDemands};
 ghost use Rattle.mq_core.specs.Told.{IsTold};
@@ -16,7 +16,7 @@ use mq_stats::{
 use std::alloc::Global;
 use std::test::Fail;
 
-// Whether the counts of some waits and of others, up to 10 of each, are so many and these when they are added up.
+// Returns whether two counts of waits, at most 10 waits each, add up to this number of waits and these counts.
 fn sum_is(
     alloc: Global,
     before: WaitCounts,
@@ -34,8 +34,8 @@ fn sum_is(
     Ok(sum.many == many && sum.counts.as_slice() == wanted)
 }
 
-// Whether the waits of ten visits, none of them longer than 9 ticks, are so many and counted so: those of the visits before a
-// position and those of the others, added up.
+// Returns whether ten visits, whose waits are at most 9 ticks, have this number of waits and these counts: those of the
+// visits before a position added to those of the rest.
 fn parts_are(
     alloc: Global,
     rows: &Rows,
@@ -60,7 +60,7 @@ fn parts_are(
     sum_is(alloc, before, &after, many, wanted)
 }
 
-// Whether some visit waits longer than this, so that there are no counts.
+// Returns whether some visit waits longer than this, so that there are no counts.
 fn is_passed(
     alloc: Global,
     rows: &Rows,
@@ -78,8 +78,8 @@ fn is_passed(
     Ok(counts.is_none())
 }
 
-// What is asked of visits: their percentiles, by a table for waits of up to so many ticks too, the counts of both parts at a
-// position, or that there are none.
+// What a test expects of visits: percentiles; percentiles from a table for waits of up to some number of ticks; the counts of
+// both parts at a position, added up; or that a wait is longer than some number of ticks.
 #[derive(Clone, Copy)]
 enum Asked<'a> {
     Tail(Percentiles),
@@ -88,7 +88,7 @@ enum Asked<'a> {
     Passed(u32),
 }
 
-// Whether that is so of the visits to a node of a kind that asks for the first column, or for nothing.
+// Returns whether visits to a node of this kind, which asks for the first column or nothing, are as expected.
 fn is_so(
     alloc: Global,
     rows: &Rows,
@@ -113,7 +113,7 @@ fn is_so(
     }
 }
 
-// Whether it is so of a server with these visits of the three jobs.
+// Returns whether these visits of the three jobs to a server are as expected.
 fn server_has(alloc: Global, columns: &Columns, asked: Asked) -> Result<bool, OutOfMemory> {
     let case = three_case(alloc, columns)?;
     let kind = Kind::Server(Demand::Column(0));
@@ -123,7 +123,7 @@ fn server_has(alloc: Global, columns: &Columns, asked: Asked) -> Result<bool, Ou
     found
 }
 
-// Whether it is of a join, where each stay is a wait.
+// Returns whether these visits to a join are as expected. At a join each stay is a wait.
 fn join_has(alloc: Global, columns: &Columns, asked: Asked) -> Result<bool, OutOfMemory> {
     let case = three_case(alloc, columns)?;
     let found = is_so(alloc, &case.rows, &Kind::Join, &case.visits, asked);
@@ -135,7 +135,7 @@ const fn percentiles(p50: u64, p90: u64, p99: u64) -> Percentiles {
     Percentiles { p50, p90, p99 }
 }
 
-// One visit of the second job, which waits for 3 ticks.
+// One visit of the second job, which waits 3 ticks.
 const ONE: Columns<'static> = Columns {
     job: &[1],
     arrive: &[1],
@@ -156,7 +156,7 @@ fn waits_of_three_jobs_have_percentiles(rt: HostRuntime) -> Result<(), Fail> {
     Ok(())
 }
 
-// The visits of the three jobs, of which the last alone departs.
+// The visits of the three jobs, only the last of which departs.
 const ONE_DEPARTS: Columns<'static> = Columns {
     fate: &[Fate::Lost, Fate::Lost, Fate::Departs(8)],
     ..SERVED
@@ -181,7 +181,7 @@ fn lost_and_held_visits_do_not_count(rt: HostRuntime) -> Result<(), Fail> {
     Ok(())
 }
 
-// Ten visits of one job that is served for 4 ticks, which wait 0 to 9 ticks.
+// Ten visits of one job, which is served for 4 ticks. They wait 0 to 9 ticks.
 const TEN: Columns<'static> = Columns {
     job: &[0; 10],
     arrive: &[0; 10],
@@ -259,7 +259,7 @@ fn counts_of_parts_add_up(rt: HostRuntime) -> Result<(), Fail> {
     Ok(())
 }
 
-// Whether these counts of so many waits have these percentiles.
+// Returns whether these counts of this number of waits have these percentiles.
 fn counts_have(
     alloc: Global,
     many: u32,

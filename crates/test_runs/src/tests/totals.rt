@@ -1,4 +1,4 @@
-// Worked totals of visits, whole and by pieces.
+// Worked examples of the totals of visits, whole and in pieces.
 ghost use Rattle.std.specs.Prelude.{◌≡◌, ◌≤◌, ◌^◌, ℕ, All, List as Items, Some, length, map, slice_get, IfOk, IsTrue};
 ghost use Rattle.std.specs.List.{AllByRecursion};
 ghost use Rattle.mq_core.specs.Asked.{HasDemands};
@@ -31,7 +31,7 @@ fn are_told(rows: &Rows, jobs: &List<u32>) -> bool
     jobs.as_slice().iter().all(|job| (*job as usize) < count)
 }
 
-// Whether the first column has values of at most 2^36.
+// Returns whether the first column has values of at most 2^36.
 fn is_column_small(rows: &Rows) -> bool
     ensures { IsTrue result → (values : Items ℕ) → slice_get rows.now.demands 0 ≡ Some values → All (λ value. value ≤ 2 ^ 36) values }
 {
@@ -64,7 +64,7 @@ fn are_even(visits: &Visits) -> bool
         && visits.fate.len() == count
 }
 
-// Whether these are visits to a node of any kind that asks for the first column, or for nothing.
+// Returns whether these are visits to a node of any kind that asks for the first column or nothing.
 pub fn are_visits(rows: &Rows, visits: &Visits) -> bool
     ensures { IsTrue result → (kind : TheKind) → ((job : ℕ) → IsTold rows.now (Column 0) job → HasDemands rows.now kind job) → AreVisits rows.now kind visits.now }
 {
@@ -74,8 +74,8 @@ pub fn are_visits(rows: &Rows, visits: &Visits) -> bool
     is_column_small(rows)
 }
 
-// Whether a node of such a kind has these totals in a run up to 10, visit by visit and by one look, and so have the visits before a
-// position and those from it on when what is counted of them is added up. No wait is longer than 10 ticks.
+// Returns whether a node of such a kind has these totals in a run up to 10, computed visit by visit and as one block, and whether
+// the counts of the visits before a position, added to those from that position on, give them too. No wait is longer than 10 ticks.
 fn totals_are(
     alloc: Global,
     rows: &Rows,
@@ -107,7 +107,7 @@ fn totals_are(
     )
 }
 
-// Whether that is so of a server.
+// Returns whether a server has these totals.
 fn is_so(alloc: Global, case: Case, wanted: &NodeTotals, at: u32) -> Result<bool, OutOfMemory> {
     let kind = Kind::Server(Demand::Column(0));
     let found = totals_are(alloc, &case.rows, &kind, &case.visits, wanted, at);
@@ -116,7 +116,7 @@ fn is_so(alloc: Global, case: Case, wanted: &NodeTotals, at: u32) -> Result<bool
     found
 }
 
-// The same of a server with these visits of the three jobs.
+// Returns whether a server has these totals with these visits of the three jobs.
 fn server_has(
     alloc: Global,
     columns: &Columns,
@@ -190,7 +190,7 @@ fn totals_are_those_of_pieces_added_up(rt: HostRuntime) -> Result<(), Fail> {
     Ok(())
 }
 
-// Whether a server has these totals, also by pieces, with the departures of the jobs that it serves as fates.
+// Returns whether a server has these totals, also in pieces, with fates given as the departures of the jobs that it serves.
 fn departures_have(alloc: Global, wanted: &NodeTotals, at: u32) -> Result<bool, OutOfMemory> {
     let fate = Fates::departures(list(alloc, &[4u64, 5, 8])?);
     let visits = visits_with(alloc, &SERVED, fate)?;
@@ -211,7 +211,7 @@ struct Turn {
     departs: List<u64>,
 }
 
-// A job comes at each of these times. No row tells what it asks for.
+// Returns a job for each of these arrival times. No row gives demands.
 fn turn_of(alloc: Global, arrive: &[u64], departs: &[u64]) -> Result<Turn, OutOfMemory>
     ensures jobs { IfOk result (λ turn. length turn.arrivals.job ≡ length arrive.now) }
     ensures times { IfOk result (λ turn. turn.arrivals.time ≡ arrive.now) }
@@ -232,7 +232,7 @@ fn turn_of(alloc: Global, arrive: &[u64], departs: &[u64]) -> Result<Turn, OutOf
     })
 }
 
-// Whether they have these totals from one position up to another, where no wait is longer than 10 ticks.
+// Returns whether they have these totals from one position up to another, with no wait longer than 10 ticks.
 fn counted_so(
     alloc: Global,
     kind: &Kind,
@@ -252,7 +252,7 @@ fn counted_so(
     Ok(count.totals == *wanted && count.waits.is_some())
 }
 
-// The same of visits at these times, which depart in turn, to a node that asks nothing of the rows.
+// Returns the same for visits at these times, which depart in turn, to a node that takes nothing from the rows.
 fn turn_has(
     alloc: Global,
     kind: &Kind,
@@ -276,8 +276,8 @@ fn turn_has(
     found
 }
 
-// Six jobs at a server, for 2 ticks each, from one position up to another: two come at 0 and two at 6, and the last three as another
-// departs.
+// Returns whether six jobs at a server, 2 ticks each, have these totals from one position up to another. Two come at 0 and two at 6,
+// and the last three come as another departs.
 fn ties_have(alloc: Global, from: u32, to: u32, wanted: &NodeTotals) -> Result<bool, OutOfMemory> {
     let kind = Kind::Server(Demand::Fixed(2));
     let arrive = [0, 0, 1, 4, 6, 6];
@@ -287,7 +287,7 @@ fn ties_have(alloc: Global, from: u32, to: u32, wanted: &NodeTotals) -> Result<b
     found
 }
 
-// Three jobs that depart as they come, two of them at one time.
+// Returns whether three jobs that depart at their arrival times, two of them at one time, have these totals.
 fn none_stay(alloc: Global, kind: &Kind, wanted: &NodeTotals) -> Result<bool, OutOfMemory>
     requires { (rows : TheRows) (job : ℕ) → HasDemands rows kind.now job }
 {
@@ -306,7 +306,7 @@ const TIED_TOTALS: NodeTotals = NodeTotals {
     peak: 3,
 };
 
-// Of the fourth and the fifth.
+// The totals of the fourth and the fifth job.
 const MIDDLE_TOTALS: NodeTotals = NodeTotals {
     came: 2,
     left: 2,
@@ -331,7 +331,7 @@ const ONCE_TOTALS: NodeTotals = NodeTotals {
     peak: 1,
 };
 
-// Nobody stays.
+// The totals if no job stays.
 const SENT_TOTALS: NodeTotals = NodeTotals {
     peak: 0,
     ..ONCE_TOTALS

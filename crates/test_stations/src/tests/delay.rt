@@ -9,7 +9,7 @@ use std::alloc::Global;
 use std::test::Fail;
 use std::thread::Threads;
 
-// Two jobs, which come at 0 and at 1.
+// Returns two jobs, which come at 0 and at 1.
 fn two_jobs(alloc: Global) -> Result<Stream, OutOfMemory>
     ensures even { IfOk result (λ stream. length stream.job ≡ 2) }
     ensures time { IfOk result (λ stream. stream.time ≡ 0 ∷ 1 ∷ []) }
@@ -20,14 +20,14 @@ fn two_jobs(alloc: Global) -> Result<Stream, OutOfMemory>
     })
 }
 
-// Whether the second leaves at 2, before the first at 5.
+// Returns whether the second job leaves at 2, before the first at 5.
 fn is_overtaken(found: &Delayed) -> bool {
     found.departs.as_slice() == [5, 2].as_slice()
         && found.leaving.job.as_slice() == [1, 0].as_slice()
         && found.leaving.time.as_slice() == [2, 5].as_slice()
 }
 
-// Whether it does, where they ask for so much.
+// Returns whether it does with these demands.
 fn overtakes<R: Threads + Sync>(
     rt: &R,
     alloc: Global,
@@ -43,7 +43,8 @@ fn overtakes<R: Threads + Sync>(
     Ok(so)
 }
 
-// Whether it does, where the first asks for 5 ticks and the second for 1.
+// Returns whether it does if the first asks for 5 ticks and the second
+// for 1.
 fn shorter_overtakes<R: Threads + Sync>(rt: &R, alloc: Global) -> Result<bool, OutOfMemory> {
     let stream = two_jobs(alloc)?;
     let demands = List::from_vec(Vec::from_slice(alloc, &[5, 1])?);

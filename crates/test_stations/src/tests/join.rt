@@ -1,4 +1,4 @@
-// By which port each visit to a join comes, and how many it finds.
+// By which port each visit to a join comes, and how many jobs it finds.
 ghost use Rattle.std.specs.Prelude.{◌≡◌, ◌+◌, ◌<◌, ◌≤◌, length, IfOk, OnOk};
 ghost use Rattle.mq_core.specs.Sequences.{IsStream};
 
@@ -8,7 +8,7 @@ use mq_join::{Gathered, join_visits};
 use std::alloc::Global;
 use std::test::Fail;
 
-// What a stream has.
+// The items of a stream.
 #[derive(Clone, Copy)]
 struct Items<'a> {
     jobs: &'a [u32],
@@ -28,7 +28,7 @@ fn stream_of(alloc: Global, items: &Items) -> Result<Stream, OutOfMemory>
     })
 }
 
-/// What comes to a join by two ports, the port of each visit, and how many it finds.
+/// What comes to a join by two ports, the port of each visit, and how many jobs it finds.
 #[derive(Clone, Copy)]
 struct Case<'a> {
     first: Items<'a>,
@@ -37,7 +37,7 @@ struct Case<'a> {
     found: &'a [u32],
 }
 
-// Adds what comes by one more port.
+// Adds what comes by another port.
 fn add(alloc: Global, gathered: &mut Gathered, items: &Items) -> Result<(), OutOfMemory>
     requires stream { IsStream (record { job = items.now.jobs.now; time = items.now.times.now }) }
     requires free { gathered.old.ports < 8 }
@@ -61,7 +61,7 @@ fn add_both(alloc: Global, gathered: &mut Gathered, case: &Case) -> Result<(), O
     add(alloc, gathered, &case.second)
 }
 
-// Whether the visits to a join find so many.
+// Returns whether the visits to a join find these numbers of jobs.
 fn find(alloc: Global, gathered: &Gathered, found: &[u32]) -> Result<bool, OutOfMemory> {
     let joined = join_visits(alloc, gathered)?;
     let so = joined.visits.found.as_slice() == found;
@@ -69,7 +69,7 @@ fn find(alloc: Global, gathered: &Gathered, found: &[u32]) -> Result<bool, OutOf
     Ok(so)
 }
 
-// Whether what comes to the join of a case has its ports, and finds so many.
+// Returns whether the visits to the join of a case have its ports and find its numbers of jobs.
 fn is_told(alloc: Global, gathered: &Gathered, case: &Case) -> Result<bool, OutOfMemory> {
     Ok(
         gathered.ports == 2
@@ -78,7 +78,7 @@ fn is_told(alloc: Global, gathered: &Gathered, case: &Case) -> Result<bool, OutO
     )
 }
 
-// Whether a case says what its join gives.
+// Returns whether the join of a case gives what the case says.
 fn joins_so(alloc: Global, case: &Case) -> Result<bool, OutOfMemory>
     requires first { IsStream (record { job = case.now.first.jobs.now; time = case.now.first.times.now }) }
     requires second { IsStream (record { job = case.now.second.jobs.now; time = case.now.second.times.now }) }
@@ -117,8 +117,8 @@ const LOST_ON_THE_WAY: Case<'static> = Case {
     found: &[0, 1, 2],
 };
 
-// A job comes twice by the first port, and three times by the second, where items of one time follow those of
-// the first.
+// A job comes twice by the first port and three times by the second. At one time, items of the second port
+// follow those of the first.
 const IN_TURN: Case<'static> = Case {
     first: Items {
         jobs: &[7, 7],

@@ -16,7 +16,7 @@ struct Load {
     demands: List<u64>,
 }
 
-// One arrival a tick, each served for 2 ticks.
+// Returns one arrival per tick, each served for 2 ticks.
 fn each_tick(alloc: Global, count: u32) -> Result<Load, OutOfMemory>
     requires { count ≤ 1048576 }
     ensures load { IfOk result (λ load. IsSoundLoad load.stream.time load.demands) }
@@ -36,7 +36,7 @@ fn each_tick(alloc: Global, count: u32) -> Result<Load, OutOfMemory>
     })
 }
 
-// Settles one place with a counter of its own.
+// Settles a station with one place and a counter of its own.
 fn settle_with<L: Ledger>(
     alloc: Global,
     load: &Load,
@@ -53,7 +53,7 @@ fn settle_with<L: Ledger>(
     settle(alloc, &load.stream, &load.demands, 1, first, &mut steps)
 }
 
-// The same with a counter that nothing reads.
+// Settles a station with one place and a counter that nothing reads.
 fn settled(alloc: Global, load: &Load, first: u32) -> Result<Settled, OutOfMemory>
     requires load { IsSoundLoad load.now.stream.time load.now.demands }
     requires first { 1 ≤ first }
@@ -61,7 +61,7 @@ fn settled(alloc: Global, load: &Load, first: u32) -> Result<Settled, OutOfMemor
     settle_with::<Brand>(alloc, load, first, Blank::new(1))
 }
 
-// What a station comes to.
+// The result at a station.
 #[derive(Clone, Copy)]
 struct Outcome<'a> {
     admitted: &'a [bool],
@@ -76,7 +76,7 @@ fn comes_to(found: &Settled, wanted: &Outcome<'_>) -> bool {
         && (found.rounds, found.judged) == (wanted.rounds, wanted.judged)
 }
 
-// Whether a load comes to this in whole rounds, at a station with so many places.
+// Returns whether whole rounds give this result for a load, at a station with this many places.
 fn rounds_come_to(
     alloc: Global,
     load: &Load,
@@ -92,7 +92,7 @@ fn rounds_come_to(
     Ok(so)
 }
 
-// The same of so many arrivals, one a tick.
+// Returns the same for this many arrivals, one per tick.
 fn whole_comes_to(
     alloc: Global,
     count: u32,
@@ -106,7 +106,7 @@ fn whole_comes_to(
     rounds_come_to(alloc, &load, places, wanted)
 }
 
-// Whether a load comes to this in windows, the first of them of this size.
+// Returns whether windows give this result for a load, with a first window of this size.
 fn load_comes_to(
     alloc: Global,
     load: &Load,
@@ -122,7 +122,7 @@ fn load_comes_to(
     Ok(so)
 }
 
-// The same of so many arrivals, one a tick.
+// Returns the same for this many arrivals, one per tick.
 fn windows_come_to(
     alloc: Global,
     count: u32,
@@ -136,7 +136,7 @@ fn windows_come_to(
     load_comes_to(alloc, &load, first, wanted)
 }
 
-// Whether a round of this load answers this guess so.
+// Returns whether a round of this load gives this answer to this guess.
 fn round_answers(
     alloc: Global,
     load: &Load,
@@ -151,7 +151,8 @@ fn round_answers(
     Ok(answer.as_slice() == wanted.as_slice())
 }
 
-// Whether the rounds of this load, which begin with all admitted, come to these answers in turn.
+// Returns whether the rounds of this load, from a guess that admits all, give these answers in
+// turn.
 fn rounds_answer(alloc: Global, load: &Load) -> Result<bool, OutOfMemory>
     requires load { IsSoundLoad load.now.stream.time load.now.demands }
     requires four { length load.now.stream.time ≡ 4 }
@@ -171,7 +172,7 @@ fn rounds_answer(alloc: Global, load: &Load) -> Result<bool, OutOfMemory>
     Ok(true)
 }
 
-// The same of one arrival a tick.
+// Returns the same for one arrival per tick.
 fn four_answer(alloc: Global) -> Result<bool, OutOfMemory> {
     let load = each_tick(alloc, 4)?;
     rounds_answer(alloc, &load)
@@ -242,7 +243,7 @@ fn is_every_other(admitted: &[bool]) -> bool {
     true
 }
 
-// Whether of a long load every other arrival is admitted, by few judgements.
+// Returns whether every other arrival of a long load is admitted, with few judgements.
 fn takes_few(alloc: Global, load: &Load) -> Result<bool, OutOfMemory>
     requires { IsSoundLoad load.now.stream.time load.now.demands }
 {
@@ -253,7 +254,7 @@ fn takes_few(alloc: Global, load: &Load) -> Result<bool, OutOfMemory>
     Ok(so)
 }
 
-// Whether it is so of an overload.
+// Returns the same for an overload.
 fn overload_takes_few(alloc: Global) -> Result<bool, OutOfMemory> {
     let load = each_tick(alloc, 200_000)?;
     takes_few(alloc, &load)

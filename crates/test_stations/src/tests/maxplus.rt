@@ -5,7 +5,8 @@ ghost use Rattle.mq_maxplus.specs.Within.{IsWithin};
 use mq_maxplus::{Matrix, Mp, Vector};
 use std::test::Fail;
 
-// The job of a server, or several together, as a matrix: it acts on the last departure and a zero.
+// Returns the matrix of a job of a server, or of several jobs together. It acts on the last
+// departure and a zero.
 fn job(add: u32, least: u32) -> Matrix
     ensures { result ≡ (At add ∷ Void ∷ []) ∷ (At least ∷ At 0 ∷ []) ∷ [] }
 {
@@ -15,7 +16,7 @@ fn job(add: u32, least: u32) -> Matrix
     all
 }
 
-// The last departure and a zero.
+// Returns the last departure and a zero.
 fn rows(last: Mp) -> Vector
     ensures { result ≡ last ∷ At 0 ∷ [] }
 {
@@ -25,13 +26,13 @@ fn rows(last: Mp) -> Vector
     all
 }
 
-// What two jobs do together.
+// Returns the first row of the matrix of two jobs together.
 fn composed(add: u32, least: u32, next_add: u32, next_least: u32) -> [Mp; 2] {
     let all = job(add, least).then(&job(next_add, next_least));
     [all.get(0, 0), all.get(0, 1)]
 }
 
-// When the last of some jobs leaves.
+// Returns when the last of some jobs leaves.
 fn departure(add: u32, least: u32, last: Mp) -> Mp
     requires { IsWithin (2 ^ 32) last }
 {

@@ -1,4 +1,4 @@
-// A merge of two streams, whole and by pieces, between co-ranks.
+// A merge of two streams, whole and in pieces, between co-ranks.
 ghost use Rattle.std.specs.Prelude.{◌≡◌, length, IfOk};
 ghost use Rattle.mq_core.specs.Sequences.{IsStream};
 
@@ -8,7 +8,7 @@ use mq_merge::{co_rank, merge_piece, merge_two};
 use std::alloc::Global;
 use std::test::Fail;
 
-// Jobs 0, 1 and 2 at 1, 3 and 3.
+// Returns jobs 0, 1 and 2 at 1, 3 and 3.
 fn three(alloc: Global) -> Result<Stream, OutOfMemory>
     ensures stream { IfOk result (λ stream. IsStream stream) }
     ensures many { IfOk result (λ stream. length stream.time ≡ 3) }
@@ -19,7 +19,7 @@ fn three(alloc: Global) -> Result<Stream, OutOfMemory>
     })
 }
 
-// Jobs 3 and 4 at 0 and 3.
+// Returns jobs 3 and 4 at 0 and 3.
 fn two(alloc: Global) -> Result<Stream, OutOfMemory>
     ensures stream { IfOk result (λ stream. IsStream stream) }
     ensures many { IfOk result (λ stream. length stream.time ≡ 2) }
@@ -30,7 +30,8 @@ fn two(alloc: Global) -> Result<Stream, OutOfMemory>
     })
 }
 
-// Whether both streams merged are jobs 3, 0, 1, 2 and 4 at 0, 1, 3, 3 and 3: at 3 those of the first come first.
+// Returns whether the merged streams are jobs 3, 0, 1, 2 and 4 at 0, 1, 3, 3 and 3: at time 3, those of the
+// first stream come first.
 fn whole_is_so(alloc: Global, a: &Stream, b: &Stream) -> Result<bool, OutOfMemory>
     requires a { IsStream a.now }
     requires b { IsStream b.now }
@@ -42,7 +43,7 @@ fn whole_is_so(alloc: Global, a: &Stream, b: &Stream) -> Result<bool, OutOfMemor
     )
 }
 
-// The same of both streams, made here.
+// Returns the same for the two streams above.
 fn is_merged_so(alloc: Global) -> Result<bool, OutOfMemory> {
     let a = three(alloc)?;
     let b = two(alloc)?;
@@ -52,7 +53,7 @@ fn is_merged_so(alloc: Global) -> Result<bool, OutOfMemory> {
     so
 }
 
-// Whether the last two of the five items of both streams merged are jobs 2 and 4, at 3.
+// Returns whether the last two of the five merged items are jobs 2 and 4, at 3.
 fn piece_is_so(alloc: Global, a: &Stream, b: &Stream) -> Result<bool, OutOfMemory>
     requires a { IsStream a.now }
     requires b { IsStream b.now }
@@ -63,8 +64,8 @@ fn piece_is_so(alloc: Global, a: &Stream, b: &Stream) -> Result<bool, OutOfMemor
     Ok(piece.job.as_slice() == [2, 4].as_slice() && piece.time.as_slice() == [3, 3].as_slice())
 }
 
-// Whether two of the first three items come from the one stream and one from the other, and the piece behind
-// them is so.
+// Returns whether two of the first three merged items come from the first stream and one from the second, and
+// the piece after them is right.
 fn is_cut_so(alloc: Global) -> Result<bool, OutOfMemory> {
     let a = three(alloc)?;
     let b = two(alloc)?;

@@ -19,7 +19,7 @@ struct Load {
     demands: List<u64>,
 }
 
-// Three jobs, which come at 0, 1 and 2 and need 4, 1 and 3 ticks.
+// Returns three jobs, which come at 0, 1 and 2 and need 4, 1 and 3 ticks.
 fn three_jobs(alloc: Global) -> Result<Load, OutOfMemory>
     ensures load { IfOk result (λ load. IsSoundLoad load.stream.time load.demands) }
     ensures arrive { IfOk result (λ load. load.stream.time ≡ 0 ∷ 1 ∷ 2 ∷ []) }
@@ -34,7 +34,7 @@ fn three_jobs(alloc: Global) -> Result<Load, OutOfMemory>
     })
 }
 
-// Whether a scan by blocks of this size gives these departures.
+// Returns whether a scan by blocks of this size gives these departures.
 fn block_gives(
     alloc: Global,
     step: &ServerStep,
@@ -47,7 +47,7 @@ fn block_gives(
     Ok(after.as_slice() == wanted)
 }
 
-// Whether scans by blocks of 1, 2, 3 and 4 jobs do.
+// Returns whether scans by blocks of 1, 2, 3 and 4 jobs give them.
 fn each_block_gives(alloc: Global, step: &ServerStep, wanted: &[Mp]) -> Result<bool, OutOfMemory> {
     for block in 1..5 {
         if !block_gives(alloc, step, block, wanted)? {
@@ -57,7 +57,7 @@ fn each_block_gives(alloc: Global, step: &ServerStep, wanted: &[Mp]) -> Result<b
     Ok(true)
 }
 
-// Whether the three jobs leave at these times by each of them.
+// Returns whether these scans give these departures for the three jobs.
 fn they_leave_at(alloc: Global, wanted: &[Mp]) -> Result<bool, OutOfMemory> {
     let load = three_jobs(alloc)?;
     each_block_gives(alloc, &ServerStep::new(&load.stream, &load.demands), wanted)
@@ -69,7 +69,7 @@ fn every_block_gives_the_same_departures(rt: HostRuntime) -> Result<(), Fail> {
     Ok(())
 }
 
-// The summaries of the blocks of a cut of all jobs.
+// Returns the summaries of the blocks into which all jobs are cut.
 fn sums_of(alloc: Global, step: &ServerStep, block: u32) -> Result<List<Affine>, OutOfMemory>
     requires { 1 ≤ block }
     ensures { IfOk result (λ sums. AreSummaries affine_then (job step.now.arrive.now step.now.demands.now) (length step.now.arrive.now) block sums) }
@@ -90,7 +90,7 @@ fn affine(add: u64, least: u64) -> Affine {
     }
 }
 
-// Whether these are the summaries of the blocks of this size.
+// Returns whether these are the summaries of the blocks of this size.
 fn sums_are(
     alloc: Global,
     step: &ServerStep,
@@ -103,14 +103,15 @@ fn sums_are(
     Ok(sums.as_slice() == wanted)
 }
 
-// Whether these are the departures before the blocks of two jobs.
+// Returns whether these are the departures before the blocks of two jobs.
 fn carries_are(alloc: Global, step: &ServerStep, wanted: &[Mp]) -> Result<bool, OutOfMemory> {
     let sums = sums_of(alloc, step, 2)?;
     let before = carries(alloc, step, &sums)?;
     Ok(before.as_slice() == wanted)
 }
 
-// Whether these are the departures in the second of them, behind the departure at 5.
+// Returns whether these are the departures in the second of these blocks, after a
+// departure at 5.
 fn second_block_gives(alloc: Global, step: &ServerStep, wanted: &[Mp]) -> Result<bool, OutOfMemory>
     requires arrive { step.now.arrive.now ≡ 0 ∷ 1 ∷ 2 ∷ [] }
     requires demands { step.now.demands.now ≡ 4 ∷ 1 ∷ 3 ∷ [] }
@@ -119,7 +120,7 @@ fn second_block_gives(alloc: Global, step: &ServerStep, wanted: &[Mp]) -> Result
     Ok(after.as_slice() == wanted)
 }
 
-// Whether summaries, carries and departures are those of the three jobs.
+// Returns whether summaries, carries and departures are those of the three jobs.
 fn are_put_together(alloc: Global, step: &ServerStep) -> Result<bool, OutOfMemory>
     requires arrive { step.now.arrive.now ≡ 0 ∷ 1 ∷ 2 ∷ [] }
     requires demands { step.now.demands.now ≡ 4 ∷ 1 ∷ 3 ∷ [] }
@@ -134,7 +135,7 @@ fn are_put_together(alloc: Global, step: &ServerStep) -> Result<bool, OutOfMemor
     )
 }
 
-// The same of what is made of these jobs.
+// Returns the same for the three jobs above.
 fn they_are_put_together(alloc: Global) -> Result<bool, OutOfMemory> {
     let load = three_jobs(alloc)?;
     are_put_together(alloc, &ServerStep::new(&load.stream, &load.demands))

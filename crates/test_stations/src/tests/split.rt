@@ -1,4 +1,4 @@
-// Thresholds that fall, and pieces of a split.
+// Thresholds that don't rise, and pieces of a split.
 ghost use Rattle.std.specs.Prelude.{◌≡◌, length, IfOk};
 ghost use Rattle.mq_core.specs.Sequences.{IsStream};
 ghost use Rattle.mq_split.specs.Outs.{HasOutputs};
@@ -9,7 +9,7 @@ use mq_split::{route_of, split_between, split_piece};
 use std::alloc::Global;
 use std::test::Fail;
 
-// Cuts at two thresholds, which needn't rise.
+// Returns a cut at two thresholds, which needn't rise.
 fn cut(alloc: Global, thresholds: [u64; 2]) -> Result<Route, OutOfMemory>
     ensures { IfOk result (λ route. HasOutputs route) }
 {
@@ -19,7 +19,7 @@ fn cut(alloc: Global, thresholds: [u64; 2]) -> Result<Route, OutOfMemory>
     })
 }
 
-// The output of a value by cuts at these thresholds.
+// Returns the output of a value by a cut at these thresholds.
 fn by_cut(alloc: Global, thresholds: [u64; 2], value: u64) -> Result<u8, OutOfMemory> {
     let route = cut(alloc, thresholds)?;
     Ok(route_of(&route, value, 5))
@@ -31,7 +31,7 @@ fn thresholds_need_not_rise(rt: HostRuntime) -> Result<(), Fail> {
     Ok(())
 }
 
-// Jobs 0, 1 and 2 at 0, 1 and 2.
+// Returns jobs 0, 1 and 2 at 0, 1 and 2.
 fn three(alloc: Global) -> Result<Stream, OutOfMemory>
     ensures stream { IfOk result (λ stream. IsStream stream) }
     ensures many { IfOk result (λ stream. length stream.time ≡ 3) }
@@ -42,12 +42,13 @@ fn three(alloc: Global) -> Result<Stream, OutOfMemory>
     })
 }
 
-// Whether a stream has these jobs at these times.
+// Returns whether a stream has these jobs at these times.
 fn has(stream: &Stream, jobs: &[u32], times: &[u64]) -> bool {
     stream.job.as_slice() == jobs && stream.time.as_slice() == times
 }
 
-// Whether the first of three streams is empty, and the others have jobs 1 and 2.
+// Returns whether the first of three streams is empty, and the others have jobs
+// 1 and 2.
 fn are_parts(streams: &List<Stream>) -> bool {
     streams.len() == 3
         && has(streams.get(0), &[], &[])
@@ -55,7 +56,8 @@ fn are_parts(streams: &List<Stream>) -> bool {
         && has(streams.get(2), &[2], &[2])
 }
 
-// Whether so leave the last two of three items by a route, of values in a list.
+// Returns whether the last two of three items leave that way by a route, with
+// the values of all three in a list.
 fn piece_sends(
     alloc: Global,
     stream: &Stream,
@@ -71,7 +73,7 @@ fn piece_sends(
     Ok(are_parts(&streams))
 }
 
-// The same of their own values, 10 and 20.
+// Returns the same with only their own values, 10 and 20.
 fn own_values_send(alloc: Global, stream: &Stream, route: &Route) -> Result<bool, OutOfMemory>
     requires stream { IsStream stream.now }
     requires three { length stream.now.time ≡ 3 }
@@ -81,7 +83,7 @@ fn own_values_send(alloc: Global, stream: &Stream, route: &Route) -> Result<bool
     Ok(are_parts(&streams))
 }
 
-// Whether they leave so both ways.
+// Returns whether they leave that way with both forms of values.
 fn both_send(
     alloc: Global,
     stream: &Stream,
@@ -96,7 +98,7 @@ fn both_send(
     Ok(piece_sends(alloc, stream, values, route)? && own_values_send(alloc, stream, route)?)
 }
 
-// Whether they do by the cuts, of values 9, 10 and 20.
+// Returns whether they do by a cut, with values 9, 10 and 20.
 fn cuts_send(alloc: Global) -> Result<bool, OutOfMemory> {
     let stream = three(alloc)?;
     let values = List::from_vec(Vec::from_slice(alloc, &[9, 10, 20])?);

@@ -17,7 +17,7 @@ struct Load {
     demands: List<u64>,
 }
 
-// Jobs by position at these times, with these demands.
+// Returns jobs at these times, with these demands, by position.
 fn load_of(
     alloc: Global,
     jobs: &[u32],
@@ -38,7 +38,7 @@ fn load_of(
     Ok(Load { stream, demands })
 }
 
-// The rounds and judgements of a load, with a first window of five and a counter of its own.
+// Returns the rounds and judgements of a load, with a first window of five and a counter of its own.
 fn counts_with<L: Ledger>(
     alloc: Global,
     load: &Load,
@@ -58,7 +58,7 @@ fn counts_with<L: Ledger>(
     Ok(counts)
 }
 
-// The same with a counter that nothing reads.
+// Returns them with a counter that nothing reads.
 fn counts_of(alloc: Global, load: &Load, servers: u8) -> Result<(u32, u64), OutOfMemory>
     requires load { IsSoundLoad load.now.stream.time load.now.demands }
     requires stream { IsStream load.now.stream }
@@ -66,7 +66,7 @@ fn counts_of(alloc: Global, load: &Load, servers: u8) -> Result<(u32, u64), OutO
     counts_with::<Brand>(alloc, load, servers, Blank::new(1))
 }
 
-// Whether a round of this load at two servers answers this guess so.
+// Returns whether a round of this load at two servers gives this answer to this guess.
 fn round_answers(
     alloc: Global,
     load: &Load,
@@ -81,7 +81,7 @@ fn round_answers(
     Ok(answer.as_slice() == wanted.as_slice())
 }
 
-// Whether the rounds of this load, which begin with all admitted, come to these answers in turn.
+// Returns whether the rounds of this load, from a guess that admits all, give these answers in turn.
 fn rounds_answer(alloc: Global, load: &Load) -> Result<bool, OutOfMemory>
     requires load { IsSoundLoad load.now.stream.time load.now.demands }
     requires five { length load.now.stream.time ≡ 5 }
@@ -100,7 +100,7 @@ fn rounds_answer(alloc: Global, load: &Load) -> Result<bool, OutOfMemory>
     Ok(true)
 }
 
-// The same of one arrival a tick, each served for 3 ticks.
+// Returns the same for one arrival per tick, each served for 3 ticks.
 fn each_tick_answers(alloc: Global) -> Result<bool, OutOfMemory> {
     let jobs = [0, 1, 2, 3, 4];
     let load = load_of(alloc, &jobs, &[0, 1, 2, 3, 4], &[3, 3, 3, 3, 3])?;
@@ -113,7 +113,8 @@ fn a_round_of_a_trunk_judges_by_the_guess(rt: HostRuntime) -> Result<(), Fail> {
     Ok(())
 }
 
-/// What comes to a trunk group of so many servers, and in how many rounds and judgements it is settled.
+/// What comes to a trunk group with this many servers, and the numbers of rounds and judgements that
+/// settle it.
 #[derive(Clone, Copy)]
 struct Case<'a> {
     jobs: &'a [u32],
@@ -123,7 +124,7 @@ struct Case<'a> {
     counts: (u32, u64),
 }
 
-// Whether a case is settled in so many.
+// Returns whether a case takes these numbers of rounds and judgements.
 fn takes_so_many(alloc: Global, case: &Case<'_>) -> Result<bool, OutOfMemory>
     requires load { IsSoundLoad case.now.arrive.now case.now.demands.now }
     requires stream { IsStream (record { job = case.now.jobs.now; time = case.now.arrive.now }) }
@@ -151,7 +152,7 @@ const OVERTAKING: Case<'static> = Case {
     counts: (1, 2),
 };
 
-// Every other one is lost.
+// Every other job is lost.
 const SINGLE: Case<'static> = Case {
     jobs: &[5, 8, 6, 7],
     arrive: &[0, 1, 2, 3],

@@ -1,4 +1,4 @@
-// Models that run and models that are refused, by few workers and by many; words that are refused.
+// Models that run and models whose runs are refused, with few and many workers; invalid arguments.
 ghost use Rattle.std.specs.Prelude.{◌≤◌};
 
 use super::{Ending, FIRST, ends, files_with};
@@ -9,16 +9,16 @@ use std::sync::Wait;
 use std::test::Fail;
 use std::thread::Threads;
 
-// A head that no model has.
+// A first line that no model has.
 const HEAD: &[u8] = b"model 9\n";
 
-// A column that the trace lacks.
+// A model with a column that the trace lacks.
 const COLUMN: &[u8] = b"model 1\nsource src\nserver desk e from src\n";
 
-// A bound that the last departure passes.
+// A model with a bound that the last departure passes.
 const BOUND: &[u8] = b"model 1\nbound 7\nsource src\nserver desk d from src\n";
 
-// 3 * 4^10 visits at the last node.
+// A model with 3 * 4^10 visits at its last node.
 const VISITS: &[u8] = b"model 2\nsource src\n\
 fork f1 4 from src\ndelay d1 =0 from f1 f1.1 f1.2 f1.3\n\
 fork f2 4 from d1\ndelay d2 =0 from f2 f2.1 f2.2 f2.3\n\
@@ -31,7 +31,7 @@ fork f8 4 from d7\ndelay d8 =0 from f8 f8.1 f8.2 f8.3\n\
 fork f9 4 from d8\ndelay d9 =0 from f9 f9.1 f9.2 f9.3\n\
 fork f10 4 from d9\ndelay d10 =0 from f10 f10.1 f10.2 f10.3\n";
 
-// What they give as the second scenario.
+// What these models give as the second scenario.
 const HEAD_GIVES: &[u8] =
     b"scenario 2 status 3\nmpsim: model line 1: expected model 1 or model 2\n";
 
@@ -44,7 +44,7 @@ const VISITS_GIVES: &[u8] = b"scenario 2 status 9\nmpsim: node d10 has 3145728 v
 
 const USAGE: &[u8] = b"mpsweep: usage: mpsweep TRACE MODEL..\n";
 
-// Whether the sweep of one model by so many workers is done.
+// Returns whether the sweep of one model with this many workers is done.
 fn is_done<R: Threads + Wait + Sync>(
     rt: &R,
     alloc: Global,
@@ -70,7 +70,7 @@ fn one_model_is_done_by_one_worker_or_many(rt: HostRuntime) -> Result<(), Fail> 
     Ok(())
 }
 
-// Whether the second of two models is refused so, and the first runs all the same.
+// Returns whether the run of the second of two models is refused this way, while the first runs.
 fn is_refused<R: Threads + Wait + Sync>(
     rt: &R,
     alloc: Global,
@@ -87,7 +87,7 @@ fn is_refused<R: Threads + Wait + Sync>(
     ends(rt, alloc, &["t", "m", "x"], 3, &mut files, 0, wanted)
 }
 
-// Each way in which a model's run is refused.
+// Returns whether they are, for each way in which a model's run is refused.
 fn are_refused<R: Threads + Wait + Sync>(rt: &R, alloc: Global) -> Result<bool, OutOfMemory> {
     Ok(
         is_refused(rt, alloc, HEAD, HEAD_GIVES)?
@@ -103,7 +103,7 @@ fn a_model_that_is_refused_has_its_status_and_line(rt: HostRuntime) -> Result<()
     Ok(())
 }
 
-// Whether these words are refused.
+// Returns whether these arguments are invalid.
 fn is_usage<R: Threads + Wait + Sync>(
     rt: &R,
     alloc: Global,

@@ -1,4 +1,4 @@
-// Reads and puts that fail, each in its turn, and files that are too long.
+// Each read and put that can fail, and files that are too long.
 use super::{Ending, FIRST, ends, files_with};
 use mq_base::OutOfMemory;
 use mq_sweep::SweepOutcome;
@@ -9,7 +9,7 @@ use std::thread::Threads;
 
 const UNWRITTEN: &[u8] = b"mpsweep: cannot write the reports\n";
 
-// Whether the sweep ends by the read of a file, with nothing on its output.
+// Returns whether the sweep ends at the read of a file, with nothing on its output.
 fn is_unread<R: Threads + Wait + Sync>(
     rt: &R,
     alloc: Global,
@@ -28,7 +28,7 @@ fn is_unread<R: Threads + Wait + Sync>(
     ends(rt, alloc, words, 2, &mut files, 0, wanted)
 }
 
-// Each read in its turn, and a name that no file has.
+// Returns whether it does at each read, and at a name that no file has.
 fn are_unread<R: Threads + Wait + Sync>(rt: &R, alloc: Global) -> Result<bool, OutOfMemory> {
     let words = &["t", "m", "m"];
     let absent = &["t", "m", "none"];
@@ -46,7 +46,7 @@ fn a_read_that_fails_is_named_by_its_word(rt: HostRuntime) -> Result<(), Fail> {
     Ok(())
 }
 
-// Whether the put of this number fails, behind those of the bytes before it.
+// Returns whether the put with this number fails, after the puts of these bytes.
 fn is_unwritten<R: Threads + Wait + Sync>(
     rt: &R,
     alloc: Global,
@@ -63,7 +63,7 @@ fn is_unwritten<R: Threads + Wait + Sync>(
     ends(rt, alloc, &["t", "m"], 2, &mut files, put, wanted)
 }
 
-// Each put in its turn: all but the last take 64 bytes.
+// Returns whether each put can fail this way. All but the last take 64 bytes.
 fn are_unwritten<R: Threads + Wait + Sync>(rt: &R, alloc: Global) -> Result<bool, OutOfMemory> {
     for put in 0..FIRST.len() / 64 + 1 {
         let Some(written) = FIRST.get(..64 * put) else {
@@ -82,7 +82,7 @@ fn a_put_that_fails_leaves_what_was_put_before(rt: HostRuntime) -> Result<(), Fa
     Ok(())
 }
 
-// Whether the file `x` of so many bytes is too long as this word.
+// Returns whether the file `x` with this many bytes is too long as this argument.
 fn is_too_long<R: Threads + Wait + Sync>(
     rt: &R,
     alloc: Global,
@@ -101,7 +101,8 @@ fn is_too_long<R: Threads + Wait + Sync>(
     ends(rt, alloc, words, 2, &mut files, 0, wanted)
 }
 
-// A trace and a model of one byte more than they may have, the model before one that is absent.
+// Returns whether a trace and a model of one byte too many are, the model before the name of an
+// absent file.
 fn are_too_long<R: Threads + Wait + Sync>(rt: &R, alloc: Global) -> Result<bool, OutOfMemory> {
     let trace = b"mpsweep: file 1 is too long\n";
     let model = b"mpsweep: file 3 is too long\n";

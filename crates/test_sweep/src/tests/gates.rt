@@ -10,10 +10,10 @@ use std::sync::atomic::Ordering::SeqCst;
 use std::test::Fail;
 use std::thread::Threads;
 
-// How often an entry that is held looks whether the other has come.
+// How many times a held entry checks whether the other has come.
 const TURNS: u64 = 2_000_000_000;
 
-// The entries with the models 0 and 1, of which each is held until the other has come.
+// The entries with the models 0 and 1, each held until the other has come.
 #[derive(Drop)]
 struct Held {
     came: [AtomicU64; 2],
@@ -36,7 +36,8 @@ impl SweepGate for Held {
     }
 }
 
-// Whether a sweep of two models by two workers is done, each model came once, and none was held in vain.
+// Returns whether a sweep of two models with two workers is done, each model came once, and no hold ran
+// out.
 fn both_come<R: Threads + Wait + Sync>(rt: &R, alloc: Global) -> Result<bool, OutOfMemory> {
     let gate = Held {
         came: [AtomicU64::new(0), AtomicU64::new(0)],

@@ -7,7 +7,7 @@ use std::marker::Brand;
 use std::sync::ledger::{Blank, Ledger};
 use std::test::Fail;
 
-// The numbers below an end.
+// Returns the numbers below `end`.
 fn numbers_below(alloc: Global, end: u32) -> Result<List<u32>, OutOfMemory> {
     let mut list = List::new(alloc);
     for n in 0..end {
@@ -21,7 +21,7 @@ fn keeps_its_items(alloc: Global) -> Result<bool, OutOfMemory> {
     Ok(list.as_slice() == [0, 1, 2, 3, 4].as_slice() && list.len() == 5 && *list.get(3) == 3)
 }
 
-// The first two of these numbers.
+// Returns the first two of these numbers.
 fn first_two(alloc: Global) -> Result<List<u32>, OutOfMemory> {
     let mut list = numbers_below(alloc, 5)?;
     if list.len() == 5 {
@@ -79,7 +79,7 @@ fn numbers_are_read(rt: HostRuntime) {
     }
 }
 
-// Adds the words between two indices, each with a bar behind it.
+// Adds the words between two indices, each followed by a bar.
 fn add_words(
     found: &mut Vec<u8>,
     text: &[u8],
@@ -98,7 +98,7 @@ fn add_words(
     Ok(())
 }
 
-// The words of each line, with a line feed behind them.
+// Returns the words of each line, with a line feed after each line.
 fn lines_and_words(alloc: Global, text: &[u8]) -> Result<Vec<u8>, OutOfMemory> {
     let mut found = Vec::new(alloc);
     let mut from = 0;

@@ -1,4 +1,4 @@
-// Files and sinks, in memory and of the system, and what is gathered on its way to a sink.
+// Files and sinks, in memory and of the system, and bytes gathered on their way to a sink.
 ghost use Rattle.std.specs.Prelude.{◌<◌, ◌≤◌, length};
 
 use mq_base::OutOfMemory;
@@ -49,7 +49,7 @@ fn files_in_memory_are_read(rt: HostRuntime) -> Result<(), Fail> {
     Ok(())
 }
 
-// A sink with room, of which these puts fail.
+// Returns a sink with room, whose puts with these numbers fail.
 fn sink(alloc: Global, most: usize, failing: &[u64], room: usize) -> Result<MemSink, OutOfMemory>
     requires { 1 ≤ most }
 {
@@ -122,7 +122,7 @@ fn pieces_go_out_in_order(rt: HostRuntime) -> Result<(), Fail> {
     Ok(())
 }
 
-// What is pending goes out first, and the bytes that don't fit behind it.
+// Pending bytes go out first; the bytes that don't fit wait.
 fn lets_the_first_out(out: &mut MemSink, pending: &mut Gather) -> bool {
     add_bytes(out, pending, b"ab") == Ok(())
         && add_bytes(out, pending, [b'c'; 4095].as_slice()) == Ok(())
@@ -176,7 +176,8 @@ fn write_pattern<R: rt::Files>(rt: &R, alloc: Global, length: u32) -> Result<(),
     Ok(())
 }
 
-// A file that is longer than the limit adds nothing, and one of the limit is added whole.
+// A file longer than the limit adds nothing, and a file as long as the limit is added
+// whole.
 fn reads_pattern<R: rt::Files>(
     files: &mut HostFiles<'_, R>,
     wanted: &[u8],
@@ -201,7 +202,8 @@ fn gives_a_pattern<R: rt::Files>(rt: &R, alloc: Global, length: u32) -> Result<b
 fn system_files_are_read(rt: HostRuntime) -> Result<(), Fail> {
     fs::write(&rt, "model.txt", "model 1\n")?;
     assert!(rt; gives_a_short_file(&rt, rt.alloc())?);
-    // One full buffer of the loop that reads, two, and two and a part of a third.
+    // Lengths of one full buffer of the reading loop, of two, and of two and a part of a
+    // third.
     for length in [16_384, 32_768, 40_000] {
         write_pattern(&rt, rt.alloc(), length)?;
         assert!(rt; gives_a_pattern(&rt, rt.alloc(), length)?);
@@ -210,7 +212,7 @@ fn system_files_are_read(rt: HostRuntime) -> Result<(), Fail> {
     Ok(())
 }
 
-// Takes three bytes at a time, and then fails or takes none.
+// Takes three bytes at a time, and in the end fails or takes none.
 #[derive(Drop)]
 struct Narrow {
     left: usize,

@@ -15,7 +15,7 @@ const REPORT: &[u8] = b"mpsim report 1\njobs 3 span 8\n\
     node desk server in 3 out 3 lost 0 wait 6 max 3 busy 8 area 14 peak 3 util 1.0000\n\
     exit desk.0 3 sojourn 14\n";
 
-// The first of its bytes with the lines of the jobs, up to those of the put that fails.
+// The first bytes of the report with job lines, up to those of the put that fails.
 const FIRST_LINES: &[u8] = b"mpsim report 1\njobs 3 span 8\n\
     node src source in 3 out 3 lost 0 wait 0 max 0 busy 0 area 0 peak 0 util -\n\
     node desk server in 3 out 3 lost 0 wait 6 max 3 busy 8 area 14 peak 3 util 1.0000\n\
@@ -24,7 +24,7 @@ const FIRST_LINES: &[u8] = b"mpsim report 1\njobs 3 span 8\n\
 
 const UNWRITTEN: &[u8] = b"mpsim: cannot write the report\n";
 
-// The numbers of the read and of the puts on the two outputs that fail, from 1; of number 0 none does.
+// The numbers, from 1, of the read and of the puts on the two outputs that fail. With 0 none fails.
 #[derive(Clone, Copy)]
 struct Failing {
     read: u64,
@@ -38,7 +38,7 @@ const NONE: Failing = Failing {
     err: 0,
 };
 
-// How a call ends, and what the two outputs gained.
+// How a run ends, and what the two outputs gained.
 #[derive(Clone, Copy)]
 struct Ending<'a> {
     outcome: Outcome,
@@ -47,14 +47,14 @@ struct Ending<'a> {
     err: &'a [u8],
 }
 
-// A sink with room for all that comes, whose puts take 16 bytes each.
+// Returns a sink with room for all that comes, whose puts take 16 bytes each.
 fn sink(alloc: Global, failing: u64) -> Result<MemSink, OutOfMemory> {
     let mut sink = MemSink::new(alloc, 16, Vec::from_slice(alloc, &[failing])?);
     sink.reserve(1024)?;
     Ok(sink)
 }
 
-// Whether the call ends so.
+// Returns whether the run ends this way.
 fn ends<R: Threads + Sync>(
     rt: &R,
     alloc: Global,
@@ -175,8 +175,8 @@ const CALLS_REPORT: &[u8] = b"mpsim report 1\n\
     node wrap delay in 10 out 10 lost 0 wait 0 max 0 busy 20 area 20 peak 2 util -\n\
     exit wrap.0 10 sojourn 113\n";
 
-// Whether the call over the call centre ends as it has to where its output takes 64 bytes a put, and fails behind so many puts: with
-// what these took, or, where all was put by then, with the whole report.
+// Returns whether the run of the call centre ends as it should if its output takes 64 bytes per put and fails after this many puts:
+// with the bytes of these puts or, if they were enough, with the whole report.
 fn ends_behind<R: Threads + Sync>(rt: &R, alloc: Global, puts: usize) -> Result<bool, OutOfMemory>
     requires { puts ≤ 16 }
 {
@@ -194,7 +194,7 @@ fn ends_behind<R: Threads + Sync>(rt: &R, alloc: Global, puts: usize) -> Result<
     })
 }
 
-// Whether it does at each of its ten puts, and behind the last.
+// Returns whether it does after each number of puts from 0 to 10, the number it needs.
 fn ends_behind_each<R: Threads + Sync>(rt: &R, alloc: Global) -> Result<bool, OutOfMemory> {
     for puts in 0..11 {
         if !ends_behind(rt, alloc, puts)? {
@@ -265,8 +265,7 @@ fn an_error_output_that_fails_changes_no_outcome(rt: HostRuntime) -> Result<(), 
 
 const BOUND: &[u8] = b"model 1\nbound 7\nsource src\nserver desk d from src\n";
 
-// How the call over this model and the jobs ends, where the put of this number on the error output
-// fails.
+// Returns how the run of this model over the jobs ends if the put with this number on the error output fails.
 fn outcome_of<R: Threads + Sync>(
     rt: &R,
     alloc: Global,
@@ -280,7 +279,7 @@ fn outcome_of<R: Threads + Sync>(
     Ok(simulate(rt, alloc, words, &mut files, &mut out, &mut err))
 }
 
-// Whether it ends with this status, and as it does where no put fails.
+// Returns whether it ends with this status, and the same way as without a failing put.
 fn is_kept<R: Threads + Sync>(
     rt: &R,
     alloc: Global,

@@ -1,4 +1,4 @@
-// Threads make the pieces of each list of a run: two, but where lists stand beside each other.
+// Threads make the pieces of each list of a run: two threads, or more if two lists are made at once.
 use super::{MODEL, TRACE, files_with};
 use mq_base::OutOfMemory;
 use mq_chain::ChainSeat;
@@ -12,15 +12,14 @@ use std::sync::atomic::Ordering::SeqCst;
 use std::test::Fail;
 use std::thread::Threads;
 
-// Three jobs, of which each is a block.
+// Three jobs, each of them a block.
 const JOBS: &[u8] = b"source,time,a,b,c\nsrc,0,2,3,1\nsrc,1,1,1,4\nsrc,2,2,1,1\n";
 
-// A run by so many workers whose form of report is this, with the lines of the jobs or without them, and how many pieces each list of
-// it has, in the order in which they are made. A list of no piece or of one enters no gate, and isn't told. Without those lines nothing is worked
-// out of a source, a station whose jobs leave in turn has no last pieces, and behind each wave come the totals of its nodes, a piece for
-// each, and what leaves by the outputs that nobody reads, a piece for each node that has one. With them the 4 last pieces of the source
-// come first (when its jobs leave, how many each found, the jobs, and when each departs), and the totals of all nodes, and what leaves,
-// at the end.
+// A run with this many workers and this form of the report, with or without job lines, and the number of pieces in each list that it makes, in
+// order. A list of at most one piece enters no gate and isn't given here. Without job lines, nothing is computed for a source, and a station
+// whose jobs leave in turn has no last pieces. After each wave come the totals of its nodes, with a piece for each node, and what leaves by the
+// outputs that nobody reads, with a piece for each node that has one. With job lines, the 4 last pieces of the source come first (when its jobs
+// leave, how many each found, the jobs, and when each departs). The totals of all nodes, and what leaves, then come at the end.
 #[derive(Clone, Copy)]
 struct Case<'a> {
     model: &'a [u8],
@@ -29,11 +28,11 @@ struct Case<'a> {
     jobs: bool,
     workers: &'a str,
     lists: &'a [usize],
-    // How many blocks each single pass has.
+    // The number of blocks of each single pass.
     passes: &'a [usize],
 }
 
-// A server. Its blocks are passed over by themselves, and no list has more than one piece.
+// A server. Only its blocks enter a gate: no list has more than one piece.
 const SERVER: Case = Case {
     model: MODEL,
     trace: TRACE,
@@ -44,21 +43,20 @@ const SERVER: Case = Case {
     passes: &[3],
 };
 
-// The same with the lines of the jobs. Its last pieces are 5: when the jobs leave, how many each found, the jobs, and of what came the
-// jobs and the times.
+// The server with job lines. It has 5 last pieces: when the jobs leave, how many each found, the jobs, and the jobs and times of what came.
 const SERVER_OF_A_KEPT_RUN: Case = Case {
     jobs: true,
     lists: &[4, 5, 2],
     ..SERVER
 };
 
-// The same where two blocks are left by the single pass: the crew applies them.
+// The server, with two blocks left by the single pass, which the crew then applies.
 const LEFT: Case = Case {
     lists: &[2],
     ..SERVER
 };
 
-// A tandem of three stages: a summary of each job, and an applied block of each.
+// A tandem of three stages: a summary and an applied block for each job.
 const TANDEM: Case = Case {
     model: b"model 1\nsource src\ntandem line a / 2 b / 1 c from src\n",
     trace: JOBS,
@@ -76,54 +74,54 @@ const BLOCKING: Case = Case {
     ..TANDEM
 };
 
-// A fork-join of two branches, of two servers and of one: summaries and applied blocks of the first server of both branches, then
-// of the second server of the first branch.
+// A fork-join of two branches, one of two servers and one of one: summaries and applied blocks of the first server of both branches, then of the
+// second server of the first branch.
 const FORKJOIN: Case = Case {
     model: b"model 1\nsource src\nforkjoin both a b | c from src\n",
     lists: &[6, 6, 3, 3],
     ..TANDEM
 };
 
-// A split: what leaves each block, and its last pieces, which are 4: when the jobs leave, how many each found, and of what came
-// the jobs and the times.
+// A split: what leaves each block, and its 4 last pieces, which are when the jobs leave, how many each found, and the jobs and times of what
+// came.
 const SPLIT: Case = Case {
     model: b"model 1\nsource src\nsplit ways 2 turn from src\n",
     lists: &[3, 4],
     ..TANDEM
 };
 
-// Two forks that are ready at one time, and are a list of two pieces, as are their totals and what leaves them, behind another, which
-// is alone.
+// Two forks that are ready at once, after another fork, which is alone. The two make a list of two pieces, and so do their totals and what leaves
+// them.
 const FORKS: Case = Case {
     model: b"model 2\nsource src\nfork f 2 from src\nfork a 2 from f\nfork b 2 from f.1\n",
     lists: &[2, 2, 2],
     ..TANDEM
 };
 
-// A delay in which a job overtakes another. Its last pieces are of each job, a block, how many it found, and of what came the jobs and the
-// times.
+// A delay in which a job overtakes another. Its 5 last pieces are how many each job found, with a piece for each job, and the jobs and times of
+// what came.
 const DELAY: Case = Case {
     model: b"model 1\nsource src\ndelay w b from src\n",
     lists: &[5],
     ..TANDEM
 };
 
-// One in which none does, of which two leave at one time: no list has more than one piece.
+// A delay in which no job overtakes another, though two leave at one time: no list has more than one piece.
 const DELAY_IN_TURN: Case = Case {
     model: b"model 1\nsource src\ndelay w a from src\n",
     lists: &[],
     ..TANDEM
 };
 
-// The same with the lines of the jobs. Its last pieces are those of a server.
+// That delay with job lines. Its last pieces are those of a server.
 const DELAY_IN_TURN_OF_A_KEPT_RUN: Case = Case {
     jobs: true,
     lists: &[4, 5, 2],
     ..DELAY_IN_TURN
 };
 
-// Two sources: the rows of each. Behind them three blocks of what both let out, merged; the loss station itself is one piece, and of
-// what it settled two last ones are made.
+// Two sources: the rows of each. Then come three blocks of what both let out, merged. The loss station itself is one piece, and it has two last
+// pieces.
 const MERGE: Case = Case {
     model: b"model 1\nsource src\nsource web\nloss l 1 a from src web\n",
     trace: b"source,time,a\nsrc,0,1\nweb,1,1\nsrc,2,1\n",
@@ -131,8 +129,8 @@ const MERGE: Case = Case {
     ..TANDEM
 };
 
-// Two tandems of one wave, at which jobs wait: the rows of both sources, how each tandem is worked out, their summaries and applied
-// blocks, their totals, with which the waits are counted, and what leaves each.
+// Two tandems of one wave, at which jobs wait: the rows of both sources, how each tandem is computed, their summaries and applied blocks, their
+// totals with the counts of the waits, and what leaves each.
 const WAITS: Case = Case {
     model: b"model 1\nsource src\nsource web\ntandem left =1 / 1 =2 from src\ntandem right =1 / 1 =3 from web\n",
     trace: b"source,time\nsrc,0\nweb,0\nsrc,0\nweb,0\nsrc,0\nweb,0\n",
@@ -140,21 +138,22 @@ const WAITS: Case = Case {
     ..TANDEM
 };
 
-// The same with waits too long to be counted: behind the totals the percentiles are a piece for each node, and then comes what leaves each.
+// The two tandems with waits too long to be counted: after the totals, the percentiles have a piece for each node, and then comes what leaves
+// each.
 const LONG_WAITS: Case = Case {
     model: b"model 1\nsource src\nsource web\ntandem left =1 / 1 =20000 from src\ntandem right =1 / 1 =30000 from web\n",
     lists: &[2, 2, 6, 6, 2, 2, 2],
     ..WAITS
 };
 
-// In the first form of the report there are no percentiles.
+// The first form of the report has no percentiles.
 const UNTOLD_WAITS: Case = Case {
     form: "1",
     lists: &[2, 2, 6, 6, 2, 2],
     ..LONG_WAITS
 };
 
-// Two tandems of two waves, with the lines of the jobs: behind the totals of all nodes the percentiles of all nodes.
+// Two tandems of two waves, with job lines: after the totals of all nodes come the percentiles of all nodes.
 const LONG_WAITS_OF_A_KEPT_RUN: Case = Case {
     model: b"model 1\nsource src\ntandem first =1 / 1 =20000 from src\ntandem then =1 / 1 =30000 from first\n",
     jobs: true,
@@ -162,10 +161,10 @@ const LONG_WAITS_OF_A_KEPT_RUN: Case = Case {
     ..TANDEM
 };
 
-// A loss station with two ports beside three tandems: the rows of all sources. To the station come 6 jobs of 15, more than a third, so
-// it has a worker of its own, who merges what comes, settles it, and makes its two last pieces alone. The two others have the tandems,
-// of which no list has a piece of the station: how each is worked out, their summaries and applied blocks. The totals of all four,
-// and what leaves them, are made by all workers.
+// A loss station with two ports beside three tandems: the rows of all sources. The station gets 6 of 15 jobs, more than a third, so it has a
+// worker of its own, which merges what comes, settles it and makes its two last pieces. The other two workers have the tandems, whose lists have
+// no piece of the station: how each is computed, their summaries and applied blocks. All workers make the totals of all four, and what leaves
+// them.
 const LOSS_BESIDE_TANDEMS: Case = Case {
     model: b"model 1\nsource src\nsource web\nsource a\nsource b\nsource c\nloss l 1 =2 from src web\n\
         tandem one =1 / 1 =2 from a\ntandem two =1 / 1 =2 from b\ntandem three =1 / 1 =2 from c\n",
@@ -176,17 +175,17 @@ const LOSS_BESIDE_TANDEMS: Case = Case {
     ..TANDEM
 };
 
-// The same where fewer jobs come to the loss station than a third: one list has its piece and what the blocks of the tandems do, and
-// one its two last pieces.
+// The same nodes with less than a third of the jobs at the loss station: one list has its piece and the summaries of the tandems, and one its two
+// last pieces.
 const SHORT_LOSS_AMONG_TANDEMS: Case = Case {
     trace: b"source,time\nsrc,0\nweb,0\na,0\nb,0\nc,0\na,1\nb,1\nc,1\na,2\nb,2\nc,2\n",
     lists: &[5, 2, 4, 10, 9, 2, 4, 4],
     ..LOSS_BESIDE_TANDEMS
 };
 
-// Two loss stations, to each of which come 5 jobs of 15, beside a tandem, by four workers: the rows of all sources; of the stations how
-// each is worked out, both, and their last pieces, with the copies of what came; of the tandem its summaries and applied blocks; and
-// all totals, and what leaves all three.
+// Two loss stations, each with 5 of 15 jobs, beside a tandem, with four workers: the rows of all sources; for the stations, how each is computed,
+// both stations, and their last pieces with the copies of what came; for the tandem, its summaries and applied blocks; and all totals, and what
+// leaves all three.
 const LOSSES_BESIDE_A_TANDEM: Case = Case {
     model: b"model 1\nsource a\nsource b\nsource c\nloss one 1 =2 from a\nloss two 1 =2 from b\n\
         tandem line =1 / 1 =2 from c\n",
@@ -197,18 +196,18 @@ const LOSSES_BESIDE_A_TANDEM: Case = Case {
     ..TANDEM
 };
 
-// The same with a trunk group in the place of the second.
+// The same with a trunk group in place of the second station.
 const A_TRUNK_GROUP_BESIDE_A_TANDEM: Case = Case {
     model: b"model 2\nsource a\nsource b\nsource c\nloss one 1 =2 from a\ntrunk two 1 =2 from b\n\
         tandem line =1 / 1 =2 from c\n",
     ..LOSSES_BESIDE_A_TANDEM
 };
 
-// How often a held entry looks whether the others have come.
+// How many times a held entry checks whether the others have come.
 const TURNS: u64 = 2_000_000_000;
 
-// Counts entries by their numbers. An entry with 0 or 1 is held until the numbers below `zero` or `one` have come as often as its
-// own: so none of the two goes on before the other has come, and each of them needs a thread.
+// Counts entries by their numbers. An entry with 0 or 1 is held until the numbers below `zero` or `one` have come as often as its own. So neither
+// of the two goes on before the other has come, and each of them needs a thread.
 #[derive(Drop)]
 struct Entries {
     came: [AtomicU64; 10],
@@ -256,14 +255,14 @@ impl Entries {
         }
     }
 
-    // Until another number has come more often than so.
+    // Waits until another number has come more than `before` times, and counts a wait that runs out.
     fn hold(&self, other: &AtomicU64, before: u64) {
         if !comes(other, before) {
             self.run_out.fetch_add(1, SeqCst);
         }
     }
 
-    // Whether each number of lists of so many pieces came once, nothing else came, and no hold ran out.
+    // Returns whether each number of lists of these sizes came once per list, nothing else came, and no hold ran out.
     fn are(&self, lists: &[usize]) -> bool {
         let mut right = self.above.load(SeqCst) == 0 && self.run_out.load(SeqCst) == 0;
         for number in 0..self.came.len() {
@@ -275,7 +274,7 @@ impl Entries {
     }
 }
 
-// Whether a number comes more often than so, before the turns run out.
+// Returns whether a number comes more than `before` times before the turns run out.
 fn comes(number: &AtomicU64, before: u64) -> bool {
     for _ in 0..TURNS {
         if number.load(SeqCst) > before {
@@ -285,12 +284,12 @@ fn comes(number: &AtomicU64, before: u64) -> bool {
     false
 }
 
-// How many lists have more pieces than so.
+// Returns how many lists have more pieces than `number`.
 fn longer(lists: &[usize], number: usize) -> u64 {
     lists.iter().filter(|size| **size > number).count() as u64
 }
 
-// Counts the pieces that are made apart from the blocks of a single pass.
+// Counts the pieces, and apart from them the blocks of a single pass.
 #[derive(Drop)]
 struct Held {
     pieces: Entries,
@@ -307,7 +306,7 @@ impl Gate for Held {
     }
 }
 
-// Who has block 1 is held until block 2 has come, and so until block 0 is done, whose carry it finds: at most one block is left.
+// Holds block 1 until block 2 has come, and so until block 0 is done and its carry is there: at most one block is left.
 fn with_carries() -> Held {
     Held {
         pieces: Entries::held(2, 2),
@@ -315,8 +314,7 @@ fn with_carries() -> Held {
     }
 }
 
-// Who has block 0 is held until block 2 has come, and so until block 1 is left, for which there is no carry yet: then there is none
-// for block 2 either.
+// Holds block 0 until block 2 has come, and so until block 1 is left, which has no carry yet: then block 2 has none either.
 fn without_carries() -> Held {
     Held {
         pieces: Entries::held(2, 2),
@@ -324,7 +322,7 @@ fn without_carries() -> Held {
     }
 }
 
-// Holds one entry with a number, before which there are so many with it, until another number has come more often than so.
+// Holds one entry with a number, the one after `before` others with it, until another number has come more than `often` times.
 #[derive(Drop)]
 struct Hold {
     number: u32,
@@ -366,7 +364,7 @@ impl Gate for Hold {
     fn enter_block(&self, _seat: &ChainSeat, _worker: u32, _block: u32) {}
 }
 
-// Whether a run, whose workers enter this gate, is done.
+// Returns whether a run, whose workers enter this gate, is done.
 fn is_done<R: Threads + Sync, G: Gate>(
     rt: &R,
     alloc: Global,
@@ -393,7 +391,7 @@ fn is_done<R: Threads + Sync, G: Gate>(
     Ok(outcome == Outcome::Done)
 }
 
-// Whether a run, whose workers enter this gate, is done, and has these lists.
+// Returns whether a run, whose workers enter this gate, is done and has these lists.
 fn has_lists<R: Threads + Sync>(
     rt: &R,
     alloc: Global,
@@ -540,21 +538,21 @@ fn a_trunk_group_has_a_list_with_a_loss_station_beside_a_tandem(
     Ok(())
 }
 
-// Whether the run of two loss stations beside a tandem is done with this gate, which no entry holds to its end.
+// Returns whether the run of two loss stations beside a tandem is done with this gate, and no hold ran out.
 fn goes_on<R: Threads + Sync>(rt: &R, alloc: Global, gate: Hold) -> Result<bool, OutOfMemory> {
     let done = is_done(rt, alloc, LOSSES_BESIDE_A_TANDEM, &gate)?;
     Ok(done && gate.run_out.load(SeqCst) == 0)
 }
 
-// The second entry with 1, the first behind the rows of the sources, is held until some list has a fifth piece, as the tandem's alone have.
+// The second entry with 1, the first after the rows of the sources, is held until some list has a fifth piece. Only the tandem's lists have one.
 #[test]
 fn a_tandem_goes_on_while_a_list_of_loss_stations_is_held(rt: HostRuntime) -> Result<(), Fail> {
     assert!(rt; goes_on(&rt, rt.alloc(), Hold::until(1, 1, 4, 0))?);
     Ok(())
 }
 
-// The first fifth piece, one of the tandem's, is held until a second piece has come three times: of the sources, of the tandem, and of the
-// loss stations.
+// The first fifth piece, one of the tandem's, is held until a second piece has come three times: of the sources, the tandem and the loss
+// stations.
 #[test]
 fn loss_stations_go_on_while_a_list_of_a_tandem_is_held(rt: HostRuntime) -> Result<(), Fail> {
     assert!(rt; goes_on(&rt, rt.alloc(), Hold::until(4, 0, 1, 2))?);

@@ -7,8 +7,8 @@ import os
 from html import escape
 from string import Template
 
-from ..planner.files import written
-from ..planner.pooled import beside_pools, pool_lines
+from ..agents.pools import beside_pools, pool_lines
+from ..files import written
 from .colours import in_light, style
 from .flows import flows
 from .network import arguments_of, network, nodes_that_are_drawn

@@ -51,6 +51,21 @@ def said_of(line):
     return f"{line.name}, {line.kind}, {'no servers' if line.util is None else f'util {line.util:.4f}'}, {figures_of(line)}"
 
 
+def _servers(node):
+    """Returns the number of servers of a model's node (ModelNode), or None if it has none or the number is a name in braces."""
+    arguments = node.arguments.split()
+    count = {"server": 1, "loss": 1, "tandem": 1 + arguments.count("/"), "forkjoin": len(arguments) - arguments.count("|")}
+    return int(arguments[0]) if node.kind == "trunk" and arguments[0].isdecimal() else count.get(node.kind)
+
+
+def unlike(report):
+    """Returns the name of the first node whose utilisation doesn't fit the number of servers in the model, or None."""
+    for node in nodes_of(report.model) if report.span else ():
+        count = _servers(node)
+        if count and round(10**4 * report[node.name].util) != 10**4 * report[node.name].busy // (count * report.span):
+            return node.name
+
+
 def network(report, lines, chosen=None, is_still=False):
     """Returns the SVG (str), with the figures of `lines` (list of Node) and the selected node marked; "" if the report's model isn't known. In a
     still one no node is a button."""

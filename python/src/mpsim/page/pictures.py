@@ -4,8 +4,9 @@ from array import array
 from bisect import bisect_left, bisect_right
 from fractions import Fraction
 
+from ..agents.pools import visits_at
+from ..lines import PASSED
 from ..node_visits import HELD, LOST, percentile_of
-from ..planner.pooled import visits_at
 
 # The limit of numbers for all charts of a page together, at about seven per time interval and two per wait; and the minimum and maximum for one
 # chart.
@@ -14,8 +15,8 @@ NUMBERS, LEAST, PIECES, WAITS = 6000, 20, 240, 200
 VISITS = 20
 # Round widths of less than a day, in seconds.
 CLOCK, DAY = [1, 2, 5, 10, 15, 20, 30, 60, 120, 300, 600, 900, 1800, 3600, 7200, 10800, 21600, 43200], 86400
-# No job waits at these, and none spends any time in these.
-WITHOUT_WAITS, PASSED = ("source", "split", "fork", "delay"), ("source", "split", "fork")
+# No job waits at these.
+WITHOUT_WAITS = *PASSED, "delay"
 
 
 def nice(least, tick=None):

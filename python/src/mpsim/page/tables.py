@@ -1,12 +1,13 @@
 """Makes the tables of a page and formats their figures."""
 
 from html import escape
-from typing import Callable, NamedTuple
+from typing import TYPE_CHECKING, Callable, NamedTuple
 
-from ..lines import Node
-from ..planner.pooled import pooled
-from ..planner.reports import PASSED
-from ..report import Report
+from ..agents.pools import pooled
+from ..lines import PASSED, Node
+
+if TYPE_CHECKING:
+    from ..report import Report
 
 
 class Column(NamedTuple):
@@ -14,7 +15,7 @@ class Column(NamedTuple):
 
     name: str
     says: str
-    of: Callable[[Report, Node], object]
+    of: "Callable[[Report, Node], object]"
 
 
 def _rounded(value, digits):

@@ -1,0 +1,261 @@
+"""Finds pools in reports and models by the names that `mpplan pool` gives their nodes, and treats all agents of a pool together."""
+
+import contextlib
+from array import array
+
+from ..limits import INPUTS
+from ..lines import Node
+from ..model import nodes_of
+from ..node_visits import LOST, NodeVisits, percentile_of
+
+
+def queue_name(pool):
+    """Returns the node where the calls of a pool arrive: they wait there, or are divided among the agents."""
+    return f"{pool}_queue"
+
+
+def agent_name(pool, number):
+    """Returns the node of an agent, from 1."""
+    return f"{pool}_{number}"
+
+
+def left_name(pool):
+    """Returns the split that sends callers who leave before their call begins to `gone_name`, the delay in which they wait until they leave."""
+    return f"{pool}_left"
+
+
+def gone_name(pool):
+    return f"{pool}_gone"
+
+
+def _loses(report, pool):
+    """Returns whether callers may leave the queue of a pool, in a report or among a model's nodes."""
+    return _kind(report, left_name(pool)) == "split" and _kind(report, gone_name(pool)) == "delay"
+
+
+def end_names(pool, agents):
+    """Returns the delays of 0 (list of str) that gather the outputs of this many agents, eight at a time, before the delay that has the pool's
+    name."""
+    return [f"{pool}_end{number}" for number in range(1, -(-max(agents - INPUTS, 0) // (INPUTS - 1)) + 1)]
+
+
+def pooled(report, pool):
+    """Returns the visits of a pool (NodeVisits) from a report (Report) with visits: for each call its arrival at the queue, its wait and the end of
+    its service. Raises ValueError if the report has no such pool, or if more calls were served at once than it has agents: the trace was then made
+    for another number.
+
+    >>> import mpsim
+    >>> from mpsim.agents.pools import pooled
+    >>> model = "model 2\\nsource door\\ndelay desk_queue desk_wait from door\\ntrunk desk 1 talk from desk_queue\\n"
+    >>> report = mpsim.run(model, [("source", "time", "talk", "desk_wait"), ("door", 0, 9, 0), ("door", 2, 4, 7)], jobs=True)
+    >>> [(it.arrive, it.wait, it.depart) for it in pooled(report, "desk")]
+    [(0, 0, 9), (2, 7, 13)]
+    """
+    if _kind(report, pool) == "trunk" and _kind(report, queue_name(pool)) == "delay":
+        return _of_trunk_group(report, pool)
+    agents = [report.visits[agent] for agent in agents_of(report, pool)]
+    if not agents:
+        names = ", ".join(node.name for node in report.nodes)
+        raise ValueError(f"the report has no pool {pool!r}, neither as a trunk group nor as a server per agent; its nodes are {names}")
+    if len(agents) > 1 and queue_name(pool) not in report:
+        more = f"which mpplan pool would have put upstream of the servers {agent_name(pool, 1)} to {agent_name(pool, len(agents))}"
+        raise ValueError(f"the report has no pool {pool!r}: it lacks the node {queue_name(pool)}, {more}")
+    # A pool of one agent has no split.
+    return _of_agents(pool, report.visits.get(queue_name(pool), agents[0]), agents)
+
+
+def _kind(report, name):
+    return report[name].kind if name in report else None
+
+
+def agents_of(report, pool):
+    """Returns the servers (list of str) of a pool with a server per agent, from a report or from a model's nodes (dict of ModelNode by name)."""
+    agents = []
+    while _kind(report, agent_name(pool, len(agents) + 1)) == "server":
+        agents.append(agent_name(pool, len(agents) + 1))
+    return agents
+
+
+def _named_as_pools(report):
+    """Yields the names that a queue shows to be pools: its output goes to a trunk group or to servers. If the model is known, the delay before a
+    trunk group must use the column of waits."""
+    for item in report.nodes:
+        if not item.name.endswith(queue_name("")):
+            continue
+        pool = item.name.removesuffix(queue_name(""))
+        if item.kind == "delay" and _kind(report, pool) == "trunk":
+            arguments = [node.arguments for node in nodes_of(report.model) if node.name == item.name] if report.model else []
+            if arguments not in ([], [f"{pool}_wait"]):
+                continue
+            agents = [pool]
+        elif item.kind == "split":
+            agents = agents_of(report, pool)
+        else:
+            continue
+        if agents and item.out == sum(report[name].in_ for name in agents):
+            yield pool
+
+
+def pools(report):
+    """Returns the pools of a report (list of str), in the order of its nodes, found by the names that `mpplan pool` gives: a trunk group after a
+    delay, or servers after a split. A trunk group that loses a call isn't a pool: its trace was made for another number of agents.
+
+    >>> import mpsim
+    >>> from mpsim.agents.pools import pools
+    >>> model = "model 2\\nsource door\\ndelay desk_queue desk_wait from door\\ntrunk desk 1 talk from desk_queue\\n"
+    >>> pools(mpsim.run(model, [("source", "time", "talk", "desk_wait"), ("door", 0, 9, 0), ("door", 2, 4, 7)]))
+    ['desk']
+    """
+    return [named_as_pool for named_as_pool in _named_as_pools(report) if not _lost(report, named_as_pool)]
+
+
+def know_model(report, text):
+    """Gives a report with names of pools the text (str) of its model, which tells a pool's queue from any other delay."""
+    if report.model is None and any(_named_as_pools(report)):
+        # A model that this reader can't parse leaves the report as it was.
+        with contextlib.suppress(ValueError):
+            report.model = text.removeprefix("\ufeff")
+
+
+def _lost(report, pool):
+    return report[pool].lost if _kind(report, pool) == "trunk" else 0
+
+
+class PoolLines:
+    """Collects what to print about the pools of reports, seen one at a time; only about the pools in `names` if there are any."""
+
+    def __init__(self, names=()):
+        self._names, self._where, self._lost, self._lacks = names, {}, {}, False
+
+    def see(self, report):
+        """Adds a report (Report), without keeping it."""
+        for pool in _named_as_pools(report):
+            if self._names and pool not in self._names:
+                continue
+            agents = agents_of(report, pool)
+            where = queue_name(pool) if _kind(report, pool) == "trunk" else f"{agents[0]} to {agents[-1]}"
+            self._where.setdefault(pool, where)
+            self._lost[pool] = max(self._lost.get(pool, 0), _lost(report, pool))
+            self._lacks |= report.visits is None and not _lost(report, pool)
+
+    def lines(self):
+        """Yields a line (str) per pool."""
+        for pool, where in self._where.items():
+            if lost := self._lost[pool]:
+                why = "if it is a pool, its trace was made for another number of agents, and its figures are invalid"
+                yield f"warning: {pool} loses {lost} calls: {why}"
+            else:
+                yield f"{pool} is a pool: its waits are those of {where}"
+
+    def lacks(self, how="run mpsim with --jobs"):
+        """Yields a line (str) that says why figures of pools are missing and how to get them, if any are."""
+        if self._lacks:
+            yield f"a pool's max, p50, p90 and p99 need job lines: {how}"
+
+
+def pool_lines(reports, names=(), lacks=False):
+    """Yields the lines (str) to print about the pools of reports, only about those in `names` if there are any; with `lacks` (bool), also about
+    missing figures."""
+    found = PoolLines(names)
+    for report in reports:
+        found.see(report)
+    yield from found.lines()
+    if lacks:
+        yield from found.lacks()
+
+
+def parts(report, pool):
+    """Returns the nodes (list of str) that a pool replaces: its queue, and its trunk group or the delays that gather its agents' outputs."""
+    # If nothing reads the agents' outputs, no node has the pool's name.
+    ends = end_names(pool, len(agents_of(report, pool))) if _kind(report, pool) == "delay" else ()
+    return [queue_name(pool), pool, *ends, *((left_name(pool), gone_name(pool)) if _loses(report, pool) else ())]
+
+
+def names_of(report, nodes=()):
+    """Returns the names of the nodes of a report (list of str), in its order, with each pool's name in place of its `parts`; only those in `nodes` if
+    there are any, which may be parts too. Raises ValueError for an unknown name.
+
+    >>> import mpsim
+    >>> from mpsim.agents.pools import names_of
+    >>> model = "model 2\\nsource door\\ndelay desk_queue desk_wait from door\\ntrunk desk 1 talk from desk_queue\\n"
+    >>> report = mpsim.run(model, [("source", "time", "talk", "desk_wait"), ("door", 0, 9, 0), ("door", 2, 4, 7)])
+    >>> names_of(report), names_of(report, ["desk_queue"])
+    (['door', 'desk'], ['desk_queue'])
+    """
+    place = {part: pool for pool in pools(report) for part in parts(report, pool)}
+    names = list(dict.fromkeys(place.get(node.name, node.name) for node in report.nodes))
+    if not nodes:
+        return names
+    every = dict.fromkeys([*(node.name for node in report.nodes), *names])
+    for name in nodes:
+        if name not in every:
+            raise ValueError(f"no node {name!r}; the report has {', '.join(node.name for node in report.nodes)}")
+    return [name for name in every if name in nodes]
+
+
+def with_pools(report, nodes=()):
+    """Returns the nodes of a report that `names_of` gives (dict of str to Node), with a Node of kind "pool" in place of each pool's `parts`. Without
+    visits its percentiles and `max` are None; its `peak` always is."""
+    known = pools(report)
+    return {name: _node(report, name) if name in known else report[name] for name in names_of(report, nodes)}
+
+
+def beside_pools(report):
+    """Returns all nodes of a report (list of Node), in its order, with each pool in place of the node of its name, or before its queue if there is
+    none. The pool's other nodes stay, because the network shows them."""
+    made = {pool: _node(report, pool) for pool in pools(report)}
+    before = {queue_name(name): it for name, it in made.items() if name not in report}
+    return [node for item in report.nodes for node in (before.get(item.name), made.get(item.name, item)) if node is not None]
+
+
+def visits_at(report, names):
+    """Returns the visits (list of NodeVisits) to nodes or pools of a report with visits, by name."""
+    known = pools(report)
+    return [pooled(report, name) if name in known else report.visits[name] for name in names]
+
+
+def _node(report, pool):
+    """Returns a pool as a Node."""
+    queue, is_trunk = report[queue_name(pool)], _kind(report, pool) == "trunk"
+    agents = [report[agent] for agent in ([pool] if is_trunk else agents_of(report, pool))]
+    # Jobs in the delay are waiting.
+    wait = queue.area if is_trunk else sum(agent.wait for agent in agents)
+    busy, area = sum(agent.busy for agent in agents), sum(agent.area for agent in [queue, *agents])
+    util = agents[0].util if is_trunk else 10**4 * busy // (len(agents) * report.span) / 10**4 if report.span else None
+    waits = None if report.visits is None else pooled(report, pool).waits()
+    tail = [None] * 4 if waits is None else [percentile_of(waits, item) for item in (100, 50, 90, 99)]
+    gone = report[gone_name(pool)].in_ if _loses(report, pool) else 0
+    return Node(pool, "pool", queue.in_ + gone, sum(agent.out for agent in agents), gone, agents[0].held, wait, *tail, busy, area, None, util)
+
+
+def _of_trunk_group(report, pool):
+    lost = report[pool].lost
+    if lost:
+        raise ValueError(f"{lost} calls find no free agent at {pool}: the trace was made for another number of agents")
+    queue, group = report.visits[queue_name(pool)], report.visits[pool]
+    waits = map(int.__sub__, queue.depart, queue.arrive)
+    found = _together(pool, queue, waits, dict(zip(group.job, group.depart)))
+    return _with_gone(found, report.visits[gone_name(pool)]) if _loses(report, pool) else found
+
+
+def _with_gone(found, gone):
+    """Returns the visits of a pool with those of callers who left, in order of arrival: they count as lost."""
+    rows = [*zip(found.arrive, found.job, found.wait, found.depart), *((arrive, job, LOST, LOST) for arrive, job in zip(gone.arrive, gone.job))]
+    every = NodeVisits(found.node)
+    for name, column in zip(("arrive", "job", "wait", "depart"), zip(*sorted(rows, key=lambda row: row[:2]))):
+        setattr(every, name, array(getattr(found, name).typecode, column))
+    return every
+
+
+def _of_agents(pool, queue, agents):
+    waits = {job: wait for agent in agents for job, wait in zip(agent.job, agent.wait)}
+    ends = {job: depart for agent in agents for job, depart in zip(agent.job, agent.depart)}
+    return _together(pool, queue, map(waits.__getitem__, queue.job), ends)
+
+
+def _together(pool, queue, waits, ends):
+    """Returns the visits of a pool from those to its queue (NodeVisits), with their waits and, by record, the ends of their services."""
+    found = NodeVisits(pool)
+    found.job, found.arrive, found.wait = queue.job, queue.arrive, array("q", waits)
+    found.depart = array("q", map(ends.__getitem__, queue.job))
+    return found

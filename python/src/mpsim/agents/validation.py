@@ -1,0 +1,86 @@
+"""Compares the waits that a telephone system recorded with those of a group of agents who get the same calls."""
+
+from typing import NamedTuple
+
+from ..times.intervals import label
+
+# When a model is trusted: how far the service levels may differ over all calls, and in an interval of at least so many calls.
+OVERALL, EACH, CALLS = 0.02, 0.05, 50
+HEADS = "from", "queue", "offered", "recorded_within", "modelled_within", "gap", "same"
+
+
+class Pair(NamedTuple):
+    """A call: its wait (int, ticks) and whether it was answered, as recorded and in the model."""
+
+    recorded: int
+    answered: bool
+    modelled: int
+    served: bool
+
+
+def compared(queue, group, days, waits, gone):
+    """Returns the calls of a Queue (list of Pair), by the number of their interval and their source (dict), with the agents of a Group in the model.
+    `days` (list of Day) have the intervals; `waits` (list of int, ticks) and `gone` (list of bool) are those that `recorded` returns."""
+    every_source = queue.trace.sources()
+    sources = [every_source[job - 1] for job in queue.jobs]
+    # An abandoned call shows how long the caller waited, any other only that the patience was longer.
+    patience = [waits[job - 1] if gone[job - 1] else None for job in queue.jobs]
+    who, modelled = group.assigned(queue.arrivals, queue.demands, sources, patience)
+    found, at = {}, 0
+    for call in sorted(range(len(queue.jobs)), key=queue.arrivals.__getitem__):
+        while queue.arrivals[call] >= days[at].begins[-1] and at + 1 < len(days):
+            at += 1
+        record = queue.jobs[call] - 1
+        pair = Pair(waits[record], not gone[record], modelled[call], who[call] > 0)
+        found.setdefault((days[at].interval(queue.arrivals[call]), sources[call]), []).append(pair)
+    return found
+
+
+def figures(pairs, within, same):
+    """Returns the number of calls (int), the recorded and the modelled share answered within `within` ticks, their difference, and the share of calls
+    with the same end whose waits differ by at most `same` ticks (floats; None without calls), for some calls (list of Pair).
+
+    >>> figures([Pair(5, True, 6, True), Pair(30, True, 9, True)], 20, 1)
+    [2, 0.5, 1.0, 0.5, 0.5]
+    """
+    if not pairs:
+        return [0, None, None, None, None]
+    shares = [sum(ok and wait <= within for wait, ok in it) / len(pairs) for it in (((p[0], p[1]) for p in pairs), ((p[2], p[3]) for p in pairs))]
+    alike = sum(it.answered == it.served and abs(it.recorded - it.modelled) <= same for it in pairs) / len(pairs)
+    return [len(pairs), *(round(it, 4) for it in (*shares, shares[1] - shares[0], alike))]
+
+
+def verdict(rows):
+    """Returns a line (str) that says whether a model may be trusted, and why not, from rows as in HEADS with the queue "all": the first of all calls,
+    the others per interval."""
+    whole, *each = rows
+    if whole[5] is None:
+        return "there are no calls to compare"
+    far = [row for row in each if row[2] >= CALLS and abs(row[5]) > EACH]
+    both = f"{100 * whole[3]:.1f} % recorded, {100 * whole[4]:.1f} % modelled"
+    if abs(whole[5]) <= OVERALL and not far:
+        return f"the model may be trusted: {both}, and no interval of {CALLS} calls or more differs by more than {100 * EACH:.0f} points"
+    worst = max(far, key=lambda row: abs(row[5]), default=None)
+    where = ""
+    if worst:
+        where = f"; {len(far)} of {len(each)} intervals differ by more than {100 * EACH:.0f} points, most at {worst[0]} ({100 * worst[5]:+.1f})"
+    how = "better" if whole[5] > 0 else "worse"
+    return f"the model may not be trusted: {both}, and the model is {how}{where}"
+
+
+def rows_of(cells, within, same, every):
+    """Yields a row (list, as in HEADS) for all calls, for each queue if there are several, and for each interval and queue."""
+    queues = sorted({queue for _, queue in cells})
+    for number in (None, *sorted({number for number, _ in cells})):
+        name = "all" if number is None else label(number, every)
+        mine = {queue: [it for (at, one), calls in cells.items() if one == queue and number in (None, at) for it in calls] for queue in queues}
+        yield [name, "all", *figures([it for calls in mine.values() for it in calls], within, same)]
+        if len(queues) > 1:
+            yield from ([name, queue, *figures(calls, within, same)] for queue, calls in mine.items() if calls)
+
+
+def recorded(trace, wait, abandoned=None):
+    """Returns, for each record of a Trace, the recorded wait (int, ticks) and whether the call was abandoned (two lists), from the columns of these
+    names. Raises ValueError for an unknown column."""
+    waits = trace.numbers(wait)
+    return waits, [value != 0 for value in trace.numbers(abandoned)] if abandoned else [False] * len(waits)

@@ -1,0 +1,119 @@
+"""Finds the pools in a model and recomputes their agents and waits for part of a trace that `mpplan pool` made."""
+
+import contextlib
+from typing import NamedTuple
+
+from ..errors import BoundError, ModelError, TraceError, VisitsError
+from ..inputs import model_input
+from ..model import nodes_of
+from ..runs import run
+from .networks import ROSTERED, agent_lines, front, in_front, inputs_of, trunk_lines
+from .pools import agents_of, gone_name, queue_name
+from .queues import calls_at, columns_of
+
+
+class ModelPool(NamedTuple):
+    """A pool in a model: its name (str), its number of agents (int), the service time of its calls (str), and the model (str) of everything upstream
+    of it, as returned by `front`."""
+
+    name: str
+    agents: int
+    demand: str
+    front: str
+
+
+def model_pools(model, trace):
+    """Returns the pools (list of ModelPool) in a model whose lines are those that `mpplan pool` writes, upstream pools first.
+
+    A trunk group that loses a call of the trace (Trace) isn't a pool, since the trace was made for another number of agents; if the trace is
+    rejected, it counts as one. The model is any that `mpsim.run` accepts. An invalid model, or one that can't be read twice, has no pools. Raises
+    ValueError for a pool with a roster, patience or priorities, whose agents don't follow from their number.
+
+    >>> from mpsim.agents.waits import model_pools
+    >>> from mpsim.traces import Trace
+    >>> model = "model 2\\nsource door\\ndelay desk_queue desk_wait from door\\ntrunk desk 1 talk from desk_queue\\n"
+    >>> trace = Trace("t.csv", ["source", "time", "talk", "desk_wait"], [["door", "0", "9", "0"], ["door", "2", "4", "7"]])
+    >>> [it[:3] for it in model_pools(model, trace)]
+    [('desk', 1, 'talk')]
+    """
+    with contextlib.closing(model_input(model)) as given:
+        text = given.text() or ""
+    found, lost = [], {}
+    # Models that this reader can't parse are left to the runs that reject them.
+    with contextlib.suppress(ValueError):
+        nodes = {node.name: node for node in nodes_of(text)}
+        found = sorted(_named(nodes), key=lambda item: len(in_front(nodes, [queue_name(item[0])])))
+    for name, *_ in found:
+        if ROSTERED.format(node=name) in text.splitlines() or gone_name(name) in nodes:
+            why = "its waits hold only for the whole trace; run mpplan pool for each part"
+            raise ValueError(f"{name} is a pool with a roster, patience or priorities: {why}")
+    if groups := [name for name, *_, end in found if name == end]:
+        with contextlib.suppress(ModelError, TraceError, BoundError, VisitsError):
+            report = run(front(text, groups), trace.lines())
+            lost = {name: report[name].lost for name in groups}
+    return [ModelPool(name, agents, demand, front(text, [end])) for name, agents, demand, end in found if not lost.get(name)]
+
+
+def _named(nodes):
+    """Yields the name, the number of agents, the service time and a serving node of each pool among `nodes` (dict of ModelNode by name). The serving
+    node is the trunk group of the pool's name, or the first agent."""
+    for node in nodes.values():
+        name = node.name.removesuffix(queue_name(""))
+        if node.kind == "delay" and name in nodes and nodes[name].kind == "trunk":
+            agents, demand = nodes[name].arguments.split()
+            end, lines = name, trunk_lines(name, int(agents), demand, inputs_of(node))
+        elif node.kind == "split" and (servers := agents_of(nodes, name)):
+            agents, demand, end = len(servers), nodes[servers[0]].arguments, servers[0]
+            lines = agent_lines(name, agents, demand, inputs_of(node), is_read=False)
+        else:
+            continue
+        if all(nodes.get(made.name) == made for made in nodes_of("\n".join(lines))):
+            yield name, int(agents), demand, end
+
+
+def pools_in(text, trace):
+    """Returns the pools (list of ModelPool) in the lines of a model (str) whose agents and waits are columns of a trace (Trace), upstream pools
+    first, whatever number of agents the trace was made for. Raises ValueError for a pool with a roster, patience or priorities."""
+    with contextlib.suppress(ValueError):
+        nodes = {node.name: node for node in nodes_of(text)}
+        found = sorted(_named(nodes), key=lambda item: len(in_front(nodes, [queue_name(item[0])])))
+        there = [it for it in found if f"{it[0]}_agent" in trace.header and f"{it[0]}_wait" in trace.header]
+        return [ModelPool(name, agents, demand, front(text, [end])) for name, agents, demand, end in there]
+    return []
+
+
+def varied(texts, trace):
+    """Returns the names of pools (list of str) that have different numbers of agents in these models (iterable of str), and whose agents and waits
+    are columns of a trace (Trace): the trace holds for one of the numbers at most.
+
+    >>> from mpsim.agents.waits import varied
+    >>> from mpsim.traces import Trace
+    >>> models = [f"model 2\\nsource door\\ndelay desk_queue desk_wait from door\\ntrunk desk {agents} talk from desk_queue\\n" for agents in (1, 2)]
+    >>> trace = Trace("t.csv", ["source", "time", "talk", "desk_agent", "desk_wait"], [])
+    >>> varied(models, trace), varied(models[:1], trace)
+    (['desk'], [])
+    """
+    numbers = {}
+    for text in texts:
+        for pool in pools_in(text, trace):
+            numbers.setdefault(pool.name, set()).add(pool.agents)
+    return [name for name, counts in numbers.items() if len(counts) > 1]
+
+
+def recomputed(trace, pools):
+    """Returns the trace (Trace) with the agents and waits at `pools` (list of ModelPool, from `model_pools`) recomputed from its own records, in a
+    network that is empty at time 0. Raises what `mpsim.run` does, and ValueError if a job visits a pool more than once.
+
+    >>> from mpsim.agents.waits import recomputed, model_pools
+    >>> from mpsim.agents.queues import Queue
+    >>> from mpsim.traces import Trace
+    >>> trace = Trace("t.csv", ["source", "time", "talk"], [["door", "0", "9"], ["door", "2", "4"], ["door", "3", "4"]])
+    >>> model, whole = Queue("model 1\\nsource door\\nserver desk talk from door\\n", trace, "desk").with_pool(1)
+    >>> later = Trace("later.csv", whole.header, whole.rows[1:])
+    >>> [[row[-1] for row in it.rows] for it in (later, recomputed(later, model_pools(model, whole)))]
+    [['7', '10'], ['0', '3']]
+    """
+    for pool in pools:
+        calls = calls_at(run(pool.front, trace.lines(), jobs=True), queue_name(pool.name), pool.name, pool.demand, trace)
+        trace = trace.with_values(**columns_of(pool.name, pool.agents, calls, len(trace.rows)))
+    return trace

@@ -1,0 +1,118 @@
+"""The pool of `mpplan pool` with a roster, patience or priorities: its agents and waits come from `mpsim.agents`."""
+
+from ..agents.groups import FIRST, LONGEST_IDLE, Agent, Group
+from ..agents.queues import Queue
+from ..agents.rosters import counts_roster, patience_in, read_roster
+from ..files import all_written, judge_outputs, text_of
+from ..limits import TRUNK
+from ..runs import run
+from ..tables.intervals import HEADS, Table
+from ..times.intervals import days_of, every_of
+from ..times.texts import given
+from ..traces.trace import Trace, locating_errors
+from ..wording import counted
+from .options import calendar_of, calendar_words
+
+
+def group_words(parser):
+    """Declares the arguments that say who serves which calls."""
+    parser.add_argument("--roster", metavar="FILE", help="who is there when: a CSV file with the columns agent, queues, from and to")
+    parser.add_argument("--first", action="append", default=[], metavar="SOURCE", help="serve calls of this source first; may be repeated")
+    says = "then calls of this source; may be repeated, each after the last"
+    parser.add_argument("--then", action="append", default=[], metavar="SOURCE", help=says)
+    says = "which of several free agents takes a call: the one who has been free longest (the default) or the first in the roster"
+    parser.add_argument("--choose", choices=[LONGEST_IDLE, FIRST], help=says)
+
+
+def roster_words(parser):
+    group_words(parser)
+    says = "callers leave after this time, e.g. 240s, after the ticks in this column, or after random times of this mean: exp:240s"
+    parser.add_argument("--patience", metavar="TIME", help=says)
+    parser.add_argument("--seed", type=int, metavar="N", help="seed of random patience; default: 1")
+    says = "length of the intervals of the table for a roster, patience or priorities: 15min, 30min (the default) or 1h"
+    parser.add_argument("--every", metavar="LENGTH", help=says)
+    calendar_words(parser)
+
+
+def asks_for_group(args):
+    """Returns whether a command's arguments ask for more than a number of agents."""
+    more = args.roster, args.patience, args.first, args.then, args.choose, args.every, "=" in (args.agents or "")
+    return any(more)
+
+
+def _priorities(args, sources):
+    found = dict.fromkeys(args.first, 1)
+    for rank, name in enumerate(args.then, 2):
+        if name in found:
+            raise ValueError(f"{name} is in --first and --then, or twice in --then")
+        found[name] = rank
+    for name in found:
+        if name not in sources:
+            raise ValueError(f"no source {name!r}; the trace has {', '.join(sources)}")
+    return found
+
+
+def _agents(args, days, last, sources):
+    """Returns the agents (list of Agent) that the arguments ask for."""
+    if args.roster:
+        return read_roster(args.roster, days, last, sources)[0]
+    if "=" in args.agents:
+        return given("--agents", lambda text: counts_roster(text, days, last), args.agents)
+    if not args.agents.isdigit():
+        why = "with patience, priorities or --every, give one number of agents, or times of day such as 8:00=3,10:00=5"
+        raise ValueError(f"--agents {args.agents}: {why}")
+    return [Agent()] * int(args.agents)
+
+
+def group_of(args, days, last, sources):
+    """Returns the agents (list of Agent) and the Group that a command's arguments ask for, for a Calendar, its last tick (int), and the source of
+    each record (list of str). Raises ValueError for invalid arguments."""
+    agents = _agents(args, days, last, list(dict.fromkeys(sources)))
+    if not 1 <= len(agents) <= TRUNK:
+        raise ValueError(f"a pool has 1 to {TRUNK} agents, not {len(agents)}")
+    return agents, Group(agents, _priorities(args, set(sources)), args.choose or LONGEST_IDLE)
+
+
+def _judge(args):
+    if args.report:
+        raise ValueError("--report reads a pool that has been run: give no roster, patience, priorities or --every with it")
+    if not args.model or not args.trace or not args.agents and not args.roster:
+        raise ValueError("give a model, a trace, and --roster or --agents")
+    if args.agents and args.roster:
+        raise ValueError("give --roster or --agents, not both")
+    if args.by != "trunk":
+        raise ValueError(f"--by {args.by}: a pool with a roster, patience or priorities has --by trunk")
+    if args.percentile or len(args.within or ()) > 1:
+        raise ValueError("the table per interval has one --within, and the 90th percentile")
+    judge_outputs([args.out, args.out_model], {"model": [args.model], "trace": [args.trace], "roster": [args.roster]})
+
+
+def rows_of_group(args):
+    """Returns the header and the rows (lists) of the table of a pool with a roster, patience or priorities, as HEADS says, and writes the
+    outputs that the arguments ask for. Raises what Queue does, and ValueError for invalid arguments, and if some calls are never served."""
+    _judge(args)
+    days = calendar_of(args, text_of(args.model))
+    every = every_of(args.every or "30min")
+    trace = Trace.read(args.trace)
+    queue = Queue(args.model, trace, args.node)
+    every_source = trace.sources()
+    last = max(queue.arrivals, default=0)
+    agents, group = group_of(args, days, last, every_source)
+    patience, is_drawn = patience_in(args.patience, trace, days.tick, 1 if args.seed is None else args.seed) if args.patience else (None, False)
+    sources = [every_source[job - 1] for job in queue.jobs]
+    who, waits = group.assigned(queue.arrivals, queue.demands, sources, patience and [patience[job - 1] for job in queue.jobs])
+    queue.judge_waits(days, who, waits)
+    model, made = queue.with_group(len(agents), who, waits, patience if is_drawn else None)
+    # The program must find that no call is lost.
+    with locating_errors(made, model=args.model):
+        report = run(model.encode(errors="surrogateescape"), made.lines(), jobs=False)
+    if lost := report[args.node].lost:
+        raise ValueError(f"{counted(lost, 'call')} found no free agent: this is a mistake in planner")
+    with all_written(args.out, args.out_model) as (out, out_model):
+        if out:
+            out.writelines(made.texts())
+        if out_model:
+            out_model.write(model)
+    calls = sources, queue.arrivals, queue.demands, who, waits
+    within = (args.within or [20])[0]
+    return [HEADS, *Table(days_of(days, last, every), calls, agents, within).rows(every, days.tick)]

@@ -1,0 +1,80 @@
+"""The command `mpplan page`: makes an HTML page from existing reports."""
+
+from .. import page
+from ..agents.pools import pool_lines
+from ..files import judge_outputs, text_of, written
+from ..page.network import unlike
+from ..sweeps.plans import labels_of
+from ..sweeps.results import Sweep, load
+from ..times.calendar import settings_in
+from ..times.texts import SECOND, moment
+from ..wording import counted
+from .messages import say
+from .options import calendar_of, calendar_words, calendar_words_in, ticks
+
+EXAMPLE = "mpplan page jobs.txt --model model.txt --out run.html"
+
+
+def words(parser):
+    says = "a report of mpsim or a sweep of mpsweep; with job lines (--jobs) the page has waits"
+    parser.add_argument("reports", metavar="REPORT", nargs="+", help=says)
+    says = "the model, to draw the network: one for all reports, or one per report"
+    parser.add_argument("--model", action="append", default=[], metavar="FILE", help=says)
+    parser.add_argument("--out", metavar="FILE", required=True, help="the page; if the name ends in .svg, a drawing of the first report's network")
+    parser.add_argument("--title", metavar="TEXT", help="title of the page; default: the name of the report")
+    parser.add_argument("--within", type=ticks, metavar="TICKS", help="also show the share served within this many ticks")
+    calendar_words(parser)
+
+
+def axes(args, text):
+    """Returns the options of a page given by a command's arguments and a model's text (str or None): the seconds per tick, and the wall-clock time of
+    time 0. Empty if nothing gives the length of a tick and no argument needs it."""
+    tick, start, _ = settings_in(text or "")
+    if not (tick or calendar_words_in(args)):
+        return {}
+    days = calendar_of(args, text)
+    return {"tick": days.tick / SECOND, "start": moment(days.wall(0)) if args.start or start else None}
+
+
+def _labelled(path, name):
+    """Yields pairs of a label and a report in a file: the label is the file's name, followed in a sweep by the number of the scenario."""
+    loaded = load(path)
+    return [(f"{name} {label}", it) for label, it in loaded.reports().items()] if isinstance(loaded, Sweep) else [(name, loaded)]
+
+
+def _models(args):
+    """Returns the model's text (str or None) for each report file. Raises ValueError unless there is one model, or one per report."""
+    texts = [text_of(item) for item in args.model] or [None]
+    if len(texts) not in (1, len(args.reports)):
+        raise ValueError(f"{len(texts)} models for {counted(len(args.reports), 'report')}: give --model once, or once per report")
+    return texts * len(args.reports) if len(texts) == 1 else texts
+
+
+def print_pools(reports):
+    """Prints which nodes of reports the page shows as pools."""
+    for line in pool_lines(reports, lacks=True):
+        say(line)
+
+
+def main(args):
+    judge_outputs([args.out], {"report": args.reports, "model": args.model})
+    texts, labelled = _models(args), []
+    for at, (path, name) in enumerate(zip(args.reports, labels_of(args.reports))):
+        for label, report in _labelled(path, name):
+            try:
+                report.model = texts[at]
+            except ValueError as error:
+                raise ValueError(f"{args.model[min(at, len(args.model) - 1)]}: {error}") from None
+            if texts[at] is not None and (other := unlike(report)):
+                words = "and its box shows the text of the model; give --model once per report"
+                say(f"warning: {other} of {label} doesn't have the number of servers of the model, {words}")
+            labelled.append((label, report))
+    times = axes(args, texts[0])
+    if args.out.endswith(".svg"):
+        with written(args.out) as file:
+            file.write(page.drawing(labelled[0][1]))
+        return
+    labels = [label for label, _ in labelled]
+    title = args.title or (labels[0] if len(labels) == 1 else None)
+    page.save(args.out, [it for _, it in labelled], labels, title, within=args.within, **times)
+    print_pools([it for _, it in labelled])

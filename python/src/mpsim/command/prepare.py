@@ -1,0 +1,109 @@
+"""The options of `mpplan prepare`."""
+
+import contextlib
+
+from ..exports.prepare import prepare
+from ..files import all_written, judge_outputs, written
+from ..runs import judged_text
+from ..times.formats import NUMBERS
+from ..times.lengths import Lengths
+from ..times.zones import TWICE
+from ..wording import counted
+from .messages import say
+
+EXAMPLE = (
+    "mpplan prepare calls.csv --time Zeit --source Abteilung --demand 'Dauer=talk:min' --zone Europe/Berlin --out trace.csv --first-lines model.txt"
+)
+
+
+def words(parser):
+    """Declares the arguments of `mpplan prepare`."""
+    for declare in _times, _columns, _rows, _file, _outputs:
+        declare(parser.add_argument)
+
+
+def _times(add):
+    add("export", help="the export: a file, also packed (.gz, .bz2, .xz, .zip) or a spreadsheet (.xlsx), or - for standard input")
+    add("--time", required=True, metavar="COLUMN", help="column with the time at which a job arrives")
+    says = f"format of the times: a strptime format, iso, rfc, clock (h:mm:ss) or {', '.join(NUMBERS)}; default: detected"
+    add("--format", metavar="FORMAT", help=says)
+    add("--date", metavar="COLUMN", help="column with the day, if the time is in a column of its own")
+    add("--date-format", metavar="FORMAT", help="format of the day; default: detected")
+    says = "three columns with the year, month and day as numbers, if the time is in another column"
+    add("--day", nargs=3, metavar=("YEAR", "MONTH", "DAY"), help=says)
+    add("--zone", metavar="NAME", help="time zone of times without an offset, e.g. Europe/Berlin; without it every day has 24 hours")
+    add("--twice", choices=list(TWICE), help="which hour is meant when clocks are set back; order: the second from where times in the file go back")
+    add("--tick", metavar="LENGTH", help="length of a tick, e.g. 1s, 100ms, 1ns or 1min; default: from the comments of --model, or 1s")
+    begins = "time 0: hour (the last full hour before the first job, the default), day, first, a time of day such as 8:00, or an ISO 8601 time"
+    add("--begin", default="hour", metavar="WHEN", help=begins)
+
+
+def _columns(add):
+    add("--source", metavar="COLUMN", help="column with the source of a job, or one name for all jobs")
+    units = f"UNIT is one of {', '.join(Lengths.NAMES)}, by default s"
+    units += ", or data at a rate, e.g. bytes@10Gbps"
+    says = f"column with a service time, or e.g. talk=End-Answered+Wrap; {units}; columns of one NAME are added up"
+    add("--demand", action="append", default=[], metavar="COLUMN[=NAME][:UNIT]", help=says)
+    says = "column with the end of a service, which begins at --answered, or else at --time"
+    add("--end", action="append", default=[], metavar="COLUMN[=NAME]", help=says)
+    says = "column with the time at which services of --end begin: one for all, or one per --end"
+    add("--answered", action="append", default=[], metavar="COLUMN", help=says)
+    add("--constant", action="append", default=[], metavar="NAME=LENGTH", help="a service time that all jobs have, e.g. wrap=90s")
+    codes = "column of words, written as numbers for a split; the numbers come from --model, or count from 0"
+    add("--code", action="append", default=[], metavar="COLUMN[=NAME]", help=codes)
+    add("--empty", metavar="LENGTH", help="service time of an empty field; default: its row is left out")
+    add("--rename", action="append", default=[], metavar="OLD=NEW", help="name in the trace (NEW) of a source in the export (OLD)")
+
+
+def _rows(add):
+    says = "use only rows that meet this condition: =, != (text), <, <=, >, >= (numbers or h:mm:ss) or ~ (contains); may be repeated"
+    add("--where", action="append", default=[], metavar="CONDITION", help=says)
+    add("--from", dest="begins", metavar="TIME", help="use only jobs that arrive at this time or later: ISO 8601, e.g. 2026-03-02, or h:mm")
+    add("--until", metavar="TIME", help="use only jobs that arrive before this time")
+    add("--far", action="store_true", help="keep records that lie further from the rest than the rest spans, and more than 30 days")
+    says = "what to do with rows that repeat an earlier row, field by field; default: keep, with a warning"
+    add("--duplicates", choices=["drop", "keep"], help=says)
+    says = "percentage of the rows that may be left out because they can't be read; default: 5%%"
+    add("--left-out-most", default="5%", metavar="PERCENT", help=says)
+
+
+def _file(add):
+    add("--decimal", choices=[".", ","], help="decimal mark; default: detected")
+    add("--delimiter", metavar="CHARACTER", help="character between fields, \\t for a tab; default: detected")
+    says = "text encoding; default: detected (UTF-8, UTF-16 with a byte order mark, or Windows-1252, a superset of printable Latin-1)"
+    add("--encoding", metavar="NAME", help=says)
+    add("--skip", type=int, default=0, metavar="N", help="number of lines to skip before the header")
+    add("--sheet", metavar="NAME", help="the sheet of a spreadsheet; default: the only one")
+    add("--header", metavar="NAMES", help="column names, separated by commas, for an export without a header")
+
+
+def _outputs(add):
+    judges = "a model: it sets the order of sources at equal times; rows of other sources are left out; its columns must be present"
+    add("--model", metavar="FILE", help=judges)
+    add("--left-out", metavar="FILE", help="write the rows that are left out, with their number and the reason")
+    add("--first-lines", metavar="FILE", help="write the first lines of a model for this trace")
+    add("--out-model", metavar="FILE", help="write a copy of --model with the tick, time 0 and codes of this trace")
+    add("--out", metavar="FILE", help="write the trace here; default: - (standard output)")
+
+
+def main(args):
+    """Runs `mpplan prepare`."""
+    options = {name: value for name, value in vars(args).items() if name not in ("command", "main", "export", "first_lines", "out_model", "out")}
+    # Standard output, as without --out.
+    args.out = None if args.out == "-" else args.out
+    judge_outputs([args.out, args.left_out, args.first_lines, args.out_model], {"export": [args.export], "model": [args.model]})
+    if args.out_model and not args.model:
+        raise ValueError("--out-model requires --model")
+    model = judged_text(args.model, say) if args.model else None
+    with all_written(args.left_out, args.first_lines, args.out_model, args.out) as (left_out, lines, out_model, out):
+        made = prepare(**{**options, "export": args.export, "model": model, "left_out": left_out})
+        unlike = [] if args.out_model else [f"{item} (--out-model writes a model for this trace)" for item in made.unlike]
+        warned = [f"warning: {item}" for item in [*made.warned, *unlike]]
+        for line in [*made.told, *warned, f"{counted(len(made), 'record')}, {counted(len(made.names), 'source')}"]:
+            say(line)
+        if lines:
+            lines.write(made.first_lines())
+        if out_model:
+            out_model.write(made.model(model))
+        with contextlib.nullcontext(out) if out else written() as file:
+            file.writelines(made.lines())

@@ -1,0 +1,24 @@
+"""The command `mpplan sojourns`."""
+
+from ..tables.service import PERCENTS
+from ..tables.sheets import write_table
+from ..tables.sojourns import each, table
+from .options import figure_words, report_words, table_words
+from .reports import report_of
+
+EXAMPLE = "mpplan sojourns model.txt trace.csv --by source --within 300"
+
+
+def words(parser):
+    report_words(parser)
+    says = "one row per source (source), per node where jobs left (end), per pair of both, or for all jobs; default: both"
+    parser.add_argument("--by", choices=["both", "source", "end", "all"], default="both", help=says)
+    figure_words(parser, "sojourns", "report the share of sojourns of at most this many ticks")
+    parser.add_argument("--each", action="store_true", help="write one row per job instead of the table")
+    table_words(parser)
+
+
+def main(args):
+    report = report_of(args)
+    rows = each(report) if args.each else list(table(report, args.by, args.within or (), args.percentile or PERCENTS))
+    write_table(rows, args.format, args.csv_style)

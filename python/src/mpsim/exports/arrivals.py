@@ -1,0 +1,108 @@
+"""Chooses time 0 of a trace and turns the moments of its records into ticks."""
+
+from array import array
+from itertools import islice
+
+from ..limits import GREATEST_TIME
+from ..times.calendar import length_text
+from ..times.formats import looks_like_clocks
+from ..times.texts import CLOCK, DAY, HOUR, SECOND, clock, given, iso
+from ..wording import counted
+
+# Records are far from the rest if the gap is longer than the rest spans, and than this.
+FAR = 30 * DAY
+
+
+def ticks(plan, stamps, begin, made):
+    """Returns the times of the trace (array), in ticks from time 0."""
+    readers = [reader.how for reader in plan.readers()]
+    if any(reader.has_none for reader in readers) and any(reader.has_offsets for reader in readers) and not plan.place.name:
+        raise ValueError("some times have an offset from UTC and others have none: give --zone for those")
+    if any(len(reader.halves) > 1 for reader in readers):
+        raise ValueError("some times have AM or PM, but others from 1:00 to 12:59 don't: --format '%I:%M %p' leaves those out")
+    if plan.is_ticks:
+        if begin != "hour":
+            raise ValueError(f"--begin {begin}: it can't be used with times in ticks")
+        looks = looks_like_clocks(stamps[:1000])
+        if looks:
+            made.warned.append(f"times look like {looks}, but are read as ticks: give their --format")
+        return _judged(stamps)
+    first, is_utc = min(stamps), any(reader.has_offsets for reader in readers)
+    zero = _zero(plan, begin, first, is_utc)
+    if zero > first:
+        raise ValueError(f"{counted(sum(stamp < zero for stamp in stamps), 'record')} before --begin {begin}, which is to be time 0")
+    if plan.has_day:
+        made.zero = plan.place.shown(zero) + ("+00:00" if is_utc and not plan.place.name else "")
+    found = _judged(array("q", ((stamp - zero) // plan.per for stamp in stamps)))
+    shown = made.zero or f"{zero // HOUR}:{zero // (60 * SECOND) % 60:02}:{zero // SECOND % 60:02}"
+    made.told.append(f"time 0 is {shown}, a tick is {length_text(plan.per)}, the last record is at {max(found)}")
+    uneven = sum((stamp - zero) % plan.per > 0 for stamp in stamps)
+    if uneven:
+        made.told.append(f"{counted(uneven, 'time')} between two ticks, rounded down")
+    if not plan.has_day:
+        back = sum(later < earlier - 12 * HOUR for earlier, later in zip(stamps, islice(stamps, 1, None)))
+        more = f", although they go back by more than half a day {counted(back, 'time')}" if back else ""
+        made.warned.append(f"times have no day, so all are put on one day{more} (--date)")
+    elif not plan.place.name and max(stamps) - first > DAY:
+        made.told.append(f"days are those of {'UTC' if is_utc else 'a clock that never changes'}: give --zone for another")
+    return found
+
+
+def _judged(ticks):
+    if max(ticks) > GREATEST_TIME:
+        raise ValueError(f"the time {max(ticks)} is above 2^60 ticks, the limit of a trace")
+    return ticks
+
+
+def _zero(plan, begin, first, is_utc):
+    """Returns the moment of time 0, given the first time; `is_utc` says whether some times have an offset from UTC."""
+    place = plan.place
+    if begin == "first":
+        return first
+    if begin == "hour":
+        # A full hour of the wall clock, which need not be one of UTC.
+        return first - place.wall(first) % HOUR
+    midnight = place.wall(first) // DAY * DAY
+    if begin == "day" or CLOCK.fullmatch(begin):
+        return place.first(midnight + (0 if begin == "day" else given("--begin", clock, begin)))
+    wall, offset = given("--begin", iso, begin)
+    if not plan.has_day:
+        raise ValueError(f"--begin {begin}: it has a day, but the times have none")
+    if offset is not None and not is_utc and not place.name:
+        raise ValueError(f"--begin {begin}: it has an offset from UTC, but the times have none: give --zone for those")
+    return given("--begin", lambda _: place.utc(wall), begin) if offset is None else wall - offset
+
+
+def judge_far(plan, rows):
+    """Raises ValueError if the first or the last records (up to 5 percent) lie further from the rest than the rest spans: such a time is usually an
+    empty date of the system that wrote the export."""
+    stamps = rows.stamps
+    if not plan.has_day or plan.is_ticks or len(stamps) < 3 or max(stamps) - min(stamps) <= FAR:
+        return
+    ordered, few = sorted(stamps), max(len(stamps) // 20, 1)
+    begin, end = _far(ordered, few), -_far([-item for item in reversed(ordered)], few)
+    is_early = begin > ordered[0]
+    if not is_early and end == ordered[-1]:
+        return
+    far = [at for at, stamp in enumerate(stamps) if (stamp < begin if is_early else stamp > end)]
+    gap = begin - max(stamps[at] for at in far) if is_early else min(stamps[at] for at in far) - end
+    which = f"{'the first' if is_early else 'the last'} {len(far):,} records lie" if len(far) > 1 else "its record lies"
+    where = f"{which} {counted(gap // DAY, 'day')} {'before' if is_early else 'after'} the rest, which span {counted((end - begin) // DAY, 'day')}"
+    bound = f"--from {_day(plan, begin)}" if is_early else f"--until {_day(plan, end + DAY)}"
+    at = min(far, key=stamps.__getitem__) if is_early else max(far, key=stamps.__getitem__)
+    shown = plan.place.shown(stamps[at])
+    raise ValueError(f"row {rows.row_of(at)}: {shown}: {where}: leave out such rows with {bound}, or keep them with --far")
+
+
+def _far(ordered, few):
+    """Returns the first of these moments (in rising order) that isn't far before the rest; at most `few` are far. The last `few` may be far too, so
+    the rest is measured without them."""
+    last = ordered[-1 - few]
+    for at in range(min(few, len(ordered) - few - 2), 0, -1):
+        if ordered[at] - ordered[at - 1] > max(last - ordered[at], FAR):
+            return ordered[at]
+    return ordered[0]
+
+
+def _day(plan, value):
+    return plan.place.shown(value)[:10]

@@ -1,0 +1,64 @@
+"""Conditions on the rows of an export, such as Direction=inbound or Talk>0."""
+
+import operator
+import re
+from fractions import Fraction
+
+from ..times.lengths import Lengths
+from ..times.texts import Cache, Unread
+from ..wording import listed
+
+_ORDERS = {"<=": operator.le, ">=": operator.ge, "<": operator.lt, ">": operator.gt}
+
+
+class Condition:
+    """A condition on the column of this index. The signs are = and != (the text of the field), ~ (it contains a text, in capitals or not) and <, <=,
+    > and >= (a number with this decimal mark, or h:mm:ss). An empty field is neither smaller nor greater."""
+
+    SIGNS = "!=", *_ORDERS, "=", "~"
+
+    def __init__(self, column, sign, value, decimal=None):
+        self.column, self.sign, self.value = column, sign, value.strip()
+        self._read = Lengths("s", decimal, 1)
+        if sign in _ORDERS:
+            self._bound = self._number(self.value)
+        self._met = Cache(self._judge)
+
+    def holds(self, row):
+        """Returns whether a row meets the condition. Raises Unread or Asks if its field isn't a number but is to be compared."""
+        return self._met[row[self.column]]
+
+    def is_met(self, row):
+        """Returns whether a row meets the condition; False if that can't be told."""
+        try:
+            return self.holds(row)
+        except ValueError:
+            return False
+
+    def _judge(self, text):
+        text = text.strip()
+        if self.sign == "~":
+            return self.value.casefold() in text.casefold()
+        if self.sign not in _ORDERS:
+            return (text == self.value) == (self.sign == "=")
+        return bool(text) and _ORDERS[self.sign](self._number(text), self._bound)
+
+    def _number(self, text):
+        if not text:
+            raise ValueError("expected a number")
+        return Fraction(*self._read.length(text))
+
+
+def parsed(word, export, mark):
+    """Returns the Condition that a text such as `Direction=inbound` gives for an Export; `mark` returns the decimal mark of the numbers of a column.
+    Raises ValueError."""
+    for name in sorted(filter(None, export.header), key=len, reverse=True):
+        found = re.match(rf"\s*({'|'.join(map(re.escape, Condition.SIGNS))})", word[len(name) :])
+        if word.startswith(name) and found:
+            column = export.column(name)
+            try:
+                return Condition(column, found[1], word[len(name) + found.end() :], mark(column) if found[1] in _ORDERS else None)
+            except (Unread, ValueError) as error:
+                raise ValueError(f"--where {word}: {error}") from None
+    signs = ", ".join(Condition.SIGNS)
+    raise ValueError(f"--where {word}: expected COLUMN, one of {signs}, and a value; the columns are {listed(export.header)}")

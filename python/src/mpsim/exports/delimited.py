@@ -1,0 +1,195 @@
+"""Reads exports: text tables with a header, any delimiter and any encoding."""
+
+import codecs
+import csv
+import itertools
+import re
+from collections import Counter
+
+from ..wording import counted
+from .streams import Stream, judge_text
+from .table import Table
+
+DELIMITERS = ";\t,|"
+# The number of rows, and of their characters, examined to detect formats and decimal marks.
+SAMPLE, CHARACTERS = 1 << 15, 1 << 23
+# A field with more lines is reported: an unclosed quote makes one field of the rest.
+LINES = 20
+
+
+# A longer line isn't one of a table.
+LINE = 1 << 24
+
+
+def found_encoding(data):
+    """Returns the encoding (str) of bytes (or of a Stream) and a note about it (str or None). Raises ValueError if it can't be detected.
+
+    >>> found_encoding("Büro\\n".encode("latin-1"))
+    ('cp1252', "line 1 has the byte fc, which isn't UTF-8: the file is read as Windows-1252, a superset of printable Latin-1")
+    """
+    stream = data if isinstance(data, Stream) else Stream(data)
+    begin = next(stream.pieces(), b"")
+    if begin[:2] in (codecs.BOM_UTF16_LE, codecs.BOM_UTF16_BE):
+        return "utf-16", "the encoding is UTF-16"
+    judge_text(begin)
+    has_mark = begin.startswith(codecs.BOM_UTF8)
+    line, byte = _undecodable(stream, "utf-8")
+    if line is None:
+        return "utf-8-sig", "the encoding is UTF-8 with a byte order mark" if has_mark else None
+    if has_mark:
+        raise _undecoded(line, byte, "UTF-8, although the file has a UTF-8 byte order mark")
+    what = f"line {line} has the byte {byte:02x}, which isn't UTF-8"
+    line, byte = _undecodable(stream, "cp1252")
+    if line is not None:
+        raise _undecoded(line, byte, "UTF-8 or Windows-1252")
+    return "cp1252", f"{what}: the file is read as Windows-1252, a superset of printable Latin-1"
+
+
+def _undecodable(stream, encoding):
+    """Returns the line and the first byte (int) that an encoding can't decode; None and None if there is none."""
+    decoder, lines, kept, long = codecs.getincrementaldecoder(encoding)(), 1, b"", 0
+    for piece in itertools.chain(stream.pieces(), [None]):
+        try:
+            decoder.decode(piece or b"", final=piece is None)
+        except UnicodeDecodeError as error:
+            return lines + error.object.count(b"\n", 0, error.start) - kept.count(b"\n"), error.object[error.start]
+        # What the decoder keeps of a character at the end of a piece.
+        kept = decoder.getstate()[0]
+        lines += (piece or b"").count(b"\n")
+        long = 0 if piece is None or b"\n" in piece or b"\r" in piece else long + len(piece)
+        if long > LINE:
+            raise ValueError(f"line {lines} is longer than {LINE:,} bytes")
+    return None, None
+
+
+def _undecoded(line, byte, encoding):
+    return ValueError(f"line {line}: the byte {byte:02x} isn't valid {encoding} (--encoding)")
+
+
+def _given_encoding(stream, name):
+    """Returns the codec for an encoding given by name; a byte order mark isn't part of the text. Raises ValueError for an unknown encoding and for
+    bytes that it can't decode."""
+    try:
+        name = codecs.lookup(name).name
+        b"a".decode(name, errors="replace")
+        line, byte = _undecodable(stream, name)
+    except (LookupError, TypeError, UnicodeError):
+        raise ValueError(f"unknown encoding {name!r} (--encoding)") from None
+    if line is not None:
+        raise _undecoded(line, byte, name)
+    marks = {"utf-8": codecs.BOM_UTF8, "utf-16-le": codecs.BOM_UTF16_LE, "utf-16-be": codecs.BOM_UTF16_BE}
+    if next(stream.pieces(), b"").startswith(marks.get(name, b"\n")):
+        return "utf-8-sig" if name == "utf-8" else "utf-16"
+    return name
+
+
+def found_delimiter(lines):
+    """Returns the delimiter of lines: among those with which nine rows in ten have as many fields as the header, the one that gives the most fields.
+    Raises ValueError for a tie.
+
+    >>> found_delimiter(["a;b;c\\n", "1,0;2,5;x\\n"])
+    ';'
+    """
+    scores = []
+    for mark in DELIMITERS:
+        try:
+            counts = [len(row) for row in csv.reader(lines, delimiter=mark) if row]
+        except csv.Error:
+            continue
+        if counts and counts[0] > 1:
+            share = Counter(counts)[counts[0]] / len(counts)
+            scores.append((share >= 0.9, counts[0], share, mark))
+    scores.sort(reverse=True)
+    if len(scores) > 1 and scores[0][:3] == scores[1][:3]:
+        raise ValueError(f"the delimiter could be {scores[0][3]!r} or {scores[1][3]!r} (--delimiter)")
+    return scores[0][3] if scores else ","
+
+
+class Export(Table):
+    """An export: its `header` (list of str), its `rows()`, a `sample` of them, and `notes`, the notes on what was detected (lists of str).
+
+    `data` is the bytes of the file, or a Stream; arguments that aren't given are detected. `header` (str) lists the column names, separated by
+    commas, if the export has none. Raises ValueError if the export is empty or needs another option."""
+
+    def __init__(self, data, encoding=None, delimiter=None, skip=0, header=None):
+        self._stream = data if isinstance(data, Stream) else Stream(data)
+        super().__init__(skip, header, self._stream.notes)
+        if encoding:
+            self._encoding = _given_encoding(self._stream, encoding)
+        else:
+            self._encoding, says = found_encoding(self._stream)
+            self.notes += [says] if says else []
+        first = next(self._lines(), "")
+        if found := re.fullmatch(r"sep=(.)\r?\n?", first):
+            # A spreadsheet's own line that names its delimiter.
+            delimiter, self._skip = delimiter or found[1], self._skip + 1
+        self.delimiter = self._found_delimiter() if delimiter is None else delimiter.replace("\\t", "\t")
+        if len(self.delimiter) != 1 or self.delimiter in '"\r\n':
+            raise ValueError(f"{delimiter!r} isn't a delimiter, which is one character (--delimiter)")
+        self.header = self._header(skip)
+        if header is not None:
+            self.header = [part.strip() for part in header.split(",")]
+        self.sample = self._sample()
+
+    def _lines(self, skip=None):
+        """Returns an iterator over the lines after `skip` lines (by default those before the header), with their line ends."""
+        return itertools.islice(self._stream.text(self._encoding), self._skip if skip is None else skip, None)
+
+    def _found_delimiter(self):
+        found = found_delimiter(list(itertools.islice(self._lines(), 200)))
+        self.notes.append(f"the delimiter is {found!r}")
+        return found
+
+    def _header(self, skip):
+        try:
+            header = next(self._reader(self._lines()), [])
+        except csv.Error as error:
+            raise ValueError(f"row {self._skip + 1}: {error}: is a closing quote missing?") from None
+        if not any(item.strip() for item in header):
+            raise ValueError(self._no_header(skip))
+        return [item.strip() for item in header]
+
+    def _no_header(self, skip):
+        """Returns why there is no header."""
+        if any(line.strip() for line in self._lines()):
+            return "it begins with an empty line: give the number of lines before its header with --skip"
+        lines = list(self._lines(0))
+        is_empty = skip == 0 or not any(line.strip() for line in lines)
+        return "the file is empty" if is_empty else f"--skip {skip}: the file has {counted(len(lines), 'line')}, so no header is left"
+
+    def _reader(self, lines):
+        return csv.reader(lines, delimiter=self.delimiter)
+
+    def rows(self):
+        """Returns a reader of the rows after the header, which counts lines, and the number of the first row, counted as in a spreadsheet."""
+        reader = self._reader(self._lines())
+        if self._has_header:
+            next(reader)
+        return reader, self._skip + 1 + self._has_header
+
+    @property
+    def size(self):
+        """The number of lines."""
+        return sum(piece.count(b"\n") for piece in self._stream.pieces())
+
+    def _sample(self):
+        """Returns rows from the beginning and some from the end, since days above 12 may come late."""
+        (reader, first), size = self.rows(), 0
+        parts, rows = [itertools.islice(reader, SAMPLE)], []
+        if not self._encoding.startswith("utf-16"):
+            tail = self._stream.tail(1 << 16).decode(self._encoding, errors="replace")
+            parts.append(itertools.islice(self._reader(tail.splitlines(keepends=True)), 1, None))
+        for part in parts:
+            try:
+                for row in part:
+                    rows.append(row)
+                    size += sum(map(len, row))
+                    if size > CHARACTERS:
+                        break
+            except csv.Error as error:
+                if part is parts[0]:
+                    raise ValueError(f"row {first + len(rows)}: {error}: is a closing quote missing?") from None
+        tall = next((at for at, row in enumerate(rows) if any(item.count("\n") > LINES for item in row)), None)
+        if tall is not None and len(rows[tall]) < len(self.header):
+            raise ValueError(f"row {first + tall}: a field has more than {LINES} lines: is a closing quote missing?")
+        return [row for row in rows if len(row) >= len(self.header)]

@@ -1,0 +1,80 @@
+"""Service times that are sums and differences of columns, such as talk=End-Answered+Wrap."""
+
+import re
+from fractions import Fraction
+
+from ..limits import GREATEST_VALUE
+from ..times.texts import Asks, Unread
+
+_NAME = re.compile(r"\s*([a-z][a-z0-9_]*)\s*=")
+_UNIT = re.compile(r":([\w:@.]+)")
+_SIGN = re.compile(r"\s*([+-])\s*|\s*$")
+
+
+def terms(word, export):
+    """Returns the name (str) of a text such as `talk=End-Answered+Wrap:min`, and its terms: the sign (1 or -1), the index of the column and the unit
+    or None of each. Columns may contain signs: the longest name counts. Returns None if the text isn't of this form."""
+    begin = _NAME.match(word)
+    if not begin:
+        return None
+    found, at, sign = [], begin.end(), 1
+    names = sorted(filter(None, export.header), key=len, reverse=True)
+    while True:
+        at += len(word[at:]) - len(word[at:].lstrip())
+        name = next((name for name in names if word.startswith(name, at) and _rest(word, at + len(name))), None) or _number(word, at)
+        if name is None:
+            return None
+        unit, end = _rest(word, at + len(name))
+        found.append((sign, export.column(name), unit))
+        if end[1] is None:
+            return begin[1], found
+        sign, at = -1 if end[1] == "-" else 1, end.end()
+
+
+def _number(word, at):
+    found = re.compile(r"#\d+").match(word, at)
+    return found[0] if found and _rest(word, found.end()) else None
+
+
+def _rest(word, at):
+    """Returns the unit that follows a column, and the sign or the end after it (a match); None if something else follows."""
+    unit = _UNIT.match(word, at)
+    end = _SIGN.match(word, unit.end() if unit else at)
+    return (unit and unit[1], end) if end else None
+
+
+class Expression:
+    """A sum of columns with signs: `times` (list of pairs of a sign and Times), of which as many are added as subtracted, and `lengths` (list of
+    triples of a sign, the index of a column and its Lengths). The result is rounded to ticks once."""
+
+    def __init__(self, name, times, lengths, tick, empty=None):
+        self.name, self.times, self.lengths, self.tick, self.empty = name, times, lengths, tick, empty
+        self.column = times[0][1].column if times else lengths[0][1]
+        self.code, self.rounded = None, 0
+
+    def of(self, row, begun):
+        total, at = Fraction(0), self.column
+        try:
+            for sign, item in self.times:
+                at = item.column
+                total += sign * item.later(row, begun[0])
+            for sign, at, how in self.lengths:
+                if self.empty is not None and not row[at].strip():
+                    total += sign * self.empty * self.tick
+                else:
+                    length, tick = how.length(row[at])
+                    total += Fraction(sign * length * self.tick, tick)
+            at = self.column
+            if total < 0:
+                raise Unread(f"{self.name} is below 0")
+        except (Unread, Asks) as error:
+            error.column = at
+            raise
+        ticks = (2 * total + self.tick) // (2 * self.tick)
+        if ticks > GREATEST_VALUE:
+            raise Unread("above 2^36 ticks")
+        self.rounded += total % self.tick > 0
+        return int(ticks)
+
+    def many(self, columns):
+        raise Unread("one by one")

@@ -1,0 +1,287 @@
+"""Decides how to read the columns of an export: what is given, what is detected, and what must be asked for."""
+
+import contextlib
+from difflib import get_close_matches
+from itertools import islice
+
+from ..limits import GREATEST_VALUE
+from ..model import columns, sources
+from ..names import TAKEN, is_name, name_for
+from ..times.formats import found_format, judged_format
+from ..times.lengths import Lengths, found_decimal
+from ..times.moments import Moments
+from ..times.texts import clock, given, iso, length
+from ..times.zones import Zone
+from ..wording import listed
+from .codes import codes_in
+from .conditions import parsed
+from .expressions import Expression, terms
+from .records import Dates, Numbers, Records, Times
+from .values import Code, Constant, Demand, End, Sum
+
+# The most columns of a trace.
+COLUMNS = 16
+# The most sources listed in a message; a wrong column may have one per row.
+LISTED = 20
+
+
+class Plan:
+    """How to read the columns of an Export, in a Zone, with a tick (int, nanoseconds). `notes` and `warned` (lists of str) are notes on what was
+    detected. The texts are options of `mpplan prepare`; `model` is a model's text or None. Raises ValueError for an invalid option, and if another
+    is needed."""
+
+    def __init__(self, export, place, per, format, decimal, model):
+        self.export, self.place, self.per, self.decimal, self.model = export, place, per, decimal, model
+        self.format = judged_format(format) if format else None
+        self.notes, self.warned, self.columns, self.conditions = list(export.notes), [], [], []
+        self._sample = export.sample
+
+    def where(self, words):
+        """Sets the conditions on rows. Formats are then detected from the rows that meet them."""
+        self.conditions = [parsed(word, self.export, self._mark) for word in words]
+        if self.conditions:
+            self._sample = [row for row in self._sample if all(condition.is_met(row) for condition in self.conditions)] or self._sample
+
+    def _texts(self, column):
+        return [row[column] for row in self._sample]
+
+    def _moments(self, column, form, option="--format"):
+        name = self.export.header[column]
+        if form is None:
+            try:
+                form = found_format(self._texts(column))
+            except ValueError as error:
+                raise ValueError(f"column {name!r}: {error} ({option})") from None
+            self.notes.append(f"column {name!r} is read as {form}")
+        return Moments(form, self.place)
+
+    def _more_times(self, column):
+        """Returns another column of times, given its index. It uses the given format if its texts have it."""
+        name = self.export.header[column]
+        texts = [text for text in self._texts(column) if text.strip()][:100]
+        form = self.format if self.format and 10 * sum(map(Moments(self.format, Zone()).is_one, texts)) >= 9 * len(texts) else None
+        how = self._moments(column, form)
+        if self.time.how.is_of_day and how.form == "excel":
+            how.make_of_day()
+        if (how.form == "ticks") != self.is_ticks:
+            raise ValueError(f"column {name!r} is read as {how.form}, but column {self.export.header[self.time.column]!r} as {self.time.how.form}")
+        return Times(column, how, self.place)
+
+    def _dates(self, date, date_format, day):
+        """Returns the column or columns with the day of a time, or None, and the option that names them (str)."""
+        if date is not None and day is not None:
+            raise ValueError("--date and --day exclude each other: give one of them")
+        if date is not None:
+            at = self.export.column(date)
+            return Dates(at, self._moments(at, date_format and judged_format(date_format), "--date-format")), "--date"
+        if day is None:
+            return None, None
+        columns = list(map(self.export.column, day))
+        if len(set(columns)) != 3 or len(columns) != 3:
+            raise ValueError(f"--day {' '.join(day)}: expected three columns: the year, the month and the day")
+        return Numbers(columns), "--day"
+
+    def times(self, time, date, date_format, day, answered):
+        """Sets the columns of arrival times and of service beginnings."""
+        column = self.export.column(time)
+        how = self._moments(column, self.format)
+        dates, option = self._dates(date, date_format, day)
+        if dates:
+            if not how.is_of_day and how.form != "excel":
+                raise ValueError(f"column {time!r} isn't only a time of day, so {option} can't be used")
+            how.make_of_day()
+        self.has_day, self.is_ticks = not how.is_of_day or dates is not None, how.form == "ticks"
+        if self.place.name and (self.is_ticks or not self.has_day):
+            raise ValueError(f"column {time!r} has {'ticks' if self.is_ticks else 'no day'}, so --zone can't be used")
+        if date_format and not date:
+            raise ValueError("--date-format requires --date")
+        self.time = Times(column, how, self.place, dates)
+        self.answered = [self._more_times(self.export.column(name)) for name in answered]
+
+    def readers(self):
+        """Returns all columns of times."""
+        parts = [part for column in self.columns for part in getattr(column, "parts", [column])]
+        ends = [part.times for part in parts if isinstance(part, End)]
+        return [self.time, *self.answered, *ends, *(times for part in parts if isinstance(part, Expression) for _, times in part.times)]
+
+    def _named(self, name, column=None):
+        """Returns the name of a column of the trace, by default made from its name in the export."""
+        taken = [column.name for column in self.columns]
+        made = name or name_for(self.export.header[column], taken)
+        if not is_name(made) or made in taken:
+            why = "is already taken" if made in taken else "is reserved"
+            if made not in (*taken, *TAKEN):
+                why = "is invalid: use a lower-case letter, then lower-case letters, digits and underscores, at most 32"
+            raise ValueError(f"the column's name {made!r} {why}")
+        if not name and made != self.export.header[column]:
+            self.notes.append(f"column {self.export.header[column]!r} is called {made}")
+        return made
+
+    def _ticks(self, option, text):
+        ticks, left = divmod(given(option, length, text), self.per)
+        if left or ticks > GREATEST_VALUE:
+            raise ValueError(f"{option} {text} is {'not a whole number of' if left else 'more than 2^36'} ticks")
+        return ticks
+
+    def values(self, demand, end, constant, code, empty):
+        """Sets the columns of the trace."""
+        empty = None if empty is None else self._ticks("--empty", empty)
+        for word in demand:
+            self._demand(word, empty)
+        if self.answered and not end:
+            raise ValueError("--answered requires --end")
+        if len(self.answered) not in (0, 1, len(end)):
+            raise ValueError(f"--answered is given {len(self.answered)} times for {len(end)} of --end: give it once, or once per --end")
+        for number, word in enumerate(end, 1):
+            column, name, _ = self.export.parse(word)
+            times = self._more_times(column)
+            begin = min(number, len(self.answered))
+            self._add(End(name or self._named(name, column), times, 1 if self.is_ticks else self.per, empty, begin))
+        for word in constant:
+            name, equals, value = word.partition("=")
+            if not equals:
+                raise ValueError(f"--constant {word}: expected NAME=LENGTH, e.g. wrap=90s")
+            self.columns.append(Constant(self._named(name), self._ticks(f"--constant {name}", value)))
+        for item in self.columns:
+            if isinstance(item, Sum):
+                self.notes.append(f"{item.name} is the sum of {' and '.join(repr(self.export.header[part.column]) for part in item.parts)}")
+        known = codes_in(self.model or "")
+        for word in code:
+            column, name, _ = self.export.parse(word)
+            name = self._named(name, column)
+            self.columns.append(Code(name, column, known.get(name)))
+        if len(self.columns) > COLUMNS:
+            raise ValueError(f"{len(self.columns)} columns; the limit of a trace is {COLUMNS}")
+        lacking = [item for item in columns(self.model or "") if item not in [column.name for column in self.columns]]
+        if lacking:
+            raise ValueError(f"the model names {', '.join(lacking)}, which no --demand, --end, --constant or --code provides")
+
+    def _demand(self, word, empty):
+        """Adds a column of service times, or adds it to a column of the same name."""
+        try:
+            column, name, unit = self.export.parse(word, has_unit=True)
+        except ValueError:
+            found = terms(word, self.export)
+            if found is None:
+                raise
+            return self._add(self._expression(word, *found, empty))
+        how = Lengths(unit or "s", self._mark(column), self.per)
+        at = next((at for at, it in enumerate(self.columns) if it.name == name), None)
+        known = [part.column for part in getattr(self.columns[at], "parts", [self.columns[at]])] if at is not None else []
+        if column in known:
+            raise ValueError(f"--demand {word}: the column {self.export.header[column]!r} is already part of {name}")
+        return self._add(Demand(name or self._named(name, column), column, how, empty))
+
+    def _add(self, value):
+        """Adds a column of the trace, or adds it to a column of service times of the same name."""
+        at = next((at for at, it in enumerate(self.columns) if it.name == value.name), None)
+        if at is None or isinstance(self.columns[at], (Constant, Code)):
+            self._named(value.name)
+            self.columns.append(value)
+        else:
+            self.columns[at] = Sum([*getattr(self.columns[at], "parts", [self.columns[at]]), value])
+
+    def _expression(self, word, name, found, empty):
+        """Returns the Expression with these terms. Columns that look like those of --time are times."""
+        times, lengths = [], []
+        for sign, column, unit in found:
+            if unit is None and self._is_time(column):
+                times.append((sign, self._more_times(column)))
+            else:
+                lengths.append((sign, column, Lengths(unit or "s", self._mark(column), self.per)))
+        if sum(sign for sign, _ in times) != 0:
+            raise ValueError(f"--demand {word}: as many times must be subtracted as are added; a service time may need its unit, e.g. Wrap:s")
+        if self.is_ticks and times:
+            raise ValueError(f"--demand {word}: times in ticks can't be subtracted")
+        return Expression(name, times, lengths, self.per, empty)
+
+    def _is_time(self, column):
+        how = Moments(self.time.how.form, Zone())
+        texts = [text for text in self._texts(column) if text.strip()][:100]
+        return 2 * sum(map(how.is_one, texts)) > len(texts)
+
+    def _mark(self, column):
+        try:
+            return self.decimal or found_decimal(set(self._texts(column)))
+        except ValueError as error:
+            raise ValueError(f"column {self.export.header[column]!r}: {error} (--decimal)") from None
+
+    def sources(self, source, rename):
+        """Sets the sources, which completes the plan."""
+        header, known = self.export.header, sources(self.model) if self.model else None
+        column, only, renamed = None, source or "jobs", {}
+        for old, new in map(_renamed, rename):
+            if old in renamed:
+                raise ValueError(f"--rename {old} is given twice")
+            renamed[old] = new
+        if source in header:
+            column, only = self.export.column(source), None
+        elif not is_name(only) or source and only.casefold() in map(str.casefold, header):
+            raise ValueError(f"no column {source!r} for --source; it has {listed(header)}")
+        elif known is not None and only not in known:
+            raise ValueError(f"the model has no source {only} (--source)")
+        elif source:
+            self.notes.append(f"all records get the source {source}")
+            if like := get_close_matches(source, header, 1, 0.8):
+                self.warned.append(f"no column is called {source!r}, but one is called {like[0]!r} (--source)")
+        if renamed and column is None:
+            raise ValueError("--rename requires a column for --source")
+        self.records = Records(len(header), self.time, self.answered, self.columns, column, only, renamed, known)
+        self.records.conditions, self.records.ended = self.conditions, self._in_order_of()
+        # The rows from which formats were detected aren't needed any more.
+        self._sample = self.export.sample = []
+
+    def _in_order_of(self):
+        """Returns the ends of services (Times) if the rows are in order of those and not of the arrivals, which matters for --twice order; else
+        None."""
+        ends = [column.times for column in self.columns if isinstance(column, End) and not column.times.how.is_of_day]
+        if self.place.twice != "order" or self.time.dates or len(ends) != 1:
+            return None
+        found = [self._descents(times) for times in (self.time, ends[0])]
+        if found[1] < found[0]:
+            self.notes.append(f"rows are in order of {self.export.header[ends[0].column]!r}")
+            return ends[0]
+        return None
+
+    def _descents(self, times):
+        """Returns how often times of the sample go back, by a clock that never changes."""
+        how, found = Moments(times.how.form, Zone()), []
+        for text in self._texts(times.column):
+            with contextlib.suppress(ValueError, OverflowError):
+                found.append(how.of(text))
+        return sum(later < earlier for earlier, later in zip(found, islice(found, 1, None)))
+
+    def between(self, begins, until):
+        """Sets the times between which jobs arrive."""
+        self.records.begins, self.records.ends = (text and self._bound(option, text) for option, text in (("--from", begins), ("--until", until)))
+
+    def _bound(self, option, text):
+        """Returns the moment of --from or --until."""
+        if self.is_ticks:
+            raise ValueError(f"{option} {text}: it can't be used with times in ticks")
+        if not self.has_day:
+            return given(option, clock, text)
+        wall, offset = given(option, iso, text)
+        return wall - offset if offset is not None else self.place.first(wall)
+
+    def judge_renames(self):
+        """Checks the names given with --rename once all rows are read; names of sources whose rows were all left out are valid too. Returns a note
+        (str) for each name that no row has, since a list of names may cover many days. Raises ValueError if no row has any of them."""
+        if self.records.renamed.keys() <= self.records.names.keys():
+            return []
+        column = self.records.source
+        found = dict.fromkeys(row[column].strip() for row in self.export.rows()[0] if column < len(row))
+        lacking = [old for old in self.records.renamed if old not in found]
+        if len(lacking) < len(self.records.renamed):
+            return [f"no source {old!r} for --rename" for old in lacking]
+        listed = [repr(item) for item in found if item]
+        more = f" and {len(listed) - LISTED} more" if listed[LISTED:] else ""
+        raise ValueError(f"no source {lacking[0]!r} for --rename; it has {', '.join(listed[:LISTED]) or 'none'}{more}")
+
+
+def _renamed(word):
+    old, equals, new = word.rpartition("=")
+    if not equals or not is_name(new):
+        why = "is a lower-case letter, then lower-case letters, digits and underscores, at most 32" if new not in TAKEN else "isn't reserved"
+        raise ValueError(f"--rename {word}: expected OLD=NEW, where NEW {why}")
+    return old.strip(), new

@@ -1,0 +1,207 @@
+"""Turns rows of an export into records of a trace."""
+
+import re
+
+from ..limits import SOURCES
+from ..names import name_for
+from ..times.texts import DAY, Asks, Cache, Unread, day_of
+
+# Moments are stored as 64-bit integers, which reach from 1684 to 2255.
+MOST = 9 * 10**18
+
+
+class Dates:
+    """A column of dates: its index (`column`) and `how` to read it (Moments)."""
+
+    def __init__(self, column, how):
+        self.column, self.how = column, how
+
+    def midnight(self, row):
+        """Returns the wall-clock midnight of a row's day (int, nanoseconds since 1970). Raises Unread or Asks, with the `column`."""
+        try:
+            return self.how.dates[row[self.column]]
+        except ValueError as error:
+            error.column = self.column
+            raise
+
+
+class Numbers:
+    """Three columns of numbers that give a day: the indices (`columns`) of its year, month and day.
+
+    >>> from mpsim.exports.records import Numbers
+    >>> Numbers([2, 0, 1]).midnight(["3", "02", "1970"]) // DAY
+    60
+    """
+
+    def __init__(self, columns):
+        self.columns, self._midnights = tuple(columns), Cache(self._work)
+
+    def midnight(self, row):
+        """Does what Dates.midnight does."""
+        year, month, day = self.columns
+        return self._midnights[row[year], row[month], row[day]]
+
+    def _work(self, texts):
+        year = self._number(0, texts, r"[1-9]\d{3}", "not a year of four digits")
+        month = self._number(1, texts, r"0?[1-9]|1[0-2]", "not a month from 1 to 12")
+        day = self._number(2, texts, r"0?[1-9]|[12]\d|3[01]", "not a day from 1 to 31")
+        try:
+            return day_of(year, month, day)
+        except Unread:
+            raise self._error(2, "not a day of its month") from None
+
+    def _number(self, at, texts, pattern, why):
+        text = texts[at].strip()
+        if not re.fullmatch(pattern, text, re.ASCII):
+            raise self._error(at, why if text else "empty")
+        return int(text)
+
+    def _error(self, at, why):
+        error = Unread(why)
+        error.column = self.columns[at]
+        return error
+
+
+class Times:
+    """A column of times: its index (`column`) and `how` to read it (Moments), in a Zone; if it has only a time of day, `dates` (Dates, Numbers or
+    None) gives the day."""
+
+    def __init__(self, column, how, zone, dates=None):
+        self.column, self.how, self.zone, self.dates = column, how, zone, dates
+        self._seen = {}
+
+    def first(self, row, until=None):
+        """Returns the moment of a row; if its hour occurs twice, the last that isn't after `until`, if given. Without a date it is on day 0."""
+        if self.dates is None:
+            return self.how.of(row[self.column], None, until)
+        return self.zone.utc(self.dates.midnight(row) + self.how.of(row[self.column]), self._seen, None, until)
+
+    def later(self, row, than):
+        """Returns the moment of a row at or after another one. A time of day is its next occurrence."""
+        value = self.how.of(row[self.column], than)
+        if not self.how.is_of_day:
+            return value
+        shown = self.zone.wall(than)
+        midnight = shown // DAY * DAY
+        try:
+            moment = self.zone.utc(midnight + value, self._seen, than)
+        except Unread:
+            # It is skipped on this day, before `than`, so it is on the next.
+            if midnight + value >= shown:
+                raise
+            moment = than - 1
+        return moment if moment >= than else self.zone.utc(midnight + DAY + value, self._seen, than)
+
+
+class TooManySources(ValueError):
+    """An export has more sources than a model may have."""
+
+
+class Left(ValueError):
+    """A row to leave out: the index of the column that can't be read, None for the whole row, and the reason."""
+
+    def __init__(self, column, why):
+        super().__init__(column, why)
+        self.column, self.why = column, why
+
+
+class Unwanted(Exception):
+    """A row that a condition excludes."""
+
+
+class Records:
+    """Makes records from rows. `width` is the number of fields in the header, `time` the arrival (Times), `answered` the beginnings of services with
+    an `End` (list of Times), `values` the columns of the trace. `source` is a column, or `only` the name that all records get; `renamed` has given
+    names, and `known` the allowed ones (None for any). Rows that don't meet all `conditions` (list of Condition), and those that arrive before
+    `begins` or not before `ends` (moments or None), are excluded. `ended` (Times or None) are ends of services if the rows are in their order, which
+    says which hour is meant if it occurs twice."""
+
+    def __init__(self, width, time, answered, values, source=None, only=None, renamed=None, known=None):
+        self.width, self.time, self.answered, self.values = width, time, answered, values
+        self.source, self.only, self.known = source, only, known
+        self.renamed, self.names, self.conditions, self.begins, self.ends = renamed or {}, {}, [], None, None
+        self.ended = None
+        self._taken, self._used = set(self.renamed.values()), set()
+        self._named, self._numbers = Cache(self._name_of), {}
+        self._codes = [at for at, it in enumerate(values) if it.code]
+
+    def _name_of(self, text):
+        text = text.strip()
+        if not text:
+            raise Unread("empty")
+        if text in self.names:
+            return self.names[text]
+        made = self.renamed.get(text) or name_for(text, self._taken, self._numbers)
+        if self.known is None and made not in self._used and len(self._used) >= SOURCES:
+            raise TooManySources(f"more than {SOURCES} sources, the limit of a model: give one name for all, or --rename several to one")
+        if self.known is not None and made not in self.known:
+            raise Unread(f"the model has no source {made}")
+        self.names[text] = made
+        self._taken.add(made)
+        self._used.add(made)
+        return made
+
+    def many(self, rows):
+        """Returns records as columns (sources, moments, and each of the values) for rows that need no individual treatment. Raises ValueError if one
+        may; nothing visible has changed then."""
+        if self.time.dates or self.answered or self.ended or set(map(len, rows)) != {self.width}:
+            raise Unread("one by one")
+        if not all(condition.holds(row) for condition in self.conditions for row in rows):
+            raise Unread("one by one")
+        columns = list(zip(*rows))
+        stamps = self.time.how.many(columns[self.time.column])
+        first, last = min(stamps), max(stamps)
+        if not -MOST < first <= last < MOST or not self._is_within(first) or not self._is_within(last):
+            raise Unread("one by one")
+        values = [value.many(columns) for value in self.values]
+        named = [self.only] * len(rows) if self.source is None else list(map(self._named.__getitem__, columns[self.source]))
+        for at in self._codes:
+            values[at] = list(map(self.values[at].code, rows))
+        return [named, stamps, *values]
+
+    def _is_within(self, stamp):
+        return (self.begins is None or stamp >= self.begins) and (self.ends is None or stamp < self.ends)
+
+    def of(self, row):
+        """Returns a record: a list of the source, the moment, and the values. Raises Left if the row can't be read, Unwanted if it is excluded, and
+        Asks, with the `column`."""
+        if len(row) != self.width and (len(row) < self.width or any(row[self.width :])):
+            raise Left(None, f"the number of fields isn't the header's {self.width}")
+        at = self.time.column
+        try:
+            for condition in self.conditions:
+                at = condition.column
+                if not condition.holds(row):
+                    raise Unwanted
+            until = None
+            if self.ended is not None and row[self.ended.column].strip():
+                at = self.ended.column
+                until = self.ended.first(row)
+            at = self.time.column
+            stamp = self.time.first(row, until)
+            if not -MOST < stamp < MOST:
+                raise Unread("out of the range of times")
+            if not self._is_within(stamp):
+                raise Unwanted
+            begun = [stamp]
+            for item in self.answered:
+                at = item.column
+                begun.append(item.later(row, stamp))
+                if begun[-1] < stamp:
+                    raise Unread("before the job arrives")
+            made = [None, stamp]
+            for value in self.values:
+                at = value.column
+                made.append(value.of(row, begun))
+            at = self.source
+            made[0] = self.only if at is None else self._named[row[at]]
+        except Unread as error:
+            raise Left(getattr(error, "column", at), str(error)) from None
+        except OverflowError:
+            raise Left(at, "out of the range of dates") from None
+        except Asks as error:
+            error.column = getattr(error, "column", at)
+            raise
+        for at in self._codes:
+            made[at + 2] = self.values[at].code(row)
+        return made

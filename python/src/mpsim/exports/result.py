@@ -1,0 +1,58 @@
+"""A trace made from an export, and the first lines of its model."""
+
+from array import array
+
+from ..times.calendar import first_lines, with_settings
+from .codes import line_of, with_codes, word_of
+
+# The most bytes of a trace.
+BYTES = 1 << 27
+# Rows are processed in chunks that fit the processor's cache.
+CHUNK = 1 << 10
+
+
+class Prepared:
+    """A trace made from an export.
+
+    `header` (list of str) has the column names; `sources` (list of str), `times` (array of int, ticks) and `values` (list of arrays of int) are the
+    records in output order; `names` are the sources in the order of the model. `told` and `warned` (lists of str) say what was done, `unlike` (list
+    of str) where the first lines of the model differ from those of this trace, and `left` (dict) how many rows were left out, by reason. `tick` (int,
+    nanoseconds), `zero` (ISO 8601 text or None) and `zone` (str or None) define the ticks; `codes` has the number of each word by column (dict of
+    dicts), `texts` the text of each source whose name doesn't show it (dict)."""
+
+    def __init__(self, header, names, tick, zone):
+        self.header, self.names, self.tick, self.zone, self.codes = header, names, tick, zone, {}
+        self.sources, self.times, self.values = [], array("q"), [array("q") for _ in header[2:]]
+        self.told, self.warned, self.unlike, self.left, self.texts, self.zero = [], [], [], {}, {}, None
+
+    def __len__(self):
+        return len(self.times)
+
+    def rows(self):
+        """Yields the source, time and values of each record."""
+        return zip(self.sources, self.times, *self.values)
+
+    def lines(self):
+        """Yields the text of the trace in pieces."""
+        yield (header := ",".join(self.header) + "\n")
+        size = len(header)
+        for at in range(0, len(self), CHUNK):
+            numbers = [map(str, value[at : at + CHUNK]) for value in (self.times, *self.values)]
+            text = "\n".join(map(",".join, zip(self.sources[at : at + CHUNK], *numbers))) + "\n"
+            size += len(text)
+            if size > BYTES:
+                raise ValueError(f"the trace is longer than {BYTES:,} bytes, the limit of mpsim: shorten the export")
+            yield text
+
+    def first_lines(self):
+        """Returns the first lines of a model for this trace. `mpplan days`, `hours` and others take the tick and time 0 from them, the next
+        `prepare` the codes."""
+        codes = [f"# {name} is {word_of(text)}" for name, text in self.texts.items()] + [line_of(*item) for item in self.codes.items()]
+        return first_lines(self.tick, self.zero, self.zone, self.header[2:], self.names, filter(None, codes))
+
+    def model(self, text):
+        """Returns a model's text with the tick, time 0 and codes of this trace in its first lines."""
+        text = with_settings(text, self.tick, self.zero, self.zone)
+        for name, codes in self.codes.items():
+            text = with_codes(text, name, codes)
+        return text

@@ -1,0 +1,51 @@
+"""What exports of all forms have in common."""
+
+import itertools
+import re
+
+from ..wording import listed, quoted
+
+
+class Table:
+    """What exports of all forms have: a `header` (list of str), `rows()`, a `sample` of them, and `notes` (lists of str)."""
+
+    def __init__(self, skip, header, notes):
+        if skip < 0:
+            raise ValueError(f"--skip {skip}: expected a number of lines, 0 or more")
+        self.notes, self._skip, self._has_header = list(notes), skip, header is None
+
+    def _named(self, first, header):
+        """Returns the names of the columns: those given, separated by commas, or those in the first row."""
+        if header is None and not any(item.strip() for item in first):
+            raise ValueError("it begins with an empty line: give the number of lines before its header with --skip")
+        return [item.strip() for item in (first if header is None else header.split(","))]
+
+    def column(self, name):
+        """Returns the index of a column by its name. Raises ValueError unless exactly one column has it."""
+        numbers = [f"#{at}" for at, item in enumerate(self.header, 1) if item == name]
+        if len(numbers) > 1:
+            raise ValueError(f"two columns are called {name!r}: write {' or '.join(numbers)}")
+        if numbers and name:
+            return self.header.index(name)
+        if re.fullmatch(r"#[1-9]\d{0,4}", name) and int(name[1:]) <= len(self.header):
+            return int(name[1:]) - 1
+        raise ValueError(f"no column {quoted(name)}; it has {listed(self.header)}{self._hint(name)}")
+
+    def _hint(self, name):
+        """Returns a hint (str) at the row that looks like the header, if the first rows are those of a report."""
+        rows, number = self.rows()
+        for at, row in enumerate(itertools.islice(rows, 50), number):
+            if name and name in map(str.strip, row):
+                return f"; row {at} looks like the header: --skip {at - 1}"
+        return ""
+
+    def parse(self, word, has_unit=False):
+        """Splits COLUMN[=NAME][:UNIT] into the column's index, its name in the trace or None, and the unit or None. A column's name may contain these
+        characters too. Raises ValueError as `column` does."""
+        numbers = re.match(r"#[1-9]\d{0,4}", word)
+        for column in [*sorted(self.header, key=len, reverse=True), *([numbers[0]] if numbers else [])]:
+            found = re.fullmatch(r"(?:=(\w+))?" + (r"(?::([\w:@.]+))?" if has_unit else "()"), word[len(column) :])
+            if column and word.startswith(column) and found:
+                return self.column(column), found[1], found[2] or None
+        name = re.split("[=:]", word)[0]
+        raise ValueError(f"no column {quoted(name)}; it has {listed(self.header)}{self._hint(name)}")

@@ -1,0 +1,97 @@
+"""Reads exports that are spreadsheets (.xlsx), with the Python package openpyxl."""
+
+from datetime import date, datetime, time, timedelta
+from itertools import islice
+
+from .table import Table
+
+# The number of rows examined to detect formats; cells have types, so few are enough.
+SAMPLE = 1 << 11
+# Some versions of openpyxl read a length of more than a day as a date of January or February 1900.
+DAY_0, MARCH = datetime(1899, 12, 31), datetime(1900, 3, 1)
+
+
+class Workbook(Table):
+    """An export that is a spreadsheet, from a Stream; `sheet` (str) is the name of the sheet to read, by default the only one. Its cells become
+    texts: dates and times in ISO 8601, a length of time in h:mm:ss. Raises ValueError as Export does, and if openpyxl is missing."""
+
+    def __init__(self, stream, sheet=None, skip=0, header=None):
+        try:
+            import openpyxl
+        except ImportError:
+            install = "save it as CSV UTF-8, or install the Python package openpyxl (pip install openpyxl, or the package python3-openpyxl)"
+            raise ValueError(f"this is a spreadsheet (.xlsx): {install}") from None
+        try:
+            self._book = openpyxl.load_workbook(stream.book(), read_only=True, data_only=True)
+        except Exception as error:
+            raise ValueError(f"damaged spreadsheet: {type(error).__name__}: {error}"[:300]) from None
+        names = [item.title for item in self._book.worksheets]
+        if sheet is None and len(names) != 1:
+            raise ValueError(f"the spreadsheet has {len(names)} sheets: give --sheet {' or '.join(map(repr, names[:10]))}")
+        if sheet is not None and sheet not in names:
+            raise ValueError(f"no sheet {sheet!r}; it has {', '.join(map(repr, names[:10]))} (--sheet)")
+        self._sheet = self._book[sheet or names[0]]
+        # The size that the file claims may be wrong.
+        self._sheet.reset_dimensions()
+        super().__init__(skip, header, stream.notes)
+        self.notes.append(f"the sheet is {self._sheet.title!r}")
+        self.header = self._named(next(self._all(), []), header)
+        self.sample = [row for row in islice(self.rows()[0], SAMPLE) if len(row) >= len(self.header)]
+
+    def _all(self):
+        """Yields the rows after those to skip as texts, without empty cells at their end beyond the header."""
+        for row in self._sheet.iter_rows(min_row=self._skip + 1, values_only=True):
+            yield list(map(text_of, row))
+
+    @property
+    def size(self):
+        """The number of rows; 0 if it isn't known."""
+        return self._sheet.max_row or 0
+
+    def rows(self):
+        rows, width = self._all(), len(self.header)
+        if self._has_header:
+            next(rows, None)
+        return _Counted(_fitted(row, width) for row in rows), self._skip + 1 + self._has_header
+
+
+def _fitted(row, width):
+    """Returns a row with the width of the header: empty cells at its end don't count. An empty row has no fields."""
+    while row and not row[-1]:
+        row.pop()
+    return row + [""] * (width - len(row)) if row else row
+
+
+class _Counted:
+    """An iterator of rows that counts them, as a CSV reader counts lines."""
+
+    def __init__(self, rows):
+        self._rows, self.line_num = rows, 0
+
+    def __iter__(self):
+        return self
+
+    def __next__(self):
+        row = next(self._rows)
+        self.line_num += 1
+        return row
+
+
+def text_of(value):
+    """Returns the text of a cell.
+
+    >>> text_of(datetime(2026, 3, 2, 8, 0, 17)), text_of(timedelta(seconds=3725)), text_of(3.0), text_of(None)
+    ('2026-03-02T08:00:17', '1:02:05', '3', '')
+    """
+    if value is None:
+        return ""
+    if isinstance(value, datetime) and value < MARCH:
+        value -= DAY_0
+    if isinstance(value, (datetime, date, time)):
+        return value.isoformat()
+    if isinstance(value, timedelta):
+        seconds, rest = divmod(value // timedelta(microseconds=1), 10**6)
+        return f"{seconds // 3600}:{seconds // 60 % 60:02}:{seconds % 60:02}" + (f".{rest:06}" if rest else "")
+    if isinstance(value, float):
+        return str(int(value)) if value.is_integer() and abs(value) < 1 << 53 else repr(value)
+    return str(value)

@@ -1,0 +1,1 @@
+"""Sweeps: their results, and plans of any size, cut into shards for several machines."""

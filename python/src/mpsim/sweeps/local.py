@@ -1,0 +1,60 @@
+"""Runs the scenarios of a sweep's plan in this process."""
+
+from ..agents.pools import names_of, visits_at
+from ..agents.waits import pools_in, recomputed, varied
+from ..errors import Error
+from ..runs import run, scenarios, sweep_text
+from ..traces.trace import Trace, header_of, locating_errors, pool_warning
+from .results import Scenario, scenarios_of
+
+
+def pools_again(plan, trace):
+    """Returns the pools (list of str) whose number of agents varies over the models of a plan, if the trace has their waits."""
+    header = header_of(trace["path"])
+    if pool_warning(trace["path"], header) is None:
+        return []
+    return varied((plan.model(at)[2] for at in range(plan.each)), Trace(trace["path"], header, []))
+
+
+def shares_of(report, ticks, nodes):
+    """Yields, for each row of a report, the two shares served within this many ticks."""
+    for visit in visits_at(report, names_of(report, nodes)):
+        shares = visit.share_within(ticks), visit.share_within(ticks, departed=True)
+        yield [None if share is None else round(share, 6) for share in shares]
+
+
+def scenarios_in(plan, shard, with_jobs, again):
+    """Yields the scenarios of a shard as they come, with the numbers of their models. `again` has the paths of traces whose pools are worked out
+    again for each model."""
+    trace, models = plan.shard(shard)
+    if trace["path"] in again:
+        yield from _pooled_again(plan, trace, models, with_jobs)
+        return
+    texts = [plan.model(model)[2].encode(errors="surrogateescape") for model in models]
+    if with_jobs:
+        yield from zip(models, scenarios(trace["path"], texts, jobs=True))
+        return
+    with sweep_text(trace["path"], texts) as stream:
+        yield from zip(models, scenarios_of(stream, range(len(texts))))
+
+
+def _pooled_again(plan, trace, models, with_jobs):
+    """Yields the scenarios of models with different numbers of agents: each is run with the agents and the waits of its own number."""
+    whole = Trace.read(trace["path"])
+    for at in models:
+        label, _, text = plan.model(at)
+        try:
+            with locating_errors(whole):
+                mine = recomputed(whole, pools_in(text, whole))
+                report = run(text.encode(errors="surrogateescape"), mine.lines(), jobs=with_jobs)
+        except Error as error:
+            yield at, Scenario(label, error.status, None, error)
+            continue
+        yield at, Scenario(label, 0, report, None)
+
+
+def label_of(plan, trace, at):
+    """Returns the label of a scenario on the page: its values, with the names of its model and its trace if there are several."""
+    label, values, _ = plan.model(at)
+    words = [trace["label"]] * (len(plan.traces) > 1) + [label] * (len(plan.models) > 1 or not values) + [str(value) for value in values.values()]
+    return ", ".join(words)

@@ -1,0 +1,133 @@
+"""Sweeps: a trace run through many models, and the reader of mpsweep's output."""
+
+import re
+from typing import NamedTuple, Optional
+
+from ..errors import Error, ReportError, error_of, read_from
+from ..report import Reading, Report, stream_of, with_model
+
+HEAD = b"scenario "
+SCENARIO = re.compile(rb"scenario ([1-9]\d*) status (0|[1-9]\d*)\n")
+# The statuses of a refused scenario.
+REFUSED = 3, 4, 5, 9
+
+
+class Scenario(NamedTuple):
+    """The run of one model of a sweep: its label (any value), its status (int), its report (Report), and, if the status isn't 0, the exception
+    (Error, not raised) with the program's line and numbers."""
+
+    label: object
+    status: int
+    report: Optional[Report]
+    refusal: Optional[Error]
+
+
+class Sweep(dict):
+    """The scenarios of a sweep (Scenario) by label, in order.
+
+    >>> import mpsim
+    >>> models = mpsim.variants("model 1\\nsource door\\nloss desk {places} =9 from door\\n", places=[0, 1, 2])
+    >>> sweep = mpsim.sweep([("door", 0), ("door", 1), ("door", 5)], models)
+    >>> sweep[0].status, sweep[0].refusal.told
+    (3, 'mpsim: model line 3: word 3 not allowed')
+    >>> sweep.curve("desk", "lost")
+    [(1, 2), (2, 1)]
+    """
+
+    @classmethod
+    def read(cls, path, labels=None):
+        """Returns the sweep in a file. The labels and exceptions are those of `parse`; OSError is raised if the file can't be read."""
+        with open(path, "rb") as stream, read_from(path):
+            return cls.parse(stream, labels)
+
+    @classmethod
+    def parse(cls, text, labels=None):
+        """Returns the sweep in the output of mpsweep (str, bytes or an open file of bytes), with these labels (list, one per scenario), by default
+        the numbers of the scenarios (int, from 1). Raises ReportError if it isn't a sweep, and ValueError for the wrong number of labels or a label
+        that appears twice.
+
+        >>> import mpsim
+        >>> mpsim.Sweep.parse("scenario 1 status 3\\nmpsim: model line 1: expected model 1 or model 2\\n", ["today"])["today"].status
+        3
+        """
+        found = list(scenarios_of(text))
+        if labels is not None and len(labels) != len(found):
+            raise ValueError(f"{len(labels)} labels for {len(found)} scenarios")
+        for label in labels or ():
+            if labels.count(label) > 1:
+                raise ValueError(f"the label {label!r} appears twice")
+        return cls((it, scenario._replace(label=it)) for it, scenario in zip(labels or range(1, len(found) + 1), found))
+
+    def reports(self):
+        """Returns the reports of the scenarios that weren't refused: a dict of Report by label."""
+        return {label: it.report for label, it in self.items() if it.report is not None}
+
+    def curve(self, node, figure):
+        """Returns pairs of a label and a node's figure: a field of its line (str, such as "p90" or "in") or a property of Node (such as "mean_wait").
+        Refused scenarios are left out. Raises KeyError for an unknown node, AttributeError for an unknown figure."""
+        return [(label, it[node].figure(figure)) for label, it in self.reports().items()]
+
+    def save(self, path, title=None, **options):
+        """Writes a page that compares the scenarios that weren't refused: a curve of each figure over their labels, and a table of differences.
+        Everything else is as for a report (`Report.save`). Raises ValueError if all were refused.
+
+        >>> import mpsim, os, tempfile
+        >>> models = mpsim.variants("model 1\\nsource door\\nloss desk {places} =9 from door\\n", places=[1, 2])
+        >>> sweep = mpsim.sweep([("door", 0), ("door", 1), ("door", 5)], models)
+        >>> with tempfile.TemporaryDirectory() as folder:
+        ...     sweep.save(os.path.join(folder, "places.html"))
+        ...     os.listdir(folder)
+        ['places.html']
+        """
+        from .page import save
+
+        reports = self.reports()
+        save(path, reports.values(), reports, title, **options)
+
+    def to_pandas(self):
+        """Returns a data frame with a row per scenario and node, indexed by both. Raises ImportError if pandas is missing."""
+        import pandas
+
+        frames = {label: it.to_pandas() for label, it in self.reports().items()}
+        return pandas.concat(frames, names=["scenario", "name"]) if frames else pandas.DataFrame()
+
+
+def load(path, labels=None):
+    """Returns the content of a file: a report (Report) of mpsim or mpedit, or a sweep (Sweep) of mpsweep, which takes labels. Raises what
+    `Report.read` and `Sweep.read` do.
+
+    >>> import mpsim, tempfile
+    >>> with tempfile.NamedTemporaryFile("w") as file:
+    ...     print(mpsim.run("model 1\\nsource door\\n", [("door", 3)]), end="", file=file, flush=True)
+    ...     mpsim.load(file.name).span
+    3
+    """
+    with open(path, "rb") as stream, read_from(path):
+        head = stream.peek(len(HEAD))[: len(HEAD)]
+        return Sweep.parse(stream, labels) if head and HEAD.startswith(head) else Report.parse(stream)
+
+
+def scenarios_of(text, labels=None, inputs=None):
+    """Yields each scenario in the output of mpsweep as it is read. Labels, if given, must cover all of them; inputs are those among the program's
+    arguments, the trace first."""
+    stream = stream_of(text)
+    line, number, count = stream.readline(), 1, 0
+    while line:
+        found = SCENARIO.fullmatch(line)
+        count += 1
+        if not found or int(found[1]) != count or (labels is not None and count > len(labels)):
+            raise ReportError(number, line.decode(errors="surrogateescape").rstrip("\n"), "is not a line of a sweep")
+        label, status = labels[count - 1] if labels is not None else count, int(found[2])
+        if status == 0:
+            reading = Reading(stream, number + 1, in_sweep=True)
+            report = reading.report()
+            yield Scenario(label, 0, with_model(report, inputs[count]) if inputs else report, None)
+            line, number = reading.rest
+        else:
+            message = stream.readline().decode(errors="surrogateescape")
+            if status not in REFUSED or not message.startswith("mpsim: ") or not message.endswith("\n"):
+                raise ReportError(number + 1, message.rstrip("\n"), f"is not the line of a refusal with status {status}")
+            yield Scenario(label, status, None, error_of("mpsim", status, message, [inputs[count], inputs[0]] if inputs else ()))
+            line, number = stream.readline(), number + 2
+    if count == 0 or (labels is not None and count < len(labels)):
+        raise ReportError(number, "", f"is the end of a sweep, after {count} scenarios")

@@ -1,0 +1,1 @@
+"""Tables made from reports, sweeps and groups of agents, and the forms in which they are written."""

@@ -1,0 +1,66 @@
+"""Makes a table of what a group of agents did per interval of the day."""
+
+from bisect import bisect_right
+
+from ..limits import FOREVER
+from ..node_visits import percentile_of
+from ..times.intervals import label
+from ..times.texts import SECOND
+
+HEADS = "from", "queue", "offered", "answered", "abandoned", "within", "mean_wait", "p90", "agents", "occupancy"
+
+
+class Table:
+    """What a group did per interval of the day, over all days (list of Day): from the calls (sequences of queue, arrival, service, agent
+    and wait, in ticks) and the agents (list of Agent)."""
+
+    def __init__(self, days, calls, agents, within):
+        self.days, self.within, self.count = days, within, len(days[0].begins) - 1
+        self.begins = [tick for day in days for tick in day.begins[:-1]]
+        self.there, self.worked, self.cells = [0] * self.count, [0] * self.count, {}
+        # The intervals of days, by their place among all, in which there is an agent or a call.
+        self.used = set()
+        end = days[-1].begins[-1]
+        for agent in agents:
+            for begin, until in agent.intervals:
+                self._spread(self.there, begin, min(until, end))
+        for queue, arrive, service, agent, wait in zip(*calls):
+            at = bisect_right(self.begins, arrive) - 1
+            self.used.add(at)
+            self.cells.setdefault((at % self.count, queue), []).append((agent, wait))
+            if agent:
+                begin, until = arrive + wait, arrive + wait + service
+                for first, last in agents[agent - 1].intervals:
+                    self._spread(self.worked, max(begin, first), min(until, last, end))
+
+    def _spread(self, sums, begin, end):
+        """Adds the ticks from `begin` to `end` to the intervals in which they are."""
+        at = bisect_right(self.begins, begin) - 1
+        while begin < end:
+            until = min(end, self.begins[at + 1] if at + 1 < len(self.begins) else FOREVER)
+            sums[at % self.count] += until - begin
+            self.used.add(at)
+            begin, at = until, at + 1
+
+    def rows(self, every, tick):
+        """Yields a row (list, as in HEADS) per interval with calls or agents, for the length of intervals and of a tick (int, microseconds): the time
+        of day; the queue, "all" or its name; how many calls were offered, answered and abandoned; the share of all that was answered within `within`
+        ticks; the mean wait and the 90th percentile of those answered, in seconds; the mean number of agents, over the days with an agent or a call
+        in the interval; and the share of their time that they worked."""
+        queues = list(dict.fromkeys(queue for _, queue in self.cells))
+        for number in range(self.count):
+            mine = {queue: self.cells.get((number, queue), []) for queue in sorted(queues)}
+            every_call = [it for calls in mine.values() for it in calls]
+            if every_call or self.there[number]:
+                spans = sum(day.begins[number + 1] - day.begins[number] for at, day in enumerate(self.days) if at * self.count + number in self.used)
+                agents = round(self.there[number] / spans, 2) if spans and any(self.there) else None
+                occupancy = round(self.worked[number] / self.there[number], 4) if self.there[number] else None
+                yield [label(number, every), "all", *self._figures(every_call, tick), agents, occupancy]
+                if len(queues) > 1:
+                    yield from ([label(number, every), queue, *self._figures(calls, tick), None, None] for queue, calls in mine.items() if calls)
+
+    def _figures(self, calls, tick):
+        waits = sorted(wait for agent, wait in calls if agent)
+        share = round(bisect_right(waits, self.within) / len(calls), 4) if calls else None
+        mean, p90 = (round(sum(waits) / len(waits) * tick / SECOND, 1), round(percentile_of(waits, 90) * tick / SECOND, 1)) if waits else (None, None)
+        return [len(calls), len(waits), len(calls) - len(waits), share, mean, p90]

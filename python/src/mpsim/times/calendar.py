@@ -1,0 +1,150 @@
+"""Converts between ticks and the days and hours of a calendar."""
+
+import re
+
+from .texts import DAY, HOUR, MINUTE, SECOND, UNITS, WEEKDAYS, given, iso, length, moment
+from .zones import Zone
+
+# The most days in a table, about a hundred years. A longer span means that the times aren't ticks.
+DAYS = 36525
+
+
+def tick_of(text):
+    """Returns the nanoseconds of a tick. Raises ValueError for an invalid text."""
+    nanos = length(text)
+    if nanos < 1:
+        raise ValueError("a tick must be longer than 0")
+    return nanos
+
+
+def length_text(nanos):
+    """Returns a length of time in the form that `length` reads."""
+    per, unit = next((per, unit) for per, unit in ((SECOND, "s"), (10**6, "ms"), (1000, "us"), (1, "ns")) if nanos % per == 0)
+    return f"{nanos // per}{unit}"
+
+
+def first_lines(tick, start, zone, columns, sources, more=()):
+    """Returns the first lines of a model: the tick (int, nanoseconds), time 0 (ISO 8601 text or None), its zone (str or None), the columns of the
+    trace after `time`, `more` comments, and the sources (lists of str). `settings_in` reads them back.
+
+    >>> print(first_lines(100000000, "2026-03-02T08:00:00+01:00", "Europe/Berlin", ["talk"], ["phone"]), end="")
+    model 1
+    # a tick is 100ms, time 0 is 2026-03-02T08:00:00+01:00 in Europe/Berlin
+    # columns: talk
+    source phone
+    """
+    lines = ["model 1", _settings(tick, start, zone), *([f"# columns: {', '.join(columns)}"] if columns else []), *more]
+    return "".join(f"{line}\n" for line in [*lines, *(f"source {source}" for source in sources)])
+
+
+def _settings(tick, start, zone):
+    at = f", time 0 is {start}" + (f" in {zone}" if zone else "") if start else ""
+    return f"# a tick is {length_text(tick)}{at}"
+
+
+_SETTINGS = rf"# a tick is (\d+(?:{'|'.join(UNITS)}))(?:, time 0 is (\S+)(?: in (\S+))?)?"
+
+
+def settings_in(text):
+    """Returns what the first lines of a model say: the tick in nanoseconds, time 0 as an ISO 8601 text, and the zone; each None if missing."""
+    found = re.search(rf"^{_SETTINGS}\r?$", text, re.M)
+    return (tick_of(found[1]), found[2], found[3]) if found else (None, None, None)
+
+
+def with_settings(text, tick, start, zone):
+    """Returns a model's text with these settings in its first lines.
+
+    >>> with_settings("model 1\\nsource door\\n", 1000000000, None, None)
+    'model 1\\n# a tick is 1s\\nsource door\\n'
+    """
+    return with_line(text, _SETTINGS, _settings(tick, start, zone))
+
+
+def with_line(text, pattern, line):
+    """Returns a model's text with the first line that matches a pattern replaced by a comment. If no line matches, the comment goes after the version
+    line and the comments that follow it."""
+    lines = text.split("\n")
+    at = next((at for at, it in enumerate(lines) if re.fullmatch(pattern, it.removesuffix("\r"))), None)
+    if at is None:
+        at = next((at for at, it in enumerate(lines, 1) if it.split()[:1] == ["model"]), 0)
+        while lines[at:] and lines[at].startswith("#"):
+            at += 1
+        lines.insert(at, lines[at - 1])
+    lines[at] = line + "\r" * lines[at].endswith("\r")
+    return "\n".join(lines)
+
+
+class Calendar:
+    """The day and hour of each tick. `tick` (int) is in nanoseconds, `start` an ISO 8601 text, `zone` a name. Without a start, time 0 is a midnight.
+    Days change at midnight of the zone. Raises ValueError for an invalid value, and for a zone without a start."""
+
+    def __init__(self, tick, start=None, zone=None):
+        if tick is None:
+            raise ValueError("the length of a tick is unknown; a model whose first lines `mpplan prepare` wrote gives it")
+        self.tick, self.place, self.is_dated = tick, Zone(zone), start is not None
+        if zone and not self.is_dated:
+            raise ValueError(f"the zone {zone} needs the date of time 0, on which clock changes depend: give --start")
+        wall, offset = given("time 0,", iso, start) if start else (0, None)
+        # With an offset but no zone there are no clock changes: moments are wall-clock times.
+        self.begin = wall - offset if offset is not None and zone else wall if offset is not None or not zone else self.place.first(wall)
+
+    def wall(self, tick):
+        """Returns the wall-clock time of a tick, in nanoseconds since 1970."""
+        return self.place.wall(self.begin + tick * self.tick)
+
+    def tick_at(self, value):
+        """Returns the first tick at or after a moment."""
+        return -((self.begin - value) // self.tick)
+
+    def midnights(self, last):
+        """Yields each day from that of tick 0 to that of tick `last`: its number, the moment at which it begins, and the moment at which the next
+        begins."""
+        day = self.wall(0) // DAY
+        while True:
+            begin, end = self.place.first(day * DAY), self.place.first((day + 1) * DAY)
+            if self.tick_at(begin) > last:
+                return
+            yield day, begin, end
+            day += 1
+
+    def name(self, day):
+        """Returns the date of a day by its number; without dates, its count from time 0."""
+        return str(moment(day * DAY).date()) if self.is_dated else f"day {day + 1}"
+
+    def parts(self, by, last):
+        """Returns the ticks at which parts begin, in rising order, and the names of the parts, up to tick `last`. `by` is "day", "each" (every hour
+        of every day), or "weekday" or "hour" (of day), whose names repeat. Raises ValueError for weekdays without a date."""
+        if by == "weekday" and not self.is_dated:
+            raise ValueError("weekdays need the date of time 0: give --start")
+        begins, names = [], []
+        for day, begin, end in self.midnights(last):
+            values = [begin] if by in ("day", "weekday") else list(self._hours(begin, end))
+            begins += map(self.tick_at, values)
+            names += {"day": [self.name(day)], "weekday": [WEEKDAYS[moment(day * DAY).weekday()]]}.get(by) or self._named(day, values, by)
+        return begins, names
+
+    def _named(self, day, values, by):
+        """Returns the names of the hours of a day that begin at these moments (list). Unless `by` is "hour", two hours of the same name get their
+        offsets from UTC."""
+        hours = [f"{self.place.wall(value) % DAY // HOUR:02}:00" for value in values]
+        if by == "hour":
+            return hours
+        return [f"{self.name(day)} {hour}" + (self.place.offset(it) if hours.count(hour) > 1 else "") for hour, it in zip(hours, values)]
+
+    def _hours(self, begin, end):
+        """Yields the moments within a day at which an hour of the clock begins. An hour that occurs twice, even in part, begins twice: some clocks
+        change by half an hour."""
+        last = None
+        for value in range(begin, end, 15 * MINUTE):
+            wall = self.place.wall(value)
+            if last is None or wall // HOUR != last // HOUR or wall <= last:
+                yield value
+            last = wall
+
+
+def days_until(days, last):
+    """Returns the number of days (int) from time 0 to the last time (int, ticks). Raises ValueError for an implausible number."""
+    count = last * days.tick // DAY
+    if count > DAYS:
+        raise ValueError(f"time {last} is {count} days after time 0: a tick is shorter than {days.tick / SECOND:g} s, or these times aren't ticks")
+    return count

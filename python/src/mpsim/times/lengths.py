@@ -1,0 +1,152 @@
+"""Reads columns of lengths of time: numbers in a unit, with either decimal mark, and h:mm:ss."""
+
+import re
+from fractions import Fraction
+
+from ..limits import GREATEST_VALUE
+from ..wording import quoted
+from .texts import DAY, HOUR, MINUTE, SECOND, UNITS, Asks, Cache, Unread, excel, there
+
+_AMOUNT = r"(\d{1,15}(?:[.,]\d{1,15})?)"
+_ISO = re.compile(rf"P(?:{_AMOUNT}W)?(?:{_AMOUNT}D)?(?:T(?:{_AMOUNT}H)?(?:{_AMOUNT}M)?(?:{_AMOUNT}S)?)?", re.ASCII)
+_DAYS = re.compile(r"(\d{1,9}) days?,? (\d{1,2}):(\d\d):(\d\d(?:[.,]\d{1,9})?)", re.ASCII)
+# The names of units, from the longest unit to the shortest.
+_UNITS = (
+    ("d|day|days|Tag|Tage|Tagen|jour|jours", DAY),
+    ("h|hr|hrs|hour|hours|Std|Stunde|Stunden|heure|heures", HOUR),
+    ("m|min|mins|minute|minutes|Min|Minute|Minuten", MINUTE),
+    ("s|sec|secs|second|seconds|Sek|Sekunde|Sekunden|seconde|secondes", SECOND),
+    ("ms|msec", SECOND // 1000),
+    ("us|µs", SECOND // 10**6),
+    ("ns", 1),
+)
+_NAMED = re.compile("".join(rf"(?:{_AMOUNT}\s*(?:{names})\.?(?![^\W\d_])[\s,]*)?" for names, _ in _UNITS))
+SPAN = re.compile(r"(\d+):(\d\d)(?::(\d\d)(?:[.,](\d{1,9}))?)?", re.ASCII)
+# Separators of thousands, besides the mark that isn't the decimal one.
+_GAPS = "\\s\u00a0\u202f'\u2019"
+
+
+def found_decimal(texts):
+    """Returns the decimal mark of numbers as text, "." or ","; None if none of them has a mark. Raises ValueError if it can't be detected.
+
+    >>> found_decimal(["3,5", "1.210,0"])
+    ','
+    """
+    marks, doubtful = set(), None
+    for text in texts:
+        text = re.sub(f"[{_GAPS}]", "", text)
+        dots, commas = text.count("."), text.count(",")
+        if ":" in text or not dots + commas:
+            continue
+        if dots and commas:
+            marks.add("," if text.rindex(",") > text.rindex(".") else ".")
+        elif dots > 1 or commas > 1:
+            marks.add("," if dots else ".")
+        elif re.fullmatch(r"[1-9]\d{0,2}[.,]\d{3}", text):
+            doubtful = text
+        else:
+            marks.add("," if commas else ".")
+    if len(marks) > 1:
+        raise ValueError("its numbers use both decimal commas and decimal points")
+    if not marks and doubtful is not None:
+        raise ValueError(f"{quoted(doubtful)} could be thousands or a decimal fraction")
+    return marks.pop() if marks else None
+
+
+# As a spreadsheet shows a number in a narrow column.
+_POWER = re.compile(r"\d(?:[.,]\d{1,15})?[Ee]\+\d{1,2}", re.ASCII)
+# Data sent at a rate, such as bytes@10Gbps.
+_RATE = re.compile(r"(bits|bytes)@(\d{1,6}(?:\.\d{1,3})?)([kMGT]?)bps", re.ASCII)
+
+
+def _bits_per_second(unit):
+    """Returns how many bits there are in a piece of data of a unit such as bytes@10Gbps, and how many are sent per second; None for another unit."""
+    found = _RATE.fullmatch(unit)
+    rate = found and Fraction(found[2]) * 1000 ** " kMGT".index(found[3] or " ")
+    return (8 if found[1] == "bytes" else 1, rate) if rate else None
+
+
+class Lengths:
+    """A column of lengths of time in a unit, with a decimal mark ("." or ",", None if unknown).
+
+    `ticks[text]` is a length rounded to whole ticks (int). It raises Unread for an invalid text, and Asks if an option is needed. `rounded` counts
+    the distinct texts that aren't whole ticks. Raises ValueError for an unknown unit."""
+
+    NAMES = *UNITS, "ticks", "h:mm", "m:ss", "h:mm:ss", "excel"
+
+    def __init__(self, unit, decimal, tick):
+        rate = _bits_per_second(unit)
+        if unit not in self.NAMES and not rate:
+            raise ValueError(f"unknown unit {unit!r}: it is one of {', '.join(self.NAMES)}, or data at a rate such as bytes@10Gbps")
+        self.unit, self.decimal, self.tick, self.rounded = unit, decimal, tick, 0
+        self.per = tick if unit == "ticks" else UNITS.get(unit, SECOND)
+        # The lengths of data are fractions of a nanosecond.
+        self.parts = 1
+        if rate:
+            self.per, self.parts = (rate[0] * SECOND / rate[1]).as_integer_ratio()
+        # Thousands come in groups of three, so that a decimal point can't be mistaken for a separator.
+        gaps = _GAPS + {".": ",", ",": "."}.get(decimal, "")
+        self._number = re.compile(rf"([0-9]+|[0-9]{{1,3}}(?:[{gaps}][0-9]{{3}})+)(?:{re.escape(decimal or '.')}([0-9]+))?")
+        self.ticks = Cache(self._work)
+
+    def _work(self, text):
+        length, tick = self.length(text)
+        ticks, left = divmod(length, tick)
+        ticks += 2 * left >= tick
+        if ticks > GREATEST_VALUE:
+            raise Unread("above 2^36 ticks")
+        self.rounded += left > 0
+        return ticks
+
+    def length(self, text):
+        """Returns a length and a tick (int), both in a fraction of a nanosecond in which they are whole. Raises Unread and Asks."""
+        text = there(text)
+        if text[0] in "-\u2212" or text[-1] in "-\u2212":
+            raise Unread("below 0")
+        if not text[0].isdigit() or not text[-1].isdigit() or "day" in text:
+            if (found := duration(text)) is not None:
+                return found.numerator, found.denominator * self.tick
+        if found := _POWER.fullmatch(text):
+            value = Fraction(text.replace(",", ".")) * self.per / self.parts
+            return value.numerator, value.denominator * self.tick
+        if ":" in text or self.unit == "h:mm:ss":
+            return self._of_span(text)
+        if self.unit == "excel":
+            return excel(text), self.tick
+        if self.decimal is None and re.search("[.,]", text):
+            raise Asks("the mark could be a decimal one: give --decimal")
+        found = self._number.fullmatch(text)
+        if not found:
+            raise Unread(f"not a number with a decimal {'comma' if self.decimal == ',' else 'point'}")
+        rest = found[2] or ""
+        return int(re.sub(r"\D", "", found[1]) + rest) * self.per, 10 ** len(rest) * self.tick * self.parts
+
+    def _of_span(self, text):
+        found = SPAN.fullmatch(text)
+        if not found or int(found[2]) > 59 or int(found[3] or 0) > 59:
+            raise Unread("not h:mm:ss")
+        if found[3] is None and self.unit not in ("h:mm", "m:ss"):
+            raise Asks("this could be h:mm or m:ss: give the unit")
+        first, second = (MINUTE, SECOND) if found[3] is None and self.unit == "m:ss" else (HOUR, MINUTE)
+        whole = int(found[1]) * first + int(found[2]) * second + int(found[3] or 0) * SECOND
+        return whole + int((found[4] or "0").ljust(9, "0")), self.tick
+
+
+def duration(text):
+    """Returns the nanoseconds (Fraction) of a text with units, or None if it isn't one.
+
+    >>> [int(duration(text) / SECOND) for text in ("PT3M20S", "3m 20s", "200 s", "0 days 00:03:20", "1 h, 5 min")]
+    [200, 200, 200, 200, 3900]
+    """
+    if found := _DAYS.fullmatch(text):
+        parts = zip(found.groups(), (DAY, HOUR, MINUTE, SECOND))
+        return sum(_number(amount) * unit for amount, unit in parts)
+    found, units = _ISO.fullmatch(text), (7 * DAY, DAY, HOUR, MINUTE, SECOND)
+    if not found:
+        found, units = _NAMED.fullmatch(text), [unit for _, unit in _UNITS]
+    parts = [_number(amount) * unit for amount, unit in zip(found.groups(), units) if amount] if found else []
+    return sum(parts) if parts else None
+
+
+def _number(text):
+    return Fraction(text.replace(",", "."))

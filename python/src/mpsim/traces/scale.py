@@ -1,0 +1,117 @@
+"""Scales the load of a trace up or down."""
+
+from collections import Counter
+
+from .trace import Trace
+
+TIMES = (
+    "each time is {n}/{k} of its old value: the same jobs arrive {faster}, and their service times don't change. "
+    "Days, nights and peaks are {shorter}"
+)
+TWINS = (
+    "so twins arrive together and wait for one another: "
+    "that makes waits longer than such a load would (twice as long in one trial); --shift doesn't"
+)
+
+
+def closer(times, k, n):
+    """Returns pairs (list) of a time and the index of its record, in order of arrival. Each time (int, ticks) is multiplied by n/k and rounded down.
+
+    >>> from mpsim.traces.scale import closer
+    >>> closer([0, 25, 10, 24], 2, 1)
+    [(0, 0), (5, 2), (12, 3), (12, 1)]
+    """
+    return [(times[at] * n // k, at) for at in sorted(range(len(times)), key=times.__getitem__)]
+
+
+def copies(times, sources, k, n, shift=0, only=()):
+    """Returns pairs (list) of a time and the index of its record, in order of time, then of records: k for every n records, spread as evenly as
+    possible within each source.
+
+    Record i, counted from 0, appears floor(k (i + 1) / n) - floor(k i / n) times. Counting continues from one source to the next, in the order of the
+    trace, so that few records from many sources also give k/n in all. Each copy is `shift` (int, ticks) after the one before. A copy past the last
+    record wraps round to the first time that is a whole number of shifts away and not before the first record (`around`). With `only` (names of
+    sources), only those are copied. Raises ValueError if a copy would fall on its own record.
+
+    >>> from mpsim.traces.scale import copies
+    >>> copies([0, 10, 25], ["a", "a", "a"], 2, 1, shift=10)
+    [(0, 0), (5, 2), (10, 0), (10, 1), (20, 1), (25, 2)]
+    """
+    ends = min(times, default=0), max(times, default=0)
+    seen, before, made = {}, 0, []
+    for source, count in Counter(source for source in sources if not only or source in only).items():
+        seen[source], before = before, before + count
+    for at in sorted(range(len(times)), key=times.__getitem__):
+        source, count = sources[at], 1
+        if source in seen:
+            i = seen[source]
+            count, seen[source] = k * (i + 1) // n - k * i // n, i + 1
+        made += [(time, at) for time in (around(times[at], count, shift, *ends) if shift else [times[at]] * count)]
+    # Copies at equal times are in the order of their records.
+    return sorted(made)
+
+
+def around(time, count, shift, first, last):
+    """Returns the times (list of int) of this many copies of a record (int, including the record), each `shift` after the one before, starting at its
+    `time` and wrapping round between `first` and `last` (int, ticks). If that gives too few times, they may lie up to an eighth of a shift outside,
+    so that a record from an early or late minute also gets its other days. Raises ValueError if that isn't enough.
+
+    >>> from mpsim.traces.scale import around
+    >>> around(25, 2, 10, 3, 31), around(9, 3, 10, 0, 28)
+    ([25, 5], [9, 19, 29])
+    """
+    front, room = first + (time - first) % shift, shift // 8
+    rounds = (last - front) // shift + 1
+    if rounds < count and front - shift >= max(first - room, 0):
+        front, rounds = front - shift, rounds + 1
+    if rounds < count and front + rounds * shift <= last + room:
+        rounds += 1
+    if rounds < count:
+        some = f"there are {rounds} times" if rounds > 1 else "there is no other time"
+        raise ValueError(f"--shift {shift}: within the trace {some} whole shifts away from {time}, but {count} records need one")
+    return [front + ((time - front) // shift + copy) % rounds * shift for copy in range(count)]
+
+
+def scaled(trace, k, n, way, shift=None, only=()):
+    """Returns the trace (Trace) with k/n of the load of another, in order of time; `way` is "times", "twins" or "shift"."""
+    times = trace.times()
+    for name in only:
+        if name not in trace.sources():
+            raise ValueError(f"{trace.path}: no record has the source {name!r}")
+    if way == "times":
+        made = closer(times, k, n)
+    else:
+        made = copies(times, trace.sources(), k, n, shift if way == "shift" else 0, only)
+    return Trace(trace.path, trace.header, [[trace.rows[at][0], str(time), *trace.rows[at][2:]] for time, at in made])
+
+
+def count_of(trace, k, n, way, only):
+    """Returns the number of records that `scaled` would make, to reject too many before making any."""
+    taken = 0 if way == "times" else sum(not only or source in only for source in trace.sources())
+    return len(trace.rows) - taken + k * taken // n
+
+
+def means(k, n, way, shift=None, only=()):
+    """Returns a description (str) of what `scaled` does.
+
+    >>> from mpsim.traces.scale import means
+    >>> means(2, 1, "shift", 86400)
+    'each record has one copy, 86400 ticks later; copies past the end wrap round to the start'
+    """
+    of = f" of {' or of '.join(only)}" if only else ""
+    if k == n:
+        return "each record is kept as it was"
+    if way == "times":
+        faster, shorter = ("faster", "shorter") if k > n else ("more slowly", "longer")
+        return TIMES.format(k=k, n=n, faster=faster, shorter=shorter)
+    if k % n:
+        some = f"every {n} records{of or ' of a source'} become {k}"
+        if k < n:
+            return f"{some}, at their own times, chosen as evenly as possible"
+        past = "copies past the end wrap round to the start"
+        return f"{some}, each copy {shift} ticks after the one before; {past}" if way == "shift" else f"{some}, at their own times, {TWINS}"
+    count = k // n - 1
+    copies, has = ("one copy", f"{shift} ticks later") if count == 1 else (f"{count} copies", f"each {shift} ticks after the one before")
+    if way == "shift":
+        return f"each record{of} has {copies}, {has}; copies past the end wrap round to the start"
+    return f"each record{of} has {copies}, at its own time, {TWINS}"
