@@ -50,7 +50,7 @@ def _columns(add):
     says = "column with the time at which services of --end begin: one for all, or one per --end"
     add("--answered", action="append", default=[], metavar="COLUMN", help=says)
     add("--constant", action="append", default=[], metavar="NAME=LENGTH", help="a service time that all jobs have, e.g. wrap=90s")
-    codes = "column of texts, written as numbers for a split; the numbers come from --model, or count from 0"
+    codes = "column of texts, written as numbers for a split; the numbers come from --model, or count from 0 in order of appearance"
     add("--code", action="append", default=[], metavar="COLUMN[=NAME]", help=codes)
     add("--empty", metavar="LENGTH", help="service time of an empty field; default: its row is left out")
     add("--rename", action="append", default=[], metavar="OLD=NEW", help="name in the trace (NEW) of a source in the export (OLD)")

@@ -24,7 +24,8 @@ def words(parser):
 def recorded_words(parser):
     says = "column with the recorded wait in ticks, for an abandoned call until the caller left"
     parser.add_argument("--wait", required=True, metavar="COLUMN", help=says)
-    parser.add_argument("--abandoned", metavar="COLUMN", help="column that isn't 0 for a call that was abandoned; default: none was")
+    says = "column that is 0 for answered calls, and another number for abandoned ones; default: none was abandoned"
+    parser.add_argument("--abandoned", metavar="COLUMN", help=says)
     parser.add_argument("--within", type=ticks, default=20, metavar="TICKS", help="report the share answered within this many ticks (default: 20)")
     every_words(parser)
 
