@@ -49,13 +49,13 @@ class Rosters(InFolder):
     def test_what_is_rejected(self):
         path = self.folder / "roster.csv"
         for rows, why in [
-            (["A,,9,5"], "row 1: the interval from 9 to 5 is empty"),
+            (["A,,9,5"], "row 2: the interval from 9 to 5 is empty"),
             (["A,,0,5", "A,,4,9"], r"intervals of A overlap at 2026-03-26T00:00:04\+01:00"),
-            (["A,,0,5", "A,mail,6,9"], "row 2: A serves 'all queues' in an earlier row"),
-            (["A,fax,0,5"], "row 1: no queue 'fax'; the trace has phone, mail"),
-            (["A,,0"], "row 1: 3 fields instead of 4"),
-            (["A,,mo 08:00,25:00"], "row 1: not a time of day"),
-            (["A,,someday 08:00,09:00"], "row 1: 'someday' isn't a date, a number of ticks, or weekdays such as mon-fri"),
+            (["A,,0,5", "", "A,mail,6,9"], "row 4: A serves 'all queues' in an earlier row"),
+            (["A,fax,0,5"], "row 2: no queue 'fax'; the trace has phone, mail"),
+            (["A,,0"], "row 2: 3 fields instead of 4"),
+            (["A,,mo 08:00,25:00"], "row 2: not a time of day"),
+            (["A,,someday 08:00,09:00"], "row 2: 'someday' isn't a date, a number of ticks, or weekdays such as mon-fri"),
         ]:
             with self.assertRaisesRegex(ValueError, f"^{path}: {why}"):
                 self.read(*rows)

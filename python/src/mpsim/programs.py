@@ -1,7 +1,9 @@
 """Finds the three programs, sets up their environment, and provides the wheel's commands, which answer --help and --version."""
 
+import functools
 import os
 import shutil
+import subprocess
 import sys
 
 from .errors import ProgramError
@@ -19,18 +21,30 @@ ONE_HEAP = "glibc.malloc.arena_max=1"
 
 def find(name):
     """Returns the path of a program (str): in the directory that MPSIM_PROGRAMS names; else in the wheel, in the clone around this file, or on the
-    PATH. Raises ProgramError if it isn't found. A clone's programs are built by build.py, not here."""
+    PATH; else one compiled from the clone's sources, neither proved nor optimised, as lines on stderr say. Raises ProgramError if there is none.
+    build.py proves and builds a clone's programs."""
     given = os.environ.get("MPSIM_PROGRAMS")
     clone = os.path.join(HERE, "..", "..", "..", "crates", name, "out")
     for folder in [given] if given else [os.path.join(HERE, "bin"), clone]:
         file = os.path.abspath(os.path.join(folder, name))
         if os.path.isfile(file) and os.access(file, os.X_OK):
             return file
-    found = None if given else shutil.which(name)
+    found = None if given else shutil.which(name) or _compiled(name)
     if found is None:
         where = given or f"this package, in a clone around it (where ./build.py {name} builds it), or on the PATH"
         raise ProgramError(f"no program {name} in {where}; set MPSIM_PROGRAMS to a directory that has it")
     return found
+
+
+@functools.lru_cache(maxsize=None)
+def _compiled(name):
+    """Returns the path of a program that tools/unproved.py compiles from the sources of the clone around this file, which takes minutes the first time;
+    None if there is no clone or it can't be compiled, as its lines on stderr say."""
+    tool = os.path.join(HERE, "..", "..", "..", "tools", "unproved.py")
+    if not os.path.isfile(tool):
+        return None
+    ran = subprocess.run([sys.executable, os.path.abspath(tool), "--path", name], stdin=subprocess.DEVNULL, stdout=subprocess.PIPE, text=True)
+    return ran.stdout.strip() or None
 
 
 def surroundings():

@@ -20,13 +20,16 @@ def read_roster(path, days, last, queues):
     `queues` are names separated by spaces; empty means all. `from` and `to` are both ticks, or both dates with times such as 2026-03-02T08:00, or a
     pattern: weekdays and a time of day such as `mon-fri 08:00` or `mon,wed 08:00`, and the time of day at which the interval ends, on the next day if
     it isn't later. A pattern holds on each such day of the Calendar up to tick `last` (int). `queues` of the argument are the names that exist.
-    Raises OSError if the file can't be read, and ValueError with the row's number for a row that is invalid, and if intervals of an agent overlap."""
-    rows = list(filter(None, csv.reader(bytes_of(path).decode("utf-8-sig", "surrogateescape").splitlines())))
-    if not rows or [it.strip() for it in rows[0]] != HEAD:
-        raise ValueError(f"{path}: a roster begins with {','.join(HEAD)}, not with {','.join(rows[0] if rows else [])!r}")
+    Raises OSError if the file can't be read, and ValueError for an invalid row, with its number (the header is row 1), and if intervals of an agent
+    overlap."""
+    lines = bytes_of(path).decode("utf-8-sig", "surrogateescape").splitlines()
+    # Numbered as a spreadsheet does: the header is row 1.
+    (_, head), *rows = [(number, row) for number, row in enumerate(csv.reader(lines), 1) if row] or [(1, [])]
+    if [it.strip() for it in head] != HEAD:
+        raise ValueError(f"{path}: a roster begins with {','.join(HEAD)}, not with {','.join(head)!r}")
     dates = [day for day, _, _ in days.midnights(last)]
     found = {}
-    for number, row in enumerate(rows[1:], 1):
+    for number, row in rows:
         try:
             name, served, begin, end = map(str.strip, row)
             mine, intervals = found.setdefault(name, (served, []))

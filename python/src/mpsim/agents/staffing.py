@@ -149,9 +149,9 @@ class Search:
 
 
 def least(days, goal, progress=None):
-    """Returns an Interval for each interval of a day, with the least number of agents with which the calls of all days together reach a Goal. One
-    agent fewer in any interval misses it there or in a later one. `days` are pairs of a Day and its calls (list, per interval, of lists of
-    Waiting); `progress`, if given, is called with the number of intervals done.
+    """Returns an Interval for each interval of a day: from the first to the last, the least number of agents with which the calls of all days
+    together can reach a Goal in that interval and those before it, and at least one if there is a call to serve. `days` are pairs of a Day and its
+    calls (list, per interval, of lists of Waiting); `progress`, if given, is called with the number of intervals done.
 
     >>> from mpsim.times.calendar import Calendar
     >>> from mpsim.times.intervals import days_of

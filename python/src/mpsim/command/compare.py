@@ -26,9 +26,9 @@ def main(args):
     labelled = list(labelled_in(args.reports))
     refused = [(label, it) for label, it in labelled if isinstance(it, Error)]
     if len(refused) == len(labelled):
-        raise ValueError(f"{args.reports[0]}: every scenario was refused")
+        raise ValueError(f"{args.reports[0]}: every scenario was rejected")
     for label, it in refused:
-        say(f"{label} is left out, because it was refused: {it.told}")
+        say(f"{label} is left out, because it was rejected: {it.told}")
     labels, reports = zip(*(item for item in labelled if item not in refused))
     found = compare(reports, args.figure, args.node)
     for line in pool_lines(reports, args.node):

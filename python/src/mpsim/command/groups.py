@@ -18,7 +18,7 @@ def group_words(parser):
     """Declares the arguments that say who serves which calls."""
     parser.add_argument("--roster", metavar="FILE", help="who is there when: a CSV file with the columns agent, queues, from and to")
     parser.add_argument("--first", action="append", default=[], metavar="SOURCE", help="serve calls of this source first; may be repeated")
-    says = "then calls of this source; may be repeated, each after the last"
+    says = "serve calls of this source next; may be repeated, in this order"
     parser.add_argument("--then", action="append", default=[], metavar="SOURCE", help=says)
     says = "which of several free agents takes a call: the one who has been free longest (the default) or the first in the roster"
     parser.add_argument("--choose", choices=[LONGEST_IDLE, FIRST], help=says)
@@ -107,7 +107,7 @@ def rows_of_group(args):
     with locating_errors(made, model=args.model):
         report = run(model.encode(errors="surrogateescape"), made.lines(), jobs=False)
     if lost := report[args.node].lost:
-        raise ValueError(f"{counted(lost, 'call')} found no free agent: this is a mistake in planner")
+        raise ValueError(f"{counted(lost, 'call')} found no free agent: this is a mistake in mpplan")
     with all_written(args.out, args.out_model) as (out, out_model):
         if out:
             out.writelines(made.texts())

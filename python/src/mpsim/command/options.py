@@ -11,7 +11,7 @@ def calendar_words(parser):
     """Declares the arguments that define a tick."""
     parser.add_argument("--tick", metavar="LENGTH", help="length of a tick, e.g. 1s or 100ms; default: from the comments of the model")
     parser.add_argument("--start", metavar="TIME", help="date and time of time 0, e.g. 2026-03-02T08:00; default: from the comments of the model")
-    says = "time zone whose days and hours count, e.g. Europe/Berlin; default: from the comments of the model"
+    says = "time zone of days and hours, e.g. Europe/Berlin; default: from the comments of the model"
     parser.add_argument("--zone", metavar="NAME", help=says)
 
 

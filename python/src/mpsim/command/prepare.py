@@ -32,7 +32,8 @@ def _times(add):
     says = "three columns with the year, month and day as numbers, if the time is in another column"
     add("--day", nargs=3, metavar=("YEAR", "MONTH", "DAY"), help=says)
     add("--zone", metavar="NAME", help="time zone of times without an offset, e.g. Europe/Berlin; without it every day has 24 hours")
-    add("--twice", choices=list(TWICE), help="which hour is meant when clocks are set back; order: the second from where times in the file go back")
+    twice = "which hour is meant when clocks are set back; order: the first until the times in the file go back, then the second"
+    add("--twice", choices=list(TWICE), help=twice)
     add("--tick", metavar="LENGTH", help="length of a tick, e.g. 1s, 100ms, 1ns or 1min; default: from the comments of --model, or 1s")
     begins = "time 0: hour (the last full hour before the first job, the default), day, first, a time of day such as 8:00, or an ISO 8601 time"
     add("--begin", default="hour", metavar="WHEN", help=begins)
@@ -49,7 +50,7 @@ def _columns(add):
     says = "column with the time at which services of --end begin: one for all, or one per --end"
     add("--answered", action="append", default=[], metavar="COLUMN", help=says)
     add("--constant", action="append", default=[], metavar="NAME=LENGTH", help="a service time that all jobs have, e.g. wrap=90s")
-    codes = "column of words, written as numbers for a split; the numbers come from --model, or count from 0"
+    codes = "column of texts, written as numbers for a split; the numbers come from --model, or count from 0"
     add("--code", action="append", default=[], metavar="COLUMN[=NAME]", help=codes)
     add("--empty", metavar="LENGTH", help="service time of an empty field; default: its row is left out")
     add("--rename", action="append", default=[], metavar="OLD=NEW", help="name in the trace (NEW) of a source in the export (OLD)")
@@ -60,7 +61,7 @@ def _rows(add):
     add("--where", action="append", default=[], metavar="CONDITION", help=says)
     add("--from", dest="begins", metavar="TIME", help="use only jobs that arrive at this time or later: ISO 8601, e.g. 2026-03-02, or h:mm")
     add("--until", metavar="TIME", help="use only jobs that arrive before this time")
-    add("--far", action="store_true", help="keep records that lie further from the rest than the rest spans, and more than 30 days")
+    add("--far", action="store_true", help="keep records more than 30 days from the rest, and further than the rest spans")
     says = "what to do with rows that repeat an earlier row, field by field; default: keep, with a warning"
     add("--duplicates", choices=["drop", "keep"], help=says)
     says = "percentage of the rows that may be left out because they can't be read; default: 5%%"

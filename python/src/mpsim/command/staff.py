@@ -47,7 +47,7 @@ def percent(text):
 
 
 def goal_of(text, tick):
-    """Returns the share (Fraction) and the ticks (int) of a text such as `80/20` or `90/1min`, for a tick of this many microseconds. Raises
+    """Returns the share (Fraction) and the ticks (int) of a text such as `80/20` or `90/1min`, for a tick of this many nanoseconds. Raises
     ValueError for an invalid text.
 
     >>> goal_of("80/20", 10**9)

@@ -52,7 +52,8 @@ class Condition:
 def parsed(word, export, mark):
     """Returns the Condition that a text such as `Direction=inbound` gives for an Export; `mark` returns the decimal mark of the numbers of a column.
     Raises ValueError."""
-    for name in sorted(filter(None, export.header), key=len, reverse=True):
+    numbers = re.findall(r"^#[1-9]\d{0,4}", word)
+    for name in [*sorted(filter(None, export.header), key=len, reverse=True), *numbers]:
         found = re.match(rf"\s*({'|'.join(map(re.escape, Condition.SIGNS))})", word[len(name) :])
         if word.startswith(name) and found:
             column = export.column(name)

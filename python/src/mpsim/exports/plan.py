@@ -1,6 +1,7 @@
 """Decides how to read the columns of an export: what is given, what is detected, and what must be asked for."""
 
 import contextlib
+import re
 from difflib import get_close_matches
 from itertools import islice
 
@@ -214,7 +215,7 @@ class Plan:
             if old in renamed:
                 raise ValueError(f"--rename {old} is given twice")
             renamed[old] = new
-        if source in header:
+        if source in header or re.fullmatch(r"#[1-9]\d{0,4}", source or ""):
             column, only = self.export.column(source), None
         elif not is_name(only) or source and only.casefold() in map(str.casefold, header):
             raise ValueError(f"no column {source!r} for --source; it has {listed(header)}")

@@ -86,7 +86,7 @@ def page(reports, labels=None, title=None, tick=None, start=None, within=None):
     """
     reports = list(reports)
     if not reports:
-        raise ValueError("a page needs a report: none was given, or every model was refused")
+        raise ValueError("a page needs a report: none was given, or every model was rejected")
     # A file name that isn't UTF-8 can't appear in a page.
     labels = [str(label).encode(errors="surrogateescape").decode(errors="replace") for label in labels or range(1, len(reports) + 1)]
     first, is_several = reports[0], len(reports) > 1

@@ -43,7 +43,7 @@ class Table:
             begin, at = until, at + 1
 
     def rows(self, every, tick):
-        """Yields a row (list, as in HEADS) per interval with calls or agents, for the length of intervals and of a tick (int, microseconds): the time
+        """Yields a row (list, as in HEADS) per interval with calls or agents, for the length of intervals and of a tick (int, nanoseconds): the time
         of day; the queue, "all" or its name; how many calls were offered, answered and abandoned; the share of all that was answered within `within`
         ticks; the mean wait and the 90th percentile of those answered, in seconds; the mean number of agents, over the days with an agent or a call
         in the interval; and the share of their time that they worked."""

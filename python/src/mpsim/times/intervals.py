@@ -7,7 +7,7 @@ from .texts import DAY, MINUTE, WEEKDAYS, given, length, moment
 
 
 def every_of(text):
-    """Returns the microseconds of the value of --every. Raises ValueError for an invalid value.
+    """Returns the nanoseconds of the value of --every. Raises ValueError for an invalid value.
 
     >>> every_of("30min") // MINUTE
     30
@@ -19,7 +19,7 @@ def every_of(text):
 
 
 def label(number, every):
-    """Returns the time of day (str) at which an interval begins, by its number from 0 and the length of intervals (int, microseconds).
+    """Returns the time of day (str) at which an interval begins, by its number from 0 and the length of intervals (int, nanoseconds).
 
     >>> label(17, 30 * MINUTE)
     '08:30'
@@ -48,7 +48,7 @@ class Day:
 
 
 def days_of(days, last, every):
-    """Returns each Day of a Calendar, from that of tick 0 to that of tick `last` (int), with intervals of this many microseconds.
+    """Returns each Day of a Calendar, from that of tick 0 to that of tick `last` (int), with intervals of this many nanoseconds.
 
     >>> from mpsim.times.calendar import Calendar
     >>> [(it.name, it.weekday, it.begins[:3]) for it in days_of(Calendar(10**9, "2026-03-02T00:00"), 90000, 30 * MINUTE)]
