@@ -1,6 +1,6 @@
 // Traces that are run, edited and reported again, over files and sinks in memory.
 use mq_base::OutOfMemory;
-use mq_edit::{EditFault, EditOutcome, OverFault, PastFault, edit_trace};
+use mq_edit::{EditFault, EditOutcome, ModelFault, OverFault, PastFault, TraceFault, edit_trace};
 use mq_outside::{MemFile, MemFiles, MemSink};
 use std::alloc::Global;
 use std::test::Fail;
@@ -283,6 +283,40 @@ const FAULTS: &[Case<'static>] = &[
         status: 6,
         out: b"",
         err: b"mpedit: cannot read file 3\n",
+        ..ADDED
+    },
+    // The model's third line has an input that names no node, and then no input.
+    Case {
+        model: b"model 1\nsource src\nserver desk d from till\n",
+        outcome: EditOutcome::Model(ModelFault::UnknownInput { line: 3, input: 0 }),
+        status: 3,
+        out: b"",
+        err: b"mpedit: model line 3: input 0 unknown\n",
+        ..ADDED
+    },
+    Case {
+        model: b"model 1\nsource src\nserver desk d from\n",
+        outcome: EditOutcome::Model(ModelFault::BadLine { line: 3, word: 5 }),
+        status: 3,
+        out: b"",
+        err: b"mpedit: model line 3: word 5 not allowed\n",
+        ..ADDED
+    },
+    // The header lacks the model's column, or the second record has a field that isn't a number.
+    Case {
+        trace: b"source,time,e\nsrc,0,4\n",
+        outcome: EditOutcome::Trace(TraceFault::MissingColumn { column: 0 }),
+        status: 4,
+        out: b"",
+        err: b"mpedit: trace header: column d missing\n",
+        ..ADDED
+    },
+    Case {
+        trace: b"source,time,d\nsrc,0,4\nsrc,1,one\n",
+        outcome: EditOutcome::Trace(TraceFault::BadNumber { row: 2, field: 3 }),
+        status: 4,
+        out: b"",
+        err: b"mpedit: trace record 2: field 3 is not a number in range\n",
         ..ADDED
     },
     Case {
