@@ -1,4 +1,4 @@
-// Jobs that count how often they are asked for: only those of the blocks that are redone.
+// Jobs that count how often they are asked for: only those of the blocks that are redone are.
 ghost use Rattle.std.specs.Prelude.{◌≡◌, ◌+◌, ◌≤◌};
 
 use mq_base::{OutOfMemory, Steps};
@@ -10,7 +10,8 @@ use std::marker::Brand;
 use std::sync::ledger::{Blank, Ledger};
 use std::test::Fail;
 
-// A number of jobs, each of which leaves its own number, from 1, as the carry. `asked` counts the jobs that are asked for.
+// A number of jobs, each of which leaves its own number, from 1, as the carry. `asked` counts the jobs that are asked
+// for.
 #[derive(Drop)]
 struct Watched<'a> {
     jobs: u32,
@@ -82,7 +83,8 @@ impl<'a> Timed for Watched<'a> {
     ghost folds_time = { λ s n le. tt };
 }
 
-// Redoes five jobs in blocks of two after the first block: the number of jobs that are asked for, and of all that are done.
+// Redoes the blocks after the first one, for five jobs in blocks of two. Returns the number of jobs asked for, and of
+// all jobs.
 fn asked_behind<L: Ledger>(alloc: Global, blank: Blank) -> Result<(u32, usize), OutOfMemory>
     requires name { blank.name ≡ L.name }
     requires parts { blank.parts ≡ L.parts }
@@ -106,8 +108,8 @@ fn jobs_of_blocks_that_stay_are_not_asked_for(rt: HostRuntime) -> Result<(), Fai
     Ok(())
 }
 
-// Whether a block of the third and the fourth of five jobs, after two jobs that left the carry 2, leaves the carries 3 and 4,
-// and asks for two jobs.
+// Redoes the third and the fourth of five jobs, given 2, the carry after two jobs. Whether the carries after the two
+// are 3 and 4, and two jobs were asked for.
 fn one_block_is_redone<L: Ledger>(alloc: Global, blank: Blank) -> Result<bool, OutOfMemory>
     requires name { blank.name ≡ L.name }
     requires parts { blank.parts ≡ L.parts }
