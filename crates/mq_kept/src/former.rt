@@ -110,7 +110,7 @@ pub fn no_nodes(alloc: Global, count: usize) -> Result<Nodes, OutOfMemory>
     })
 }
 
-/// Returns that each of `count` nodes still has what it had.
+/// Returns a list that says of each of `count` nodes that it still has what it had.
 pub fn all_same(alloc: Global, count: usize) -> Result<Vec<Former>, OutOfMemory>
     ensures count { IfOk result (λ formers. length formers.items ≡ count) }
     ensures same { IfOk result (λ formers. All (λ former. former ≡ Same) formers.items) }

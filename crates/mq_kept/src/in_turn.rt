@@ -59,7 +59,7 @@ pub fn behind_first<L: Ledger>(
     }
 }
 
-// Does this for a server.
+// Does what `behind_first` does, for a server.
 fn server_behind<L: Ledger>(
     alloc: Global,
     load: &Load,
@@ -96,7 +96,7 @@ fn server_behind<L: Ledger>(
     })
 }
 
-// Does this for a tandem.
+// Does what `behind_first` does, for a tandem.
 fn tandem_behind<L: Ledger>(
     alloc: Global,
     load: &Load,
@@ -133,7 +133,7 @@ fn tandem_behind<L: Ledger>(
     })
 }
 
-// Does this for a fork-join.
+// Does what `behind_first` does, for a fork-join.
 fn forkjoin_behind<L: Ledger>(
     alloc: Global,
     load: &Load,

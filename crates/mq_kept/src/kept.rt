@@ -77,8 +77,8 @@ impl<'p> Kept<'p> {
 
     /// Makes these edits, in order, in the kept rows, and redoes what they can change. Returns the number of blocks
     /// from the first difference on, over the nodes whose blocks are counted, and the number of all their blocks.
-    /// Counts one step for each block that is worked, which excludes the blocks of sources, because a source's jobs
-    /// depart as they come.
+    /// Counts one step for each block that is worked; if it fails, at most that many. The blocks of sources aren't
+    /// worked, because a source's jobs depart as they come.
     ///
     /// Fails as `run` of `mq_engine` over the edited rows does. Then the kept rows and run are as before, and the steps
     /// stay counted.

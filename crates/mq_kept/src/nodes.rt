@@ -42,7 +42,7 @@ use std::alloc::Global;
 use std::sync::ledger::Ledger;
 use std::thread::Threads;
 
-/// How to return to the kept run, after which a node is computed.
+/// What is known of the kept run when a node is computed: how to return to it.
 #[derive(Clone, Copy)]
 pub struct FormerRun<'a> {
     /// How the rows return to those of the kept run, if a run is kept.
@@ -406,8 +406,8 @@ fn is_unchanged(past: &FormerRun, same: u32, visits: u32, count: u32) -> bool
     past.earlier.is_some() && same == visits && same == count
 }
 
-// Whether a run is kept in which a node of this kind can be edited in place, because it doesn't become shorter. If less
-// than half stays, its lists are replaced, which all workers share.
+// Whether a run is kept, a node of this kind can be edited in place, and it doesn't become shorter. If less than half
+// of its visits stay, its lists are computed whole instead; all workers share what follows from the departures.
 fn can_redo_tail(past: &FormerRun, kind: &Kind, same: u32, visits: u32, count: u32) -> bool
     ensures { result ≡ true → ((former : Bor TheFormer) × (past.now.earlier ≡ Some former)) × HasTail kind.now × (visits ≤ count) }
 {

@@ -181,7 +181,7 @@ fn put_tail(
     Ok(())
 }
 
-// Does this without the number of jobs that each visit found, and even if a visit departs too late.
+// Replaces all but the number of jobs that each visit found, even if a visit departs too late.
 fn put_columns(
     alloc: Global,
     lists: &mut NodeLists,

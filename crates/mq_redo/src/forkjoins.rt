@@ -75,7 +75,7 @@ pub fn branched_behind<L: Ledger>(
     done
 }
 
-// Does this for `behind`, the jobs after those blocks, given what they ask for.
+// Does the work of `branched_behind` for `behind`, the jobs after those blocks, given what they ask for.
 fn branched_last<L: Ledger>(
     alloc: Global,
     rows: &Rows,

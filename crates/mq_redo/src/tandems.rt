@@ -72,7 +72,7 @@ pub fn staged_behind<L: Ledger>(
     done
 }
 
-// Does this for `behind`, the jobs after those blocks, given what they ask for.
+// Does the work of `staged_behind` for `behind`, the jobs after those blocks, given what they ask for.
 fn staged_last<L: Ledger>(
     alloc: Global,
     rows: &Rows,
