@@ -1,9 +1,9 @@
 """The command `mpplan`, which takes a planner from an export to a decision.
 
 Each name in `commands.COMMANDS` is a subcommand and a module of this package. The module has `EXAMPLE`, an example command line; `words(parser)`,
-which declares the arguments; and `main(args)`, which turns the arguments into values, calls the library, and returns the command's status, None for 0.
-It raises an Error of a program, a ReportError, an OSError, or a ValueError whose message names the file, row, column and value. `mpplan` prints any of
-them as one line. Nothing in the library imports this package.
+which declares the arguments; and `main(args)`, which turns the arguments into values, calls the library, and returns the command's status, None for
+0. It raises an Error of a program, a ReportError, an OSError, or a ValueError whose message names the file, row, column and value. `mpplan` prints
+any of them as one line. Nothing in the library imports this package.
 """
 
 import sys
