@@ -1,6 +1,6 @@
-"""Checks how the modules of the Python package depend on one another: no module imports itself through others, and the library never imports the
-command."""
-from package import cycles_in, imports_of
+"""Checks how the modules of the Python package depend on one another: no module imports itself through others, the library never imports the
+command, and what a module imports from another is there."""
+from package import cycles_in, imports_of, lacking_in
 from programs import ROOT, Check
 
 PACKAGE = ROOT / "python" / "src" / "mpsim"
@@ -26,6 +26,15 @@ class Package(Check):
         for name, targets in imports.items():
             if not is_of_command(name):
                 self.same(f"what {name} imports of the command", sorted(filter(is_of_command, targets)), [])
+
+    def test_what_is_imported_is_there(self):
+        """Inside functions too, which no test may call."""
+        self.same("names that no module has", list(lacking_in(PACKAGE)), [])
+        folder = self.folder / "lacking"
+        folder.mkdir()
+        (folder / "one.py").write_text("def a():\n    from .two import b, c\n    from .three import d\n")
+        (folder / "two.py").write_text("b = 1\n")
+        self.same("planted names", list(lacking_in(folder)), ["lacking.one imports c from lacking.two", "lacking.one imports d from lacking.three"])
 
     def planted(self, files):
         """Returns the cycles of a package with these texts by path."""
