@@ -6,10 +6,16 @@ which declares the arguments; and `main(args)`, which turns the arguments into v
 any of them as one line. Nothing in the library imports this package.
 """
 
+from __future__ import annotations
+
 import sys
+from typing import TYPE_CHECKING
+
+if TYPE_CHECKING:
+    from collections.abc import Sequence
 
 
-def main(argv=None):
+def main(argv: Sequence[str] | None = None) -> int:
     """Runs `mpplan` with these arguments (by default those of the command line) and returns its status: 0; that of a program that refused or failed;
     2 for invalid arguments; 130 for Ctrl-C; 141 if the reader of the output has gone; 1 otherwise."""
     try:
