@@ -159,3 +159,40 @@ def _frame(parts: Sequence[NodeVisits]) -> pandas.DataFrame:
             "end": pandas.Categorical.from_codes(ends, ["left", "lost", "held"]),
         }
     )
+
+
+class Totals:
+    """Adds up the visits to a node in a run with this span (int, ticks), to compare them with its line."""
+
+    def __init__(self, span: int) -> None:
+        self.span = span
+        self.count = self.lost = self.held = self.wait = self.max = self.area = 0
+
+    def add(self, visits: NodeVisits) -> None:
+        """Adds some visits."""
+        lost, held = visits.wait.count(LOST), visits.wait.count(HELD)
+        self.count, self.lost, self.held = self.count + len(visits), self.lost + lost, self.held + held
+        self.wait += sum(visits.wait) - lost * LOST - held * HELD
+        self.max = max(self.max, max(visits.wait))
+        self.area += sum(visits.depart) - sum(visits.arrive)
+        if lost or held:
+            # A lost visit leaves when it arrives, a held one at the end, instead of the values that mark them.
+            self.area += sum(arrive - LOST for arrive, wait in zip(visits.arrive, visits.wait) if wait == LOST)
+            self.area += held * (self.span - HELD)
+
+    def figures(self) -> tuple[int, ...]:
+        """Returns the numbers of visits, of those that departed, were lost and are held, the sum and the longest of the waits, and the area (int)."""
+        return self.count, self.count - self.lost - self.held, self.lost, self.held, self.wait, self.max, self.area
+
+
+def filled(visits: NodeVisits, numbers: bytes, count: int) -> bool:
+    """Appends numbers, four per line, to visits. Returns whether there are enough, all in range."""
+    words = numbers.split()
+    if len(words) != 4 * count:
+        return False
+    try:
+        for at, name in enumerate(FIELDS):
+            getattr(visits, name).fromlist(list(map(int, words[at::4])))
+    except OverflowError:
+        return False
+    return True

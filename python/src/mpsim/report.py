@@ -11,7 +11,7 @@ from .errors import ReportError, read_from
 from .inputs import model_text
 from .lines import NUMBERS, Again, Exit, Node
 from .model import nodes_of
-from .node_visits import FIELDS, HELD, LOST, NodeVisits, Visits
+from .node_visits import NodeVisits, Totals, Visits, filled
 
 if TYPE_CHECKING:
     import pandas
@@ -283,7 +283,7 @@ class Reading:
     def pieces(self) -> Iterator[NodeVisits]:
         """Yields the visits, as NodeVisits of one node each, in the order of the lines. At most half a megabyte of text is held at a time. Raises
         ReportError for an invalid line and, after the last piece, if a node's visits don't match its line."""
-        seen = {node.name: _Seen(self.span) for node in self.nodes}
+        seen = {node.name: Totals(self.span) for node in self.nodes}
         # The names of the nodes from that of the last visit on.
         self._left = list(seen)
         for text in self._texts():
@@ -291,7 +291,7 @@ class Reading:
                 seen[piece.node].add(piece)
                 yield piece
         for node in self.nodes:
-            if seen[node.name].totals() != (node.in_, node.out, node.lost, node.held or 0, node.wait, node.max, node.area):
+            if seen[node.name].figures() != (node.in_, node.out, node.lost, node.held or 0, node.wait, node.max, node.area):
                 raise self._contradiction(node, "its job lines differ, or some are missing")
 
     def _texts(self) -> Iterator[bytes]:
@@ -326,7 +326,7 @@ class Reading:
             lines, count = mine.replace(words, b" "), mine.count(b"\n")
             piece = NodeVisits(name[0].decode(errors="replace") if name else "")
             shaped = bool(name) and lines.translate(None, DIGITS) == SHAPE * count
-            if not shaped or not _fill(piece, lines.translate(None, LETTERS), count) or not self._is_next(piece):
+            if not shaped or not filled(piece, lines.translate(None, LETTERS), count) or not self._is_next(piece):
                 for end, stand_in in STAND_INS:
                     mine = mine.replace(stand_in, end)
                 raise self._first_error(mine)
@@ -363,38 +363,3 @@ class Reading:
             for piece in self.pieces():
                 visits[piece.node].extend(piece)
         return Report(self.form, self.jobs, self.span, self.nodes, self.exits, visits, self.again)
-
-
-class _Seen:
-    """Adds up the visits to a node, to compare them with its line."""
-
-    def __init__(self, span: int) -> None:
-        self.span = span
-        self.count = self.lost = self.held = self.wait = self.max = self.area = 0
-
-    def add(self, visits: NodeVisits) -> None:
-        lost, held = visits.wait.count(LOST), visits.wait.count(HELD)
-        self.count, self.lost, self.held = self.count + len(visits), self.lost + lost, self.held + held
-        self.wait += sum(visits.wait) - lost * LOST - held * HELD
-        self.max = max(self.max, max(visits.wait))
-        self.area += sum(visits.depart) - sum(visits.arrive)
-        if lost or held:
-            # A lost visit leaves when it arrives, a held one at the end, instead of the values that mark them.
-            self.area += sum(arrive - LOST for arrive, wait in zip(visits.arrive, visits.wait) if wait == LOST)
-            self.area += held * (self.span - HELD)
-
-    def totals(self) -> tuple[int, ...]:
-        return self.count, self.count - self.lost - self.held, self.lost, self.held, self.wait, self.max, self.area
-
-
-def _fill(visits: NodeVisits, numbers: bytes, count: int) -> bool:
-    """Appends numbers, four per line, to visits. Returns whether there are enough, all in range."""
-    words = numbers.split()
-    if len(words) != 4 * count:
-        return False
-    try:
-        for at, name in enumerate(FIELDS):
-            getattr(visits, name).fromlist(list(map(int, words[at::4])))
-    except OverflowError:
-        return False
-    return True

@@ -246,7 +246,8 @@ def _node(report: Report, pool: str) -> Node:
     waits = None if report.visits is None else pooled(report, pool).waits()
     longest, p50, p90, p99 = (None if waits is None else percentile_of(waits, item) for item in (100, 50, 90, 99))
     gone = report[gone_name(pool)].in_ if _loses(report, pool) else 0
-    return Node(pool, "pool", queue.in_ + gone, sum(agent.out for agent in agents), gone, agents[0].held, wait, longest, p50, p90, p99, busy, area, None, util)
+    out, held = sum(agent.out for agent in agents), agents[0].held
+    return Node(pool, "pool", queue.in_ + gone, out, gone, held, wait, longest, p50, p90, p99, busy, area, None, util)
 
 
 def _of_trunk_group(report: Report, pool: str) -> NodeVisits:

@@ -108,8 +108,8 @@ def days(
     number of pieces (int) in which jobs are still present when the next begins.
 
     Agents and waits at a pool are recomputed for the records of the piece (`recomputed`). The model is any that `mpsim.run` accepts, and is read for
-    each piece. If a run is refused because of the bound or of a node with too many visits, its scenario has that error. Any other error is raised, with
-    the path of the model if given. `tell` is called with the number of pieces done."""
+    each piece. If a run is refused because of the bound or of a node with too many visits, its scenario has that error. Any other error is raised,
+    with the path of the model if given. `tell` is called with the number of pieces done."""
     times, sweep, over, known = trace.times(), Sweep(), 0, model_pools(model, trace)
     for done, it in enumerate(pieces):
         tell(done)
