@@ -82,6 +82,7 @@ class Report:
 
     @property
     def model(self) -> str | None:
+        """The text of the model (str), None if it isn't known. Setting it raises ValueError if its nodes aren't those of the report."""
         return self._model
 
     @model.setter

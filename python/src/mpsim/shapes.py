@@ -26,7 +26,8 @@ class Frame(Protocol):
     """A data frame, such as one of pandas or polars."""
 
     @property
-    def columns(self) -> Iterable[str]: ...
+    def columns(self) -> Iterable[str]:
+        """The names of the columns."""
 
     def __getitem__(self, name: str, /) -> FrameColumn: ...
 
@@ -34,14 +35,16 @@ class Frame(Protocol):
 class FrameColumn(Protocol):
     """A column of a data frame: pandas calls its values `tolist`, polars `to_list`."""
 
-    def to_list(self) -> List[object]: ...
+    def to_list(self) -> List[object]:
+        """Returns the values."""
 
 
 class Reader(Protocol):
     """An iterator of rows that counts lines, such as a CSV reader."""
 
     @property
-    def line_num(self) -> int: ...
+    def line_num(self) -> int:
+        """The number of lines read."""
 
     def __iter__(self) -> Iterator[List[str]]: ...
 

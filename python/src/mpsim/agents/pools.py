@@ -42,6 +42,7 @@ def left_name(pool: str) -> str:
 
 
 def gone_name(pool: str) -> str:
+    """Returns the delay in which callers who leave a pool's queue wait until they leave."""
     return f"{pool}_gone"
 
 

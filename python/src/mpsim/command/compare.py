@@ -21,6 +21,7 @@ EXAMPLE = """mpplan compare today.txt tomorrow.txt --figure p90
 
 
 def words(parser: ArgumentParser) -> None:
+    """Declares the arguments of `mpplan compare`."""
     parser.add_argument("reports", nargs="+", metavar="report", help="reports or sweeps; each scenario of a sweep counts as a report")
     says = f"figure to compare: one of {', '.join(FIGURES)}; default: p90"
     parser.add_argument("--figure", choices=FIGURES, default="p90", metavar="FIGURE", help=says)
@@ -30,6 +31,7 @@ def words(parser: ArgumentParser) -> None:
 
 
 def main(args: Namespace) -> None:
+    """Runs `mpplan compare`."""
     labelled = list(labelled_in(args.reports))
     refused = [(label, it) for label, it in labelled if isinstance(it, Error)]
     if len(refused) == len(labelled):

@@ -22,6 +22,7 @@ EXAMPLE = "mpplan days model.txt trace.csv --open 8:00 >days.csv"
 
 
 def words(parser: ArgumentParser) -> None:
+    """Declares the arguments of `mpplan days`."""
     parser.add_argument("model", help="a model")
     parser.add_argument("trace", help="its trace")
     parser.add_argument("--node", action="append", default=[], metavar="NAME", help="only rows of this node or pool; may be repeated")
@@ -35,6 +36,7 @@ def words(parser: ArgumentParser) -> None:
 
 
 def main(args: Namespace) -> int:
+    """Runs `mpplan days`, and returns its status."""
     text, trace = text_of(args.model), Trace.read(args.trace)
     if args.every is not None and (args.every < 1 or args.open or args.close):
         raise ValueError(f"--every {args.every}: expected a positive number of ticks, without --open and --close")

@@ -18,6 +18,7 @@ EXAMPLE = "mpplan edit trace.csv changes.csv --out edited.csv"
 
 
 def words(parser: ArgumentParser) -> None:
+    """Declares the arguments of `mpplan edit`."""
     parser.add_argument("trace", help="a trace")
     parser.add_argument("changes", help="CSV with a header of record and column names of the trace; or, with --model, edits for mpedit")
     judges = "check the changes against this model, which mpsim checks first; edits for mpedit need it for the order of their values"
@@ -27,6 +28,7 @@ def words(parser: ArgumentParser) -> None:
 
 
 def main(args: Namespace) -> None:
+    """Runs `mpplan edit`."""
     if args.edits and not args.model:
         raise ValueError("--edits requires --model, which has the order of their values")
     judge_outputs([args.out, args.edits], {"trace": [args.trace], "file of changes": [args.changes], "model": [args.model]})

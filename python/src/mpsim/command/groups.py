@@ -36,6 +36,7 @@ def group_words(parser: ArgumentParser) -> None:
 
 
 def roster_words(parser: ArgumentParser) -> None:
+    """Declares the arguments of `mpplan pool` for a roster, patience and priorities."""
     group_words(parser)
     says = "callers leave after this time, e.g. 240s, after the ticks in this column, or after random times of this mean: exp:240s"
     parser.add_argument("--patience", metavar="TIME", help=says)

@@ -18,6 +18,7 @@ EXAMPLE = "mpplan hours model.txt trace.csv --node desk --within 20 >hours.csv"
 
 
 def words(parser: ArgumentParser) -> None:
+    """Declares the arguments of `mpplan hours`."""
     report_words(parser)
     place_words(parser)
     says = "rows by hour of day, by day, by weekday, or by each hour of each day; default: hour"
@@ -29,6 +30,7 @@ def words(parser: ArgumentParser) -> None:
 
 
 def main(args: Namespace) -> None:
+    """Runs `mpplan hours`."""
     report = report_of(args)
     found = visits_of(report, args)
     if len(found) != 1:

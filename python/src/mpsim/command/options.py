@@ -42,6 +42,7 @@ def calendar_of(args: Namespace, model: str | None = None) -> Calendar:
 
 
 def figure_words(parser: ArgumentParser, what: str = "waits", share: str = "report the share served within this many ticks (default: 20)") -> None:
+    """Declares the arguments that choose the figures of waits, or of what else is counted."""
     parser.add_argument("--within", type=ticks, action=Once, metavar="TICKS", help=f"{share}; may be repeated")
     says = f"percentile of the {what} to report (default: 50, 90, 95 and 99); may be repeated"
     parser.add_argument("--percentile", type=float, action=Once, metavar="P", help=says)
@@ -67,6 +68,7 @@ class Once(argparse.Action):
 
 
 def every_words(parser: ArgumentParser) -> None:
+    """Declares the argument that gives the length of an interval."""
     parser.add_argument("--every", default="30min", metavar="LENGTH", help="length of an interval, e.g. 15min, 30min (the default) or 1h")
 
 
@@ -84,11 +86,13 @@ def style_words(parser: ArgumentParser) -> None:
 
 
 def report_words(parser: ArgumentParser, what: str = "a report with job lines") -> None:
+    """Declares the arguments that give a report, or a model and a trace to run."""
     parser.add_argument("report", help=f"{what}, or a model")
     parser.add_argument("trace", nargs="?", help="after a model: the trace to run through it")
 
 
 def place_words(parser: ArgumentParser, several: str = "") -> None:
+    """Declares the arguments that name nodes and pools."""
     parser.add_argument("--node", action="append", default=[], metavar="NAME", help=f"a node, or a pool by its name{several}")
     says = f"a pool that mpplan pool made: all its agents together{several}"
     parser.add_argument("--pool", action="append", default=[], metavar="NAME", help=says)

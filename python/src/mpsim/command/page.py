@@ -27,6 +27,7 @@ EXAMPLE = "mpplan page jobs.txt --model model.txt --out run.html"
 
 
 def words(parser: ArgumentParser) -> None:
+    """Declares the arguments of `mpplan page`."""
     says = "a report of mpsim or a sweep of mpsweep; with job lines (--jobs) the page has waits"
     parser.add_argument("reports", metavar="REPORT", nargs="+", help=says)
     says = "the model, to draw the network: one for all reports, or one per report"
@@ -68,6 +69,7 @@ def print_pools(reports: Iterable[Report]) -> None:
 
 
 def main(args: Namespace) -> None:
+    """Runs `mpplan page`."""
     judge_outputs([args.out], {"report": args.reports, "model": args.model})
     texts, labelled = _models(args), []
     for at, (path, name) in enumerate(zip(args.reports, labels_of(args.reports))):

@@ -30,6 +30,7 @@ EXAMPLE = """mpplan pool model.txt trace.csv --node desk --agents 8..15 --within
 
 
 def words(parser: ArgumentParser) -> None:
+    """Declares the arguments of `mpplan pool`."""
     parser.add_argument("model", nargs="?", help="a model with a server in the place of the pool")
     parser.add_argument("trace", nargs="?", help="its trace")
     parser.add_argument("--node", required=True, metavar="NAME", help="the server to replace by the pool; with --report, the pool")
@@ -54,6 +55,7 @@ def numbers_of(text: str) -> range:
 
 
 def main(args: Namespace) -> None:
+    """Runs `mpplan pool`."""
     within, percents = args.within or (20,), args.percentile or PERCENTS
     if asks_for_group(args):
         rows = rows_of_group(args)

@@ -20,6 +20,7 @@ EXAMPLE = "mpplan recorded calls.csv --model model.txt --wait wait --abandoned g
 
 
 def words(parser: ArgumentParser) -> None:
+    """Declares the arguments of `mpplan recorded`."""
     parser.add_argument("trace", help="a trace with the recorded waits as a column")
     recorded_words(parser)
     parser.add_argument("--source", action="append", default=[], metavar="NAME", help="only calls of this source; may be repeated")
@@ -28,6 +29,7 @@ def words(parser: ArgumentParser) -> None:
 
 
 def recorded_words(parser: ArgumentParser) -> None:
+    """Declares the arguments that name the columns of recorded waits."""
     says = "column with the recorded wait in ticks, for an abandoned call until the caller left"
     parser.add_argument("--wait", required=True, metavar="COLUMN", help=says)
     parser.add_argument("--abandoned", metavar="COLUMN", help="column that isn't 0 for a call that was abandoned; default: none was")
@@ -36,6 +38,7 @@ def recorded_words(parser: ArgumentParser) -> None:
 
 
 def main(args: Namespace) -> None:
+    """Runs `mpplan recorded`."""
     days = calendar_of(args, text_of(args.model) if args.model else None)
     every = every_of(args.every)
     trace = Trace.read(args.trace)

@@ -19,6 +19,7 @@ EXAMPLE = "mpplan run model.txt trace.csv --page run.html --tick 1s"
 
 
 def words(parser: ArgumentParser) -> None:
+    """Declares the arguments of `mpplan run`."""
     parser.add_argument("model", help="a model")
     parser.add_argument("trace", help="its trace")
     parser.add_argument("--jobs", action="store_true", help="include the job lines in the report")
@@ -27,6 +28,7 @@ def words(parser: ArgumentParser) -> None:
 
 
 def main(args: Namespace) -> None:
+    """Runs `mpplan run`."""
     judge_outputs([args.page], {"model": [args.model], "trace": [args.trace]})
     for word in calendar_words_in(args) if not args.page else ():
         raise ValueError(f"{word} requires --page")

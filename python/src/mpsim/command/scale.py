@@ -20,6 +20,7 @@ EXAMPLE = "mpplan scale trace.csv --by 5/4 --shift 604800 --out more.csv"
 
 
 def words(parser: ArgumentParser) -> None:
+    """Declares the arguments of `mpplan scale`."""
     parser.add_argument("trace", help="a trace")
     parser.add_argument("--by", required=True, metavar="K/N", help="factor for the load: 2, 3/2, 9/10")
     ways = parser.add_mutually_exclusive_group()
@@ -42,6 +43,7 @@ def ratio(text: str) -> tuple[int, int]:
 
 
 def main(args: Namespace) -> None:
+    """Runs `mpplan scale`."""
     k, n = ratio(args.by)
     way = "times" if args.times else "shift" if args.shift is not None else "twins"
     if args.times and args.source:

@@ -16,6 +16,7 @@ EXAMPLE = "mpplan service jobs.txt --node desk --within 20 --percentile 95"
 
 
 def words(parser: ArgumentParser) -> None:
+    """Declares the arguments of `mpplan service`."""
     report_words(parser)
     place_words(parser, "; may be repeated")
     figure_words(parser)
@@ -23,6 +24,7 @@ def words(parser: ArgumentParser) -> None:
 
 
 def main(args: Namespace) -> None:
+    """Runs `mpplan service`."""
     report = report_of(args)
     visits = visits_of(report, args) or all_visits(report)
     # Everything is computed before a row is written.

@@ -17,6 +17,7 @@ EXAMPLE = "mpplan sojourns model.txt trace.csv --by source --within 300"
 
 
 def words(parser: ArgumentParser) -> None:
+    """Declares the arguments of `mpplan sojourns`."""
     report_words(parser)
     says = "one row per source (source), per node where jobs left (end), per pair of both, or for all jobs; default: both"
     parser.add_argument("--by", choices=["both", "source", "end", "all"], default="both", help=says)
@@ -26,6 +27,7 @@ def words(parser: ArgumentParser) -> None:
 
 
 def main(args: Namespace) -> None:
+    """Runs `mpplan sojourns`."""
     report = report_of(args)
     rows = each(report) if args.each else list(table(report, args.by, args.within or (), args.percentile or PERCENTS))
     write_table(rows, args.format, args.csv_style)

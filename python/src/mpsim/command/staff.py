@@ -30,6 +30,7 @@ EXAMPLE = """mpplan staff model.txt trace.csv --node desk --goal 80/20 --weekday
 
 
 def words(parser: ArgumentParser) -> None:
+    """Declares the arguments of `mpplan staff`."""
     parser.add_argument("model", help="a model with a server in the place of the agents")
     parser.add_argument("trace", help="its trace")
     parser.add_argument("--node", required=True, metavar="NAME", help="the server to replace by agents who share its queue")
@@ -70,6 +71,7 @@ def goal_of(text: str, tick: int) -> tuple[Fraction, int]:
 
 
 def main(args: Namespace) -> None:
+    """Runs `mpplan staff`."""
     days = calendar_of(args, text_of(args.model))
     every = every_of(args.every)
     share, within = given("--goal", lambda text: goal_of(text, days.tick), args.goal)

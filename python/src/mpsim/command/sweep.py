@@ -30,6 +30,7 @@ EXAMPLE = """mpplan sweep model.txt trace.csv --set agents=20..40 --page sweep.h
 
 
 def words(parser: ArgumentParser) -> None:
+    """Declares the arguments of `mpplan sweep`."""
     parser.add_argument("model", nargs="?", help="a model in which {NAME} is replaced by a value of --set")
     parser.add_argument("trace", nargs="?", help="its trace")
     ranges = "values of NAME: a range (20..40), a range with a step (20..40..5) or a list (1,2,5); several --set run every combination"
@@ -220,5 +221,6 @@ def _in_folder(args: Namespace) -> int:
 
 
 def main(args: Namespace) -> int:
+    """Runs `mpplan sweep`, and returns its status."""
     _judged(args)
     return _in_memory(args) if args.folder is None else _in_folder(args)

@@ -23,6 +23,7 @@ EXAMPLE = """mpplan table report.txt >nodes.csv
 
 
 def words(parser: ArgumentParser) -> None:
+    """Declares the arguments of `mpplan table`."""
     parser.add_argument("report", help="a report or a sweep, or a model")
     parser.add_argument("trace", nargs="?", help="after a model: the trace to run through it")
     parser.add_argument("--of", choices=["nodes", "exits", "visits"], default="nodes", help="one row per node, exit or visit; default: nodes")
@@ -32,6 +33,7 @@ def words(parser: ArgumentParser) -> None:
 
 
 def main(args: Namespace) -> None:
+    """Runs `mpplan table`."""
     content: Report | Sweep
     if args.trace is not None:
         content = run(args.report, args.trace, jobs=args.of == "visits")

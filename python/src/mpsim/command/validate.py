@@ -23,6 +23,7 @@ EXAMPLE = "mpplan validate model.txt calls.csv --node desk --roster roster.csv -
 
 
 def words(parser: ArgumentParser) -> None:
+    """Declares the arguments of `mpplan validate`."""
     parser.add_argument("model", help="a model with a server in the place of the agents")
     parser.add_argument("trace", help="its trace, with the recorded waits as a column")
     parser.add_argument("--node", required=True, metavar="NAME", help="the server to replace by the agents")
@@ -33,6 +34,7 @@ def words(parser: ArgumentParser) -> None:
 
 
 def main(args: Namespace) -> None:
+    """Runs `mpplan validate`."""
     if bool(args.roster) == bool(args.agents):
         raise ValueError("give --roster or --agents")
     days = calendar_of(args, text_of(args.model))

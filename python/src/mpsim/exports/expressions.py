@@ -66,6 +66,7 @@ class Expression:
         self.rounded = 0
 
     def of(self, row: Sequence[str], begun: Sequence[int]) -> int:
+        """Returns the ticks (int) of a row. `begun` has the moment of the arrival first. Raises Unread and Asks."""
         total, at = Fraction(0), self.column
         try:
             for sign, item in self.times:
@@ -90,4 +91,5 @@ class Expression:
         return int(ticks)
 
     def many(self, columns: Sequence[Sequence[str]]) -> list[int]:
+        """Raises Unread, since each row needs individual treatment."""
         raise Unread("one by one")

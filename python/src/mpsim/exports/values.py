@@ -25,10 +25,12 @@ class Demand:
         self.name, self.column, self.how, self.empty = name, column, how, empty
 
     def of(self, row: Sequence[str], begun: Sequence[int]) -> int:
+        """Returns the ticks (int) of a row. `begun` has the moments of the arrival and of the beginnings of services. Raises Unread and Asks."""
         text = row[self.column]
         return self.empty if self.empty is not None and not text.strip() else self.how.ticks[text]
 
     def many(self, columns: Sequence[Sequence[str]]) -> list[int]:
+        """Returns the ticks (list of int) of rows, given as columns. Raises Unread if one needs individual treatment."""
         return list(map(self.how.ticks.__getitem__, columns[self.column]))
 
     @property
@@ -45,6 +47,7 @@ class Sum:
         self.column: int = parts[0].column
 
     def of(self, row: Sequence[str], begun: Sequence[int]) -> int:
+        """Returns the ticks (int) of a row. `begun` has the moments of the arrival and of the beginnings of services. Raises Unread and Asks."""
         total = 0
         for part in self.parts:
             try:
@@ -58,6 +61,7 @@ class Sum:
         return total
 
     def many(self, columns: Sequence[Sequence[str]]) -> list[int]:
+        """Returns the ticks (list of int) of rows, given as columns. Raises Unread if one needs individual treatment."""
         totals = list(map(sum, zip(*(part.many(columns) for part in self.parts))))
         if max(totals) > GREATEST_VALUE:
             raise Unread("one by one")
@@ -65,6 +69,7 @@ class Sum:
 
     @property
     def rounded(self) -> int:
+        """The number of distinct texts of its parts that aren't whole ticks."""
         return sum(getattr(part, "rounded", 0) for part in self.parts)
 
 
@@ -77,6 +82,7 @@ class End:
         self.column: int = times.column
 
     def of(self, row: Sequence[str], begun: Sequence[int]) -> int:
+        """Returns the ticks (int) of a row. `begun` has the moments of the arrival and of the beginnings of services. Raises Unread and Asks."""
         if self.empty is not None and not row[self.column].strip():
             return self.empty
         begin = begun[self.begin]
@@ -105,6 +111,7 @@ class End:
             raise Asks(f"the service is {lengths} long, since an hour occurs twice: give --twice order, for rows in order of --time or of --end")
 
     def many(self, columns: Sequence[Sequence[str]]) -> list[int]:
+        """Raises Unread, since each row needs individual treatment."""
         raise Unread("one by one")
 
 
@@ -116,9 +123,11 @@ class Constant:
         self.name, self.column, self.ticks = name, -1, ticks
 
     def of(self, row: Sequence[str], begun: Sequence[int]) -> int:
+        """Returns the ticks (int) of a row."""
         return self.ticks
 
     def many(self, columns: Sequence[Sequence[str]]) -> list[int]:
+        """Returns the ticks (list of int) of rows, given as columns."""
         return [self.ticks] * len(columns[0])
 
 
@@ -131,13 +140,15 @@ class Code:
         self._next = max(self.codes.values(), default=-1) + 1
 
     def of(self, row: Sequence[str], begun: Sequence[int]) -> int:
-        # Words of rows that are left out get no number: `code` is called only for rows that stay.
+        """Returns 0: words of rows that are left out get no number, and `code` is called only for rows that stay."""
         return 0
 
     def many(self, columns: Sequence[Sequence[str]]) -> list[int]:
+        """Returns nothing yet: `code` is called for each row that stays."""
         return []
 
     def code(self, row: Sequence[str]) -> int:
+        """Returns the number (int) of the word in a row, the next one for a new word."""
         word = row[self.column].strip()
         number = self.codes.get(word)
         if number is None:

@@ -58,6 +58,7 @@ class Workbook(Table):
         return self._sheet.max_row or 0
 
     def rows(self) -> tuple[Reader, int]:
+        """Returns a reader of the rows after the header, and the number of the first row, counted as in the spreadsheet."""
         rows, width = self._all(), len(self.header)
         if self._has_header:
             next(rows, None)

@@ -43,9 +43,11 @@ class Writer:
             file.write("\ufeff")
 
     def writerow(self, row: Iterable[object]) -> None:
+        """Writes a row (iterable of values)."""
         self._writer.writerow(list(map(self._cell, row)))
 
     def writerows(self, rows: Iterable[Iterable[object]]) -> None:
+        """Writes several rows (iterable of iterables)."""
         self._writer.writerows(list(map(self._cell, row)) for row in rows)
 
     def _cell(self, value: object) -> object:
