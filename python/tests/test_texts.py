@@ -15,7 +15,7 @@ import mpsim
 MODULES = sorted(".".join(path.relative_to(SOURCES / "mpsim").with_suffix("").parts) for path in (SOURCES / "mpsim").rglob("*.py"))
 PAGE = ROOT / "docs" / "PYTHON.md"
 STANDARD = {"array", "bisect", "collections", "contextlib", "csv", "fractions", "importlib", "io", "itertools", "os", "re", "shutil", "signal"}
-STANDARD |= {"resource"}
+STANDARD |= {"__future__", "resource", "types"}
 STANDARD |= {"subprocess", "sys", "threading", "time", "typing"}
 # Further modules used by the planner's commands and the pages.
 STANDARD |= {"argparse", "base64", "codecs", "datetime", "difflib", "errno", "functools", "gc", "glob", "hashlib", "heapq", "html", "json", "locale"}
@@ -137,6 +137,13 @@ class Sources(Test):
         self.assertEqual(set(mpsim._MODULES) & set(MODULES), set())
         with self.assertRaises(AttributeError):
             mpsim.absent
+
+    def test_names_for_editors(self):
+        """Those that are imported for type checkers alone are those that are imported when they are first used, from the same modules."""
+        tree = ast.parse((SOURCES / "mpsim" / "__init__.py").read_text())
+        block = next(item for item in tree.body if isinstance(item, ast.If) and getattr(item.test, "id", None) == "TYPE_CHECKING")
+        found = {alias.asname: (item.module, alias.name) for item in block.body for alias in item.names}
+        self.assertEqual(found, {name: (module, name) for name, module in mpsim._MODULES.items()})
 
 
 if __name__ == "__main__":

@@ -1,19 +1,29 @@
 """Reads rosters of agents, draws the patience of callers, and reports what a roster does per interval of the day."""
 
+from __future__ import annotations
+
 import csv
 import math
 import random
 import re
+from typing import TYPE_CHECKING
 
 from ..files import bytes_of
 from ..times.texts import DAY, WEEKDAYS, clock, given, iso, length, moment
 from .groups import Agent
 
+if TYPE_CHECKING:
+    from collections.abc import Collection, Iterable
+
+    from ..shapes import Path
+    from ..times.calendar import Calendar
+    from ..traces.trace import Trace
+
 HEAD = ["agent", "queues", "from", "to"]
 _SHORT = [name[:3].lower() for name in WEEKDAYS]
 
 
-def read_roster(path, days, last, queues):
+def read_roster(path: Path, days: Calendar, last: int, queues: Collection[str]) -> tuple[list[Agent], list[str]]:
     """Returns the agents (list of Agent), in the order in which they first appear, and their names, from a CSV file with the header
     `agent,queues,from,to` and a row per interval of availability.
 
@@ -28,19 +38,19 @@ def read_roster(path, days, last, queues):
     if [it.strip() for it in head] != HEAD:
         raise ValueError(f"{path}: a roster begins with {','.join(HEAD)}, not with {','.join(head)!r}")
     dates = [day for day, _, _ in days.midnights(last)]
-    found = {}
+    found: dict[str, tuple[str, list[tuple[int, int]]]] = {}
     for number, row in rows:
         try:
-            name, served, begin, end = map(str.strip, row)
+            name, served, since, until = map(str.strip, row)
             mine, intervals = found.setdefault(name, (served, []))
             if mine != served:
                 raise ValueError(f"{name} serves {mine or 'all queues'!r} in an earlier row")
             for queue in served.split():
                 if queue not in queues:
                     raise ValueError(f"no queue {queue!r}; the trace has {', '.join(queues)}")
-            intervals += _intervals(begin, end, days, dates)
+            intervals += _intervals(since, until, days, dates)
         except ValueError as error:
-            why = f"{len(row)} fields instead of 4" if len(row) != len(HEAD) else error
+            why = f"{len(row)} fields instead of 4" if len(row) != len(HEAD) else str(error)
             raise ValueError(f"{path}: row {number}: {why}") from None
     agents = []
     for name, (served, intervals) in found.items():
@@ -53,7 +63,7 @@ def read_roster(path, days, last, queues):
     return agents, list(found)
 
 
-def _intervals(begin, end, days, dates):
+def _intervals(begin: str, end: str, days: Calendar, dates: Iterable[int]) -> list[tuple[int, int]]:
     """Returns the intervals (list of pairs of int, ticks) of a row."""
     if begin.isdigit() and end.isdigit():
         found = [(int(begin), int(end))]
@@ -72,7 +82,7 @@ def _intervals(begin, end, days, dates):
     return found
 
 
-def _tick(text, days):
+def _tick(text: str, days: Calendar) -> int:
     if not days.is_dated:
         raise ValueError(f"the date {text} needs the date of time 0: give --start")
     wall, offset = iso(text)
@@ -80,7 +90,7 @@ def _tick(text, days):
     return max(0, days.tick_at(value))
 
 
-def _weekdays(text, days):
+def _weekdays(text: str, days: Calendar) -> set[int] | None:
     """Returns the weekdays (set of int, Monday 0) of a text such as `mon-fri` or `sat,sun`; None, for every day, of an empty text or `daily`."""
     if text.strip().lower() in ("", "daily"):
         return None
@@ -96,19 +106,19 @@ def _weekdays(text, days):
     return found
 
 
-def counts_roster(text, days, last):
+def counts_roster(text: str, days: Calendar, last: int) -> list[Agent]:
     """Returns the agents (list of Agent) of a text such as `8:00=3,10:00=5,18:00=0`: numbers of agents from times of day on, each day of a Calendar
     up to tick `last`. Nobody is there before the first time; the last number holds until midnight. Raises ValueError for an invalid text."""
     steps = []
     for part in text.split(","):
-        time, mark, count = part.partition("=")
-        if not mark or not re.fullmatch(r"\d{1,5}", count.strip()):
+        time, mark, number = part.partition("=")
+        if not mark or not re.fullmatch(r"\d{1,5}", number.strip()):
             raise ValueError("expected times of day and numbers of agents, such as 8:00=3,10:00=5,18:00=0")
-        steps.append((clock(time), int(count)))
+        steps.append((clock(time), int(number)))
     if any(one[0] >= other[0] for one, other in zip(steps, steps[1:])):
         raise ValueError("the times of day aren't in rising order")
     steps.append((DAY, 0))
-    intervals = [[] for _ in range(max(count for _, count in steps))]
+    intervals: list[list[tuple[int, int]]] = [[] for _ in range(max(count for _, count in steps))]
     for day, _, _ in days.midnights(last):
         for (since, count), (until, _) in zip(steps, steps[1:]):
             begin, end = (days.tick_at(days.place.first(day * DAY + it)) for it in (since, until))
@@ -118,7 +128,7 @@ def counts_roster(text, days, last):
     return [Agent(mine) for mine in intervals]
 
 
-def patience_in(text, trace, tick, seed):
+def patience_in(text: str, trace: Trace, tick: int, seed: int) -> tuple[list[int], bool]:
     """Returns the patience (list of int, ticks) of each record of a trace from the value of --patience: a length of time, the name of a column, or
     `exp:240s` for random ones with this mean, drawn with a seed (int). Returns as well whether they are drawn. Raises ValueError for another
     value."""

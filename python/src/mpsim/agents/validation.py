@@ -1,8 +1,22 @@
 """Compares the waits that a telephone system recorded with those of a group of agents who get the same calls."""
 
-from typing import NamedTuple
+from __future__ import annotations
+
+from typing import TYPE_CHECKING, NamedTuple
 
 from ..times.intervals import label
+
+if TYPE_CHECKING:
+    from collections.abc import Iterator, Sequence
+    from typing import Any, Dict, List, Tuple
+
+    from ..shapes import Row
+    from ..times.intervals import Day
+    from ..traces.trace import Trace
+    from .groups import Group
+    from .queues import Queue
+
+    Cells = Dict[Tuple[int, str], List["Pair"]]
 
 # When a model is trusted: how far the service levels may differ over all calls, and in an interval of at least so many calls.
 OVERALL, EACH, CALLS = 0.02, 0.05, 50
@@ -18,7 +32,7 @@ class Pair(NamedTuple):
     served: bool
 
 
-def compared(queue, group, days, waits, gone):
+def compared(queue: Queue, group: Group, days: Sequence[Day], waits: Sequence[int], gone: Sequence[bool]) -> Cells:
     """Returns the calls of a Queue (list of Pair), by the number of their interval and their source (dict), with the agents of a Group in the model.
     `days` (list of Day) have the intervals; `waits` (list of int, ticks) and `gone` (list of bool) are those that `recorded` returns."""
     every_source = queue.trace.sources()
@@ -26,7 +40,8 @@ def compared(queue, group, days, waits, gone):
     # An abandoned call shows how long the caller waited, any other only that the patience was longer.
     patience = [waits[job - 1] if gone[job - 1] else None for job in queue.jobs]
     who, modelled = group.assigned(queue.arrivals, queue.demands, sources, patience)
-    found, at = {}, 0
+    found: Cells = {}
+    at = 0
     for call in sorted(range(len(queue.jobs)), key=queue.arrivals.__getitem__):
         while queue.arrivals[call] >= days[at].begins[-1] and at + 1 < len(days):
             at += 1
@@ -36,7 +51,7 @@ def compared(queue, group, days, waits, gone):
     return found
 
 
-def figures(pairs, within, same):
+def figures(pairs: Sequence[Pair], within: int, same: int) -> Row:
     """Returns the number of calls (int), the recorded and the modelled share answered within `within` ticks, their difference, and the share of calls
     with the same end whose waits differ by at most `same` ticks (floats; None without calls), for some calls (list of Pair).
 
@@ -50,7 +65,7 @@ def figures(pairs, within, same):
     return [len(pairs), *(round(it, 4) for it in (*shares, shares[1] - shares[0], alike))]
 
 
-def verdict(rows):
+def verdict(rows: Sequence[Sequence[Any]]) -> str:
     """Returns a line (str) that says whether a model may be trusted, and why not, from rows as in HEADS with the queue "all": the first of all calls,
     the others per interval."""
     whole, *each = rows
@@ -60,7 +75,7 @@ def verdict(rows):
     both = f"{100 * whole[3]:.1f} % recorded, {100 * whole[4]:.1f} % modelled"
     if abs(whole[5]) <= OVERALL and not far:
         return f"the model may be trusted: {both}, and no interval of {CALLS} calls or more differs by more than {100 * EACH:.0f} points"
-    worst = max(far, key=lambda row: abs(row[5]), default=None)
+    worst = max(far, key=lambda row: float(abs(row[5])), default=None)
     where = ""
     if worst:
         where = f"; {len(far)} of {len(each)} intervals differ by more than {100 * EACH:.0f} points, most at {worst[0]} ({100 * worst[5]:+.1f})"
@@ -68,7 +83,7 @@ def verdict(rows):
     return f"the model may not be trusted: {both}, and the model is {how}{where}"
 
 
-def rows_of(cells, within, same, every):
+def rows_of(cells: Cells, within: int, same: int, every: int) -> Iterator[Row]:
     """Yields a row (list, as in HEADS) for all calls, for each queue if there are several, and for each interval and queue."""
     queues = sorted({queue for _, queue in cells})
     for number in (None, *sorted({number for number, _ in cells})):
@@ -79,7 +94,7 @@ def rows_of(cells, within, same, every):
             yield from ([name, queue, *figures(calls, within, same)] for queue, calls in mine.items() if calls)
 
 
-def recorded(trace, wait, abandoned=None):
+def recorded(trace: Trace, wait: str, abandoned: str | None = None) -> tuple[list[int], list[bool]]:
     """Returns, for each record of a Trace, the recorded wait (int, ticks) and whether the call was abandoned (two lists), from the columns of these
     names. Raises ValueError for an unknown column."""
     waits = trace.numbers(wait)

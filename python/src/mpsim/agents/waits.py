@@ -1,7 +1,9 @@
 """Finds the pools in a model and recomputes their agents and waits for part of a trace that `mpplan pool` made."""
 
+from __future__ import annotations
+
 import contextlib
-from typing import NamedTuple
+from typing import TYPE_CHECKING, NamedTuple
 
 from ..errors import BoundError, ModelError, TraceError, VisitsError
 from ..inputs import model_input
@@ -10,6 +12,13 @@ from ..runs import run
 from .networks import ROSTERED, agent_lines, front, in_front, inputs_of, trunk_lines
 from .pools import agents_of, gone_name, queue_name
 from .queues import calls_at, columns_of
+
+if TYPE_CHECKING:
+    from collections.abc import Iterable, Iterator, Mapping
+
+    from ..model import ModelNode
+    from ..shapes import ModelInput
+    from ..traces.trace import Trace
 
 
 class ModelPool(NamedTuple):
@@ -22,7 +31,7 @@ class ModelPool(NamedTuple):
     front: str
 
 
-def model_pools(model, trace):
+def model_pools(model: ModelInput, trace: Trace) -> list[ModelPool]:
     """Returns the pools (list of ModelPool) in a model whose lines are those that `mpplan pool` writes, upstream pools first.
 
     A trunk group that loses a call of the trace (Trace) isn't a pool, since the trace was made for another number of agents; if the trace is
@@ -54,24 +63,25 @@ def model_pools(model, trace):
     return [ModelPool(name, agents, demand, front(text, [end])) for name, agents, demand, end in found if not lost.get(name)]
 
 
-def _named(nodes):
+def _named(nodes: Mapping[str, ModelNode]) -> Iterator[tuple[str, int, str, str]]:
     """Yields the name, the number of agents, the service time and a serving node of each pool among `nodes` (dict of ModelNode by name). The serving
     node is the trunk group of the pool's name, or the first agent."""
     for node in nodes.values():
         name = node.name.removesuffix(queue_name(""))
         if node.kind == "delay" and name in nodes and nodes[name].kind == "trunk":
-            agents, demand = nodes[name].arguments.split()
-            end, lines = name, trunk_lines(name, int(agents), demand, inputs_of(node))
+            number, demand = nodes[name].arguments.split()
+            agents, end = int(number), name
+            lines = trunk_lines(name, agents, demand, inputs_of(node))
         elif node.kind == "split" and (servers := agents_of(nodes, name)):
             agents, demand, end = len(servers), nodes[servers[0]].arguments, servers[0]
             lines = agent_lines(name, agents, demand, inputs_of(node), is_read=False)
         else:
             continue
         if all(nodes.get(made.name) == made for made in nodes_of("\n".join(lines))):
-            yield name, int(agents), demand, end
+            yield name, agents, demand, end
 
 
-def pools_in(text, trace):
+def pools_in(text: str, trace: Trace) -> list[ModelPool]:
     """Returns the pools (list of ModelPool) in the lines of a model (str) whose agents and waits are columns of a trace (Trace), upstream pools
     first, whatever number of agents the trace was made for. Raises ValueError for a pool with a roster, patience or priorities."""
     with contextlib.suppress(ValueError):
@@ -82,7 +92,7 @@ def pools_in(text, trace):
     return []
 
 
-def varied(texts, trace):
+def varied(texts: Iterable[str], trace: Trace) -> list[str]:
     """Returns the names of pools (list of str) that have different numbers of agents in these models (iterable of str), and whose agents and waits
     are columns of a trace (Trace): the trace holds for one of the numbers at most.
 
@@ -93,14 +103,14 @@ def varied(texts, trace):
     >>> varied(models, trace), varied(models[:1], trace)
     (['desk'], [])
     """
-    numbers = {}
+    numbers: dict[str, set[int]] = {}
     for text in texts:
         for pool in pools_in(text, trace):
             numbers.setdefault(pool.name, set()).add(pool.agents)
     return [name for name, counts in numbers.items() if len(counts) > 1]
 
 
-def recomputed(trace, pools):
+def recomputed(trace: Trace, pools: Iterable[ModelPool]) -> Trace:
     """Returns the trace (Trace) with the agents and waits at `pools` (list of ModelPool, from `model_pools`) recomputed from its own records, in a
     network that is empty at time 0. Raises what `mpsim.run` does, and ValueError if a job visits a pool more than once.
 

@@ -1,10 +1,22 @@
 """Makes a table of pools with different numbers of agents."""
 
+from __future__ import annotations
+
+from typing import TYPE_CHECKING
+
 from ..agents.pools import pooled
 from .service import PERCENTS, figures, heads
 
+if TYPE_CHECKING:
+    from collections.abc import Iterable, Iterator, Sequence
 
-def staffing(queue, agents, within=(20,), percents=PERCENTS, by="trunk"):
+    from ..agents.queues import Queue
+    from ..shapes import Row
+
+
+def staffing(
+    queue: Queue, agents: Iterable[int], within: Sequence[int] = (20,), percents: Sequence[float] = PERCENTS, by: str = "trunk"
+) -> Iterator[Row]:
     """Yields the header and the rows (lists) of a table of pools at a Queue, a row per number of agents (iterable of int): the share of the span
     during which they worked, and the `figures`."""
     yield ["agents", "util", *heads(within, percents)]
