@@ -184,6 +184,21 @@ class Pools(InFolder):
         text = "--agents 3..4: with patience, priorities or --every, give one number of agents, or times of day such as 8:00=3,10:00=5"
         self.refuses(text, *words, "--agents", "3..4", "--every", "1h")
 
+    def test_a_sweep_over_the_number_of_agents_is_rejected(self):
+        """Its waits would be those without patience, priorities or a roster. A sweep over something else is fine."""
+        rules = {"patience": ("--patience", "30s"), "priorities": ("--first", "mail"), "roster": ("--every", "1h")}
+        model, sets, trace = (self.folder / name for name in ("p.txt", "sets.txt", "p.csv"))
+        given = self.file("m.txt", MODEL), self.file("t.csv", "source,time,d\nphone,0,60\nmail,1,60\nphone,2,60\nmail,3,9\n")
+        why = "desk is a pool with a roster, patience or priorities: its waits hold only for the whole trace"
+        for rule, words in rules.items():
+            with self.subTest(rule):
+                self.assertEqual(planner("pool", *given, "--node", "desk", "--agents", 1, *words, "--out", trace, "--out-model", model)[0], 0)
+                text = text_of(model)
+                self.file("sets.txt", text.replace("trunk desk 1 ", "trunk desk {agents} "))
+                self.refuses(f"{why}; run mpplan pool for each number of agents", "sweep", sets, trace, "--set", "agents=1..2")
+                self.file("sets.txt", f"{text}delay after ={{wrap}} from desk\n")
+                self.assertEqual(planner("sweep", sets, trace, "--set", "wrap=1,2")[0], 0)
+
 
 class Delays(Test):
     def test_a_delay_has_no_waits(self):

@@ -53,14 +53,22 @@ def model_pools(model: ModelInput, trace: Trace) -> list[ModelPool]:
         nodes = {node.name: node for node in nodes_of(text)}
         found = sorted(_named(nodes), key=lambda item: len(in_front(nodes, [queue_name(item[0])])))
     for name, *_ in found:
-        if ROSTERED.format(node=name) in text.splitlines() or gone_name(name) in nodes:
-            why = "its waits hold only for the whole trace; run mpplan pool for each part"
-            raise ValueError(f"{name} is a pool with a roster, patience or priorities: {why}")
+        if _has_more_rules(text, name):
+            raise ValueError(_rules_error(name, "run mpplan pool for each part"))
     if groups := [name for name, *_, end in found if name == end]:
         with contextlib.suppress(ModelError, TraceError, BoundError, VisitsError):
             report = run(front(text, groups), trace.lines())
             lost = {name: report[name].lost for name in groups}
     return [ModelPool(name, agents, demand, front(text, [end])) for name, agents, demand, end in found if not lost.get(name)]
+
+
+def _has_more_rules(text: str, name: str) -> bool:
+    """Returns whether a pool in a model has a roster, patience or priorities, so that its waits don't follow from its number of agents."""
+    return ROSTERED.format(node=name) in text.splitlines() or any(node.name == gone_name(name) for node in nodes_of(text))
+
+
+def _rules_error(name: str, then: str) -> str:
+    return f"{name} is a pool with a roster, patience or priorities: its waits hold only for the whole trace; {then}"
 
 
 def _named(nodes: Mapping[str, ModelNode]) -> Iterator[tuple[str, int, str, str]]:
@@ -83,7 +91,7 @@ def _named(nodes: Mapping[str, ModelNode]) -> Iterator[tuple[str, int, str, str]
 
 def pools_in(text: str, trace: Trace) -> list[ModelPool]:
     """Returns the pools (list of ModelPool) in the lines of a model (str) whose agents and waits are columns of a trace (Trace), upstream pools
-    first, whatever number of agents the trace was made for. Raises ValueError for a pool with a roster, patience or priorities."""
+    first, whatever number of agents the trace was made for."""
     with contextlib.suppress(ValueError):
         nodes = {node.name: node for node in nodes_of(text)}
         found = sorted(_named(nodes), key=lambda item: len(in_front(nodes, [queue_name(item[0])])))
@@ -94,7 +102,8 @@ def pools_in(text: str, trace: Trace) -> list[ModelPool]:
 
 def varied(texts: Iterable[str], trace: Trace) -> list[str]:
     """Returns the names of pools (list of str) that have different numbers of agents in these models (iterable of str), and whose agents and waits
-    are columns of a trace (Trace): the trace holds for one of the numbers at most.
+    are columns of a trace (Trace): the trace holds for one of the numbers at most. Raises ValueError if there are some, and a pool of these models has
+    a roster, patience or priorities, since its waits can't be worked out again.
 
     >>> from mpsim.agents.waits import varied
     >>> from mpsim.traces import Trace
@@ -104,10 +113,15 @@ def varied(texts: Iterable[str], trace: Trace) -> list[str]:
     (['desk'], [])
     """
     numbers: dict[str, set[int]] = {}
+    ruled: set[str] = set()
     for text in texts:
         for pool in pools_in(text, trace):
             numbers.setdefault(pool.name, set()).add(pool.agents)
-    return [name for name, counts in numbers.items() if len(counts) > 1]
+            ruled |= {pool.name} if _has_more_rules(text, pool.name) else set()
+    found = [name for name, counts in numbers.items() if len(counts) > 1]
+    if found and ruled:
+        raise ValueError(_rules_error(min(ruled), "run mpplan pool for each number of agents"))
+    return found
 
 
 def recomputed(trace: Trace, pools: Iterable[ModelPool]) -> Trace:
