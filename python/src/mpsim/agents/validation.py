@@ -96,6 +96,12 @@ def rows_of(cells: Cells, within: int, same: int, every: int) -> Iterator[Row]:
 
 def recorded(trace: Trace, wait: str, abandoned: str | None = None) -> tuple[list[int], list[bool]]:
     """Returns, for each record of a Trace, the recorded wait (int, ticks) and whether the call was abandoned (two lists), from the columns of these
-    names. Raises ValueError for an unknown column."""
+    names. Raises ValueError for an unknown column.
+
+    >>> from mpsim.agents.validation import recorded
+    >>> from mpsim.traces import Trace
+    >>> recorded(Trace("t.csv", ["source", "time", "wait", "gone"], [["door", "0", "30", "0"], ["door", "9", "60", "1"]]), "wait", "gone")
+    ([30, 60], [False, True])
+    """
     waits = trace.numbers(wait)
     return waits, [value != 0 for value in trace.numbers(abandoned)] if abandoned else [False] * len(waits)
