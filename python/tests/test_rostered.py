@@ -25,8 +25,8 @@ class Rosters(InFolder):
         # A Thursday; clocks go forward on the Sunday.
         self.days = Calendar(SECOND, "2026-03-26T00:00:00+01:00", "Europe/Berlin")
 
-    def read(self, *rows, last=6 * 24 * HOUR, days=None):
-        path = self.file("roster.csv", "".join(f"{row}\n" for row in ("agent,queues,from,to", *rows)))
+    def read(self, *rows, last=6 * 24 * HOUR, days=None, mark=","):
+        path = self.file("roster.csv", "".join(f"{row}\n" for row in ("agent,queues,from,to", *rows)).replace(",", mark))
         return read_roster(path, days or self.days, last, ["phone", "mail"])
 
     def test_the_forms_of_a_row(self):
@@ -37,6 +37,7 @@ class Rosters(InFolder):
         wanted = [[(100, 200), (300, 400)], [(8 * HOUR, 9 * HOUR + 1800)], [(8 * HOUR, 9 * HOUR)]]
         self.assertEqual([list(agent.intervals) for agent in agents], wanted)
         self.assertEqual([agent.queues for agent in agents], [None, ["mail", "phone"], ["mail"]])
+        self.assertEqual(self.read("A,,100,200", *rows, mark=";"), (agents, names))
         # Thursday, Friday and Monday; the clock's hour is skipped on Sunday.
         every = ("mon-fri", "01456"), ("Thu,Sat", "02"), ("sat-sun", "23"), ("fri-mon", "1234"), ("daily", "0123456"), ("", "0123456")
         for on, found in ((on, map(int, digits)) for on, digits in every):

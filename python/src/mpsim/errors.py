@@ -84,23 +84,63 @@ def _mark(source: str, word: int | None) -> list[str]:
 
 
 class UsageError(Error, ValueError):
-    """Status 2 or 12: an option has an invalid value, or a path isn't UTF-8."""
+    """Status 2 or 12: an option has an invalid value, or a path isn't UTF-8.
+
+    >>> import mpsim
+    >>> try:
+    ...     mpsim.made(7, workers=99)
+    ... except mpsim.UsageError as error:
+    ...     print(error.status)
+    2
+    """
 
 
 class ModelError(Error, ValueError):
-    """Status 3: the model is invalid (or, in a sweep, a file is too long)."""
+    """Status 3: the model is invalid (or, in a sweep, a file is too long).
+
+    >>> import mpsim
+    >>> try:
+    ...     mpsim.run("model 1\\nsource door\\nserver desk talk\\n", [])
+    ... except mpsim.ModelError as error:
+    ...     print(error.line, error.source)
+    3 server desk talk
+    """
 
 
 class TraceError(Error, ValueError):
-    """Status 4: the trace is invalid."""
+    """Status 4: the trace is invalid.
+
+    >>> import mpsim
+    >>> try:
+    ...     mpsim.run("model 1\\nsource door\\n", "source,time\\ndoor,early\\n")
+    ... except mpsim.TraceError as error:
+    ...     print(error.record, error.column, error.source)
+    1 time door,early
+    """
 
 
 class BoundError(Error):
-    """Status 5: a departure exceeds the model's bound. `node`, `position` and `time` identify it."""
+    """Status 5: a departure exceeds the model's bound. `node`, `position` and `time` identify it.
+
+    >>> import mpsim
+    >>> try:
+    ...     mpsim.run("model 1\\nbound 6\\nsource door\\nserver desk =4 from door\\n", [("door", 0), ("door", 1)])
+    ... except mpsim.BoundError as error:
+    ...     print(error.node, error.position, error.time)
+    desk 1 8
+    """
 
 
 class ReadError(Error, OSError):
-    """Status 6: a file can't be read."""
+    """Status 6: a file can't be read.
+
+    >>> import mpsim
+    >>> try:
+    ...     mpsim.run("absent.txt", "absent.csv")
+    ... except mpsim.ReadError as error:
+    ...     print(error.file)
+    absent.txt
+    """
 
 
 class WriteError(Error, OSError):
@@ -112,15 +152,45 @@ class OutOfMemory(Error, MemoryError):
 
 
 class VisitsError(Error):
-    """Status 9: a node has too many visits. `node` names it, and `visits` is their number."""
+    """Status 9: a node has too many visits. `node` names it, and `visits` is their number.
+
+    >>> import mpsim
+    >>> model = mpsim.Model()
+    >>> jobs = model.source("door")
+    >>> for level in range(11):
+    ...     fork = model.fork(f"fork{level}", 4, jobs)
+    ...     jobs = model.delay(f"all{level}", 0, *(fork[number] for number in range(4)))
+    >>> try:
+    ...     mpsim.run(model, [("door", 0)])
+    ... except mpsim.VisitsError as error:
+    ...     print(error.node, error.visits)
+    all10 4194304
+    """
 
 
 class EditsError(Error, ValueError):
-    """Status 10: the edits are invalid."""
+    """Status 10: the edits are invalid.
+
+    >>> import mpsim
+    >>> try:
+    ...     mpsim.edit("model 1\\nsource door\\n", [("door", 0)], "set 9 door 1\\n")
+    ... except mpsim.EditsError as error:
+    ...     print(error.line, error.source)
+    1 set 9 door 1
+    """
 
 
 class ProgramError(Error):
-    """A program is missing, can't be started, was ended by a signal, or ended with an unknown status."""
+    """A program is missing, can't be started, was ended by a signal, or ended with an unknown status.
+
+    >>> import mpsim
+    >>> from mpsim.programs import find
+    >>> try:
+    ...     find("absent")
+    ... except mpsim.ProgramError as error:
+    ...     print(error.status, str(error).split(" in ")[0])
+    None no program absent
+    """
 
 
 class TimedOut(Error, TimeoutError):
@@ -129,7 +199,15 @@ class TimedOut(Error, TimeoutError):
 
 class ReportError(ValueError):
     """A text isn't a report: it is cut off, altered, or in another form. `line` (int, from 1) is the place, `found` (str) the text there, `file` the
-    path if a file was read, else None."""
+    path if a file was read, else None.
+
+    >>> import mpsim
+    >>> try:
+    ...     mpsim.Report.parse("mpsim report 2\\njobs 3")
+    ... except mpsim.ReportError as error:
+    ...     print(error.line, error.found)
+    2 jobs 3
+    """
 
     def __init__(self, line: int, found: str, why: str = "is not a line of a report", file: Path | None = None) -> None:
         super().__init__(line, found, why, file)

@@ -65,7 +65,12 @@ class Node(NamedTuple):
         return value
 
     def line(self) -> str:
-        """Returns the line of the report (str), without its line feed."""
+        """Returns the line of the report (str), without its line feed.
+
+        >>> import mpsim
+        >>> mpsim.run("model 1\\nsource door\\n", [("door", 3)])["door"].line()[:36]
+        'node door source in 1 out 1 lost 0 h'
+        """
         words = (f"{word} {value}" for word, value in zip(NUMBERS, self[2:-1]) if value is not None)
         return f"node {self.name} {self.kind} {' '.join(words)} util {'-' if self.util is None else f'{self.util:.4f}'}"
 
@@ -78,7 +83,13 @@ FIGURES = [*NUMBERS, "mean_wait", "mean_time", "share_lost"]
 
 class Exit(NamedTuple):
     """An `exit` line: the node (str) and its output (int) that no node reads, the number of jobs that left there (int), and the sum of their times in
-    the network (int, ticks)."""
+    the network (int, ticks).
+
+    >>> import mpsim
+    >>> report = mpsim.run("model 1\\nsource door\\nserver desk =4 from door\\n", [("door", 0), ("door", 1)], jobs=True)
+    >>> report.exits[0]
+    Exit(name='desk', output=0, jobs=2, sojourn=11)
+    """
 
     name: str
     output: int
@@ -87,7 +98,12 @@ class Exit(NamedTuple):
 
 
 class Again(NamedTuple):
-    """The last line of an edited report: how many of all blocks were computed again (int)."""
+    """The last line of an edited report: how many of all blocks were computed again (int).
+
+    >>> import mpsim
+    >>> mpsim.edit("model 1\\nsource door\\nserver desk =4 from door\\n", [("door", 0)], [mpsim.Add("door", 9)]).again
+    Again(done=2, blocks=2)
+    """
 
     done: int
     blocks: int

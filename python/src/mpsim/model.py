@@ -11,7 +11,14 @@ if TYPE_CHECKING:
 
 
 class Output:
-    """An output of a node, to be read by another node: `node[1]` is output 1 of the node whose output this is."""
+    """An output of a node, to be read by another node: `node[1]` is output 1 of the node whose output this is.
+
+    >>> import mpsim
+    >>> model = mpsim.Model()
+    >>> desk = model.loss("desk", 2, "talk", model.source("phone"))
+    >>> print(desk, desk[1])
+    desk desk.1
+    """
 
     def __init__(self, name: str, number: int = 0) -> None:
         self.name, self.number = name, number
@@ -65,19 +72,47 @@ class Model:
         return Output(name)
 
     def source(self, name: str) -> Output:
-        """Adds a source: the records of the trace that name it."""
+        """Adds a source: the records of the trace that name it.
+
+        >>> import mpsim
+        >>> model = mpsim.Model()
+        >>> node = model.source("phone")
+        >>> str(model).splitlines()[-1]
+        'source phone'
+        """
         return self._add("source", name, [], [])
 
     def server(self, name: str, demand: str | int, *inputs: Output | str) -> Output:
-        """Adds a single server, first come, first served."""
+        """Adds a single server, first come, first served.
+
+        >>> import mpsim
+        >>> model = mpsim.Model()
+        >>> node = model.server("desk", "talk", model.source("phone"))
+        >>> str(model).splitlines()[-1]
+        'server desk talk from phone'
+        """
         return self._add("server", name, [_demand(demand)], inputs)
 
     def delay(self, name: str, demand: str | int, *inputs: Output | str) -> Output:
-        """Adds a delay: each job is served from its arrival on, without waiting."""
+        """Adds a delay: each job is served from its arrival on, without waiting.
+
+        >>> import mpsim
+        >>> model = mpsim.Model()
+        >>> node = model.delay("walk", 60, model.source("phone"))
+        >>> str(model).splitlines()[-1]
+        'delay walk =60 from phone'
+        """
         return self._add("delay", name, [_demand(demand)], inputs)
 
     def loss(self, name: str, places: int, demand: str | int, *inputs: Output | str) -> Output:
-        """Adds a single server with this many places, including the one in service. Output 1 has the lost jobs."""
+        """Adds a single server with this many places, including the one in service. Output 1 has the lost jobs.
+
+        >>> import mpsim
+        >>> model = mpsim.Model()
+        >>> node = model.loss("desk", 2, "talk", model.source("phone"))
+        >>> str(model).splitlines()[-1]
+        'loss desk 2 talk from phone'
+        """
         return self._add("loss", name, [places, _demand(demand)], inputs)
 
     def tandem(self, name: str, first: str | int, *stages_and_inputs: tuple[int, str | int] | Output | str) -> Output:
@@ -128,15 +163,37 @@ class Model:
         return self._add("split", name, arguments, inputs)
 
     def fork(self, name: str, outputs: int, *inputs: Output | str) -> Output:
-        """Adds a fork: each job continues on each of this many outputs."""
+        """Adds a fork: each job continues on each of this many outputs.
+
+        >>> import mpsim
+        >>> model = mpsim.Model()
+        >>> node = model.fork("parts", 2, model.source("orders"))
+        >>> str(model).splitlines()[-1]
+        'fork parts 2 from orders'
+        """
         return self._add("fork", name, [outputs], inputs, 2)
 
     def join(self, name: str, *inputs: Output | str) -> Output:
-        """Adds a join: it keeps each part of a job until a part has arrived at each input."""
+        """Adds a join: it keeps each part of a job until a part has arrived at each input.
+
+        >>> import mpsim
+        >>> model = mpsim.Model()
+        >>> parts = model.fork("parts", 2, model.source("orders"))
+        >>> whole = model.join("whole", parts, parts[1])
+        >>> str(model).splitlines()[-1]
+        'join whole from parts parts.1'
+        """
         return self._add("join", name, [], inputs, 2)
 
     def trunk(self, name: str, servers: int, demand: str | int, *inputs: Output | str) -> Output:
-        """Adds a trunk group with this many servers and no queue. Output 1 has the lost jobs."""
+        """Adds a trunk group with this many servers and no queue. Output 1 has the lost jobs.
+
+        >>> import mpsim
+        >>> model = mpsim.Model()
+        >>> node = model.trunk("lines", 20, "talk", model.source("phone"))
+        >>> str(model).splitlines()[-1]
+        'trunk lines 20 talk from phone'
+        """
         return self._add("trunk", name, [servers, _demand(demand)], inputs, 2)
 
     def __str__(self) -> str:
@@ -172,7 +229,12 @@ _COLUMNS = {
 
 def columns(text: str) -> list[str]:
     """Returns the columns that a model names (list of str), in the order in which it first names them. Values of a record in an edit, and of a row
-    without a header, have the same order."""
+    without a header, have the same order.
+
+    >>> from mpsim.model import columns
+    >>> columns("model 1\\nsource door\\nserver desk talk from door\\ndelay walk =60 from desk\\nserver till pay from walk\\n")
+    ['talk', 'pay']
+    """
     found: dict[str, None] = {}
     for line in text.split("\n"):
         words = line.split()
@@ -198,7 +260,12 @@ class ModelNode(NamedTuple):
 
 def nodes_of(text: str) -> list[ModelNode]:
     """Returns the nodes of a model that mpsim accepts (list of ModelNode), in the order of its lines. For another text the result is undefined, or it
-    raises ValueError."""
+    raises ValueError.
+
+    >>> from mpsim.model import nodes_of
+    >>> nodes_of("model 1\\nsource door\\nserver desk talk from door\\n")[1]
+    ModelNode(name='desk', kind='server', arguments='talk', outputs=1, inputs=(('door', 0),))
+    """
     nodes = []
     for line in text.split("\n"):
         words = line.split()
@@ -240,5 +307,9 @@ def lines_of(text: str) -> list[str]:
 
 def in_braces(text: str) -> re.Match[str] | None:
     """Returns the first name in braces (a match, with the name as its group) in a model, such as `{agents}` or `{agents:d}`, which sweeps fill in; or
-    None."""
+    None.
+
+    >>> in_braces("model 2\\nsource calls\\ntrunk lines {agents} talk from calls\\n")[1]
+    'agents'
+    """
     return re.search(r"\{([A-Za-z_]\w*)[^{}]*\}", "\n".join(lines_of(text)), re.ASCII)

@@ -22,7 +22,11 @@ OTHER = "name"
 
 
 def is_name(text: str) -> bool:
-    """Returns whether a text may name a source or a column."""
+    """Returns whether a text may name a source or a column.
+
+    >>> is_name("desk_2"), is_name("Desk"), is_name("time")
+    (True, False, False)
+    """
     return bool(re.fullmatch(r"[a-z][a-z0-9_]{0,31}", text)) and text not in TAKEN
 
 

@@ -20,7 +20,13 @@ FIELDS = "job", "arrive", "wait", "depart"
 
 class Visit(NamedTuple):
     """A `job` line of a report: the job's record (int, from 1), the node (str), and times in ticks (int). `end` is "left", "lost" or "held"; `wait`
-    and `depart` are None unless it is "left"."""
+    and `depart` are None unless it is "left".
+
+    >>> import mpsim
+    >>> report = mpsim.run("model 1\\nsource door\\nserver desk =4 from door\\n", [("door", 0), ("door", 1)], jobs=True)
+    >>> list(report.visits["desk"])[1]
+    Visit(job=2, node='desk', arrive=1, wait=3, depart=8, end='left')
+    """
 
     job: int
     node: str
@@ -66,12 +72,26 @@ class NodeVisits:
                 yield Visit(job, self.node, arrive, None, None, ENDS[wait])
 
     def extend(self, others: NodeVisits) -> None:
-        """Appends other visits to the node."""
+        """Appends other visits to the node.
+
+        >>> import mpsim
+        >>> report = mpsim.run("model 1\\nsource door\\nserver desk =4 from door\\n", [("door", 0), ("door", 1)], jobs=True)
+        >>> both = mpsim.NodeVisits("desk")
+        >>> both.extend(report.visits["desk"])
+        >>> len(both)
+        2
+        """
         for name in FIELDS:
             getattr(self, name).extend(getattr(others, name))
 
     def waits(self) -> array[int]:
-        """Returns the waits of the visits that departed (sorted array of int, in ticks)."""
+        """Returns the waits of the visits that departed (sorted array of int, in ticks).
+
+        >>> import mpsim
+        >>> report = mpsim.run("model 1\\nsource door\\nserver desk =4 from door\\n", [("door", 0), ("door", 1)], jobs=True)
+        >>> report.visits["desk"].waits()
+        array('q', [0, 3])
+        """
         return array("q", sorted(item for item in self.wait if item >= 0))
 
     def percentile(self, percent: float) -> int:
@@ -104,7 +124,12 @@ class NodeVisits:
 
 
 def percentile_of(waits: Sequence[int], percent: float) -> int:
-    """Returns, from n sorted waits, number n * percent / 100, rounded up."""
+    """Returns, from n sorted waits, number n * percent / 100, rounded up.
+
+    >>> from mpsim.node_visits import percentile_of
+    >>> percentile_of([0, 3, 7, 12], 50), percentile_of([0, 3, 7, 12], 51)
+    (3, 7)
+    """
     if not 0 <= percent <= 100:
         raise ValueError(f"a percentile is from 0 to 100, not {percent}")
     # Exact for the number as written: the float 99.9 is slightly more than 999/1000.
@@ -122,12 +147,24 @@ class Visits(Dict[str, NodeVisits]):
     """
 
     def each(self) -> Iterator[Visit]:
-        """Yields the visits (Visit), in the order of the lines."""
+        """Yields the visits (Visit), in the order of the lines.
+
+        >>> import mpsim
+        >>> report = mpsim.run("model 1\\nsource door\\nserver desk =4 from door\\n", [("door", 0), ("door", 1)], jobs=True)
+        >>> [visit.node for visit in report.visits.each()]
+        ['door', 'door', 'desk', 'desk']
+        """
         for visits in self.values():
             yield from visits
 
     def count(self) -> int:
-        """Returns the number of visits (int)."""
+        """Returns the number of visits (int).
+
+        >>> import mpsim
+        >>> report = mpsim.run("model 1\\nsource door\\nserver desk =4 from door\\n", [("door", 0), ("door", 1)], jobs=True)
+        >>> report.visits.count()
+        4
+        """
         return sum(map(len, self.values()))
 
     def to_pandas(self) -> pandas.DataFrame:

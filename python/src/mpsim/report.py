@@ -108,7 +108,13 @@ class Report:
 
     def lines(self, jobs: bool = True) -> Iterator[str]:
         """Yields the lines (str, each with its line feed), byte for byte as they were read; with `jobs`, including the job lines if the report has
-        them."""
+        them.
+
+        >>> import mpsim
+        >>> report = mpsim.run("model 1\\nsource door\\nserver desk =4 from door\\n", [("door", 0), ("door", 1)], jobs=True)
+        >>> list(report.lines())[-1]
+        'job 2 desk arrive 1 wait 3 depart 8\\n'
+        """
         yield f"mpsim report {self.form}\njobs {self.jobs} span {self.span}\n"
         for node in self.nodes:
             yield node.line() + "\n"
@@ -137,7 +143,14 @@ class Report:
     @classmethod
     def read(cls, path: Path, model: ModelInput | None = None) -> Report:
         """Returns the report in a file, with its model (a Model, a text, or a path) if given. Raises OSError if a file can't be read; ReportError if
-        it isn't a report, is cut off, or contradicts itself; and ValueError if the model is that of another report."""
+        it isn't a report, is cut off, or contradicts itself; and ValueError if the model is that of another report.
+
+        >>> import mpsim, tempfile
+        >>> with tempfile.NamedTemporaryFile("w") as file:
+        ...     print(mpsim.run("model 1\\nsource door\\n", [("door", 3)]), end="", file=file, flush=True)
+        ...     mpsim.Report.read(file.name)
+        <Report of 1 jobs, 1 nodes, span 3>
+        """
         with open(path, "rb") as stream, read_from(path):
             return cls.parse(stream, model)
 
@@ -199,7 +212,13 @@ def stream_of(text: ReportInput) -> IO[bytes]:
 
 class Reading:
     """Reads a report. Its first lines are available at once, as `form`, `jobs`, `span`, `nodes`, `exits` and `again` of a Report; `pieces` gives the
-    visits. In a sweep (`in_sweep`, bool) the next scenario may follow."""
+    visits. In a sweep (`in_sweep`, bool) the next scenario may follow.
+
+    >>> import mpsim
+    >>> with mpsim.visits("model 1\\nsource door\\nserver desk =4 from door\\n", [("door", 0), ("door", 1)]) as reading:
+    ...     reading.jobs, reading.span, [piece.node for piece in reading.pieces()]
+    (2, 8, ['door', 'desk'])
+    """
 
     again: Again | None
     nodes: list[Node]

@@ -24,5 +24,9 @@ def listed(texts: Sequence[str]) -> str:
 
 
 def counted(count: int, word: str) -> str:
-    """Returns a count with its noun, such as "1 row" or "2,000 rows"."""
+    """Returns a count with its noun, such as "1 row" or "2,000 rows".
+
+    >>> counted(1, "row"), counted(2000, "row")
+    ('1 row', '2,000 rows')
+    """
     return f"{count:,} {word}{'' if count == 1 else 's'}"

@@ -17,7 +17,12 @@ LONGEST_IDLE, FIRST = "longest-idle", "first"
 
 class Agent(NamedTuple):
     """An agent: the intervals (pairs of int, in ticks) during which the agent is available, each from its first tick to before its second; and the
-    names (iterable of str) of the queues that the agent serves, None for all. By default the agent is always available."""
+    names (iterable of str) of the queues that the agent serves, None for all. By default the agent is always available.
+
+    >>> from mpsim.agents import Agent
+    >>> Agent([(0, 60)], queues=["phone"])
+    Agent(intervals=[(0, 60)], queues=['phone'])
+    """
 
     intervals: Sequence[Tuple[int, int]] = ((0, FOREVER),)
     queues: Optional[Iterable[str]] = None
@@ -25,7 +30,12 @@ class Agent(NamedTuple):
 
 class Call(NamedTuple):
     """A call: its arrival time, its service time and its patience (int, in ticks; patience None if the caller waits without limit), and the name of
-    its queue (str)."""
+    its queue (str).
+
+    >>> from mpsim.agents import Call
+    >>> Call(arrive=10, service=50, patience=20)
+    Call(arrive=10, service=50, queue='', patience=20)
+    """
 
     arrive: int
     service: int
@@ -35,7 +45,12 @@ class Call(NamedTuple):
 
 class Outcome(NamedTuple):
     """What became of a call: the place of its agent in the roster (int, from 1; 0 if the call didn't begin), and the ticks that the caller waited
-    until the call began or the caller left (int; None for a caller who waits without limit for an agent who never comes)."""
+    until the call began or the caller left (int; None for a caller who waits without limit for an agent who never comes).
+
+    >>> from mpsim.agents import Agent, Call, Group
+    >>> Group([Agent([(30, 60)])]).serve([Call(0, 5)])[0]
+    Outcome(agent=1, wait=30)
+    """
 
     agent: int
     wait: Optional[int]

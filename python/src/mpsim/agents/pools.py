@@ -217,7 +217,15 @@ def names_of(report: Report, nodes: Collection[str] = ()) -> list[str]:
 
 def with_pools(report: Report, nodes: Collection[str] = ()) -> dict[str, Node]:
     """Returns the nodes of a report that `names_of` gives (dict of str to Node), with a Node of kind "pool" in place of each pool's `parts`. Without
-    visits its percentiles and `max` are None; its `peak` always is."""
+    visits its percentiles and `max` are None; its `peak` always is.
+
+    >>> import mpsim
+    >>> from mpsim.agents.pools import with_pools
+    >>> model = "model 2\\nsource door\\ndelay desk_queue desk_wait from door\\ntrunk desk 1 talk from desk_queue\\n"
+    >>> report = mpsim.run(model, [("source", "time", "talk", "desk_wait"), ("door", 0, 9, 0), ("door", 2, 4, 7)], jobs=True)
+    >>> with_pools(report)["desk"].kind, with_pools(report)["desk"].p90
+    ('pool', 7)
+    """
     known = pools(report)
     return {name: _node(report, name) if name in known else report[name] for name in names_of(report, nodes)}
 

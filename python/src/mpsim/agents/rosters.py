@@ -30,11 +30,21 @@ def read_roster(path: Path, days: Calendar, last: int, queues: Collection[str]) 
     `queues` are names separated by spaces; empty means all. `from` and `to` are both ticks, or both dates with times such as 2026-03-02T08:00, or a
     pattern: weekdays and a time of day such as `mon-fri 08:00` or `mon,wed 08:00`, and the time of day at which the interval ends, on the next day if
     it isn't later. A pattern holds on each such day of the Calendar up to tick `last` (int). `queues` of the argument are the names that exist.
-    Raises OSError if the file can't be read, and ValueError for an invalid row, with its number (the header is row 1), and if intervals of an agent
-    overlap."""
+    Fields are separated by commas, or by semicolons if the header's are. Raises OSError if the file can't be read, and ValueError for an invalid row,
+    with its number (the header is row 1), and if intervals of an agent overlap.
+
+    >>> import tempfile
+    >>> from mpsim.agents.rosters import read_roster
+    >>> from mpsim.times.calendar import Calendar
+    >>> with tempfile.NamedTemporaryFile("w") as file:
+    ...     print("agent,queues,from,to\nann,phone,mon-fri 08:00,16:00", file=file, flush=True)
+    ...     read_roster(file.name, Calendar(10**9, "2026-03-02T00:00"), 90000, ["phone", "mail"])
+    ([Agent(intervals=[(28800, 57600), (115200, 144000)], queues=['phone'])], ['ann'])
+    """
     lines = bytes_of(path).decode("utf-8-sig", "surrogateescape").splitlines()
+    mark = ";" if lines and ";" in lines[0] else ","
     # Numbered as a spreadsheet does: the header is row 1.
-    (_, head), *rows = [(number, row) for number, row in enumerate(csv.reader(lines), 1) if row] or [(1, [])]
+    (_, head), *rows = [(number, row) for number, row in enumerate(csv.reader(lines, delimiter=mark), 1) if row] or [(1, [])]
     if [it.strip() for it in head] != HEAD:
         raise ValueError(f"{path}: a roster begins with {','.join(HEAD)}, not with {','.join(head)!r}")
     dates = [day for day, _, _ in days.midnights(last)]
@@ -108,7 +118,13 @@ def _weekdays(text: str, days: Calendar) -> set[int] | None:
 
 def counts_roster(text: str, days: Calendar, last: int) -> list[Agent]:
     """Returns the agents (list of Agent) of a text such as `8:00=3,10:00=5,18:00=0`: numbers of agents from times of day on, each day of a Calendar
-    up to tick `last`. Nobody is there before the first time; the last number holds until midnight. Raises ValueError for an invalid text."""
+    up to tick `last`. Nobody is there before the first time; the last number holds until midnight. Raises ValueError for an invalid text.
+
+    >>> from mpsim.agents.rosters import counts_roster
+    >>> from mpsim.times.calendar import Calendar
+    >>> [agent.intervals for agent in counts_roster("8:00=1,10:00=2,18:00=0", Calendar(10**9), 0)]
+    [[(28800, 36000), (36000, 64800)], [(36000, 64800)]]
+    """
     steps = []
     for part in text.split(","):
         time, mark, number = part.partition("=")
@@ -131,7 +147,14 @@ def counts_roster(text: str, days: Calendar, last: int) -> list[Agent]:
 def patience_in(text: str, trace: Trace, tick: int, seed: int) -> tuple[list[int], bool]:
     """Returns the patience (list of int, ticks) of each record of a trace from the value of --patience: a length of time, the name of a column, or
     `exp:240s` for random ones with this mean, drawn with a seed (int). Returns as well whether they are drawn. Raises ValueError for another
-    value."""
+    value.
+
+    >>> from mpsim.agents.rosters import patience_in
+    >>> from mpsim.traces import Trace
+    >>> trace = Trace("t.csv", ["source", "time", "patience"], [["door", "0", "30"], ["door", "9", "60"]])
+    >>> patience_in("patience", trace, 10**9, 1), patience_in("2min", trace, 10**9, 1)
+    (([30, 60], False), ([120, 120], False))
+    """
     if text in trace.header[2:]:
         return trace.numbers(text), False
     kind, mark, mean = text.rpartition(":")

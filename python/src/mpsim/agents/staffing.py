@@ -26,7 +26,13 @@ if TYPE_CHECKING:
 
 class Goal(NamedTuple):
     """A service level: at least `share` (Fraction) of the calls are served within `within` (int, ticks). If `occupancy` (Fraction) isn't None, agents
-    work at most this share of their time."""
+    work at most this share of their time.
+
+    >>> from fractions import Fraction
+    >>> from mpsim.agents.staffing import Goal
+    >>> Goal(Fraction(4, 5), 20)
+    Goal(share=Fraction(4, 5), within=20, occupancy=None)
+    """
 
     share: Fraction
     within: int
@@ -187,7 +193,15 @@ def calls_of(
     every: int, days: Sequence[Day], arrivals: Sequence[int], services: Sequence[int], patience: Sequence[int | None] | None
 ) -> list[list[list[Waiting]]]:
     """Returns the calls of each Day (list, per day, of what `least` takes) from arrivals (int, ticks, in any order), services and patience
-    (sequences)."""
+    (sequences).
+
+    >>> from mpsim.agents.staffing import calls_of
+    >>> from mpsim.times.calendar import Calendar
+    >>> from mpsim.times.intervals import days_of
+    >>> days = days_of(Calendar(10**9), 0, 43200 * 10**9)
+    >>> calls_of(43200 * 10**9, days, [50000], [60], None)
+    [[[], [Waiting(number=1, arrive=50000, service=60, patience=None)]]]
+    """
     found: list[list[list[Waiting]]] = [[[] for _ in day.begins[1:]] for day in days]
     at = 0
     for call in sorted(range(len(arrivals)), key=arrivals.__getitem__):

@@ -8,7 +8,7 @@ from ..times.intervals import label
 
 if TYPE_CHECKING:
     from collections.abc import Iterator, Sequence
-    from typing import Any, Dict, List, Tuple
+    from typing import Dict, List, Tuple
 
     from ..shapes import Row
     from ..times.intervals import Day
@@ -65,21 +65,31 @@ def figures(pairs: Sequence[Pair], within: int, same: int) -> Row:
     return [len(pairs), *(round(it, 4) for it in (*shares, shares[1] - shares[0], alike))]
 
 
-def verdict(rows: Sequence[Sequence[Any]]) -> str:
+def _gap(row: Row) -> tuple[int, float, float, float] | None:
+    """Returns the number of calls of a row as in HEADS, the recorded and the modelled share, and their difference; None without calls."""
+    count, one, other, gap = row[2:6]
+    if isinstance(count, int) and isinstance(one, float) and isinstance(other, float) and isinstance(gap, float):
+        return count, one, other, gap
+    return None
+
+
+def verdict(rows: Sequence[Row]) -> str:
     """Returns a line (str) that says whether a model may be trusted, and why not, from rows as in HEADS with the queue "all": the first of all calls,
     the others per interval."""
-    whole, *each = rows
-    if whole[5] is None:
+    whole = _gap(rows[0])
+    if whole is None:
         return "there are no calls to compare"
-    far = [row for row in each if row[2] >= CALLS and abs(row[5]) > EACH]
-    both = f"{100 * whole[3]:.1f} % recorded, {100 * whole[4]:.1f} % modelled"
-    if abs(whole[5]) <= OVERALL and not far:
+    each = [(row[0], found) for row in rows[1:] if (found := _gap(row))]
+    far = [(name, gap) for name, (count, _, _, gap) in each if count >= CALLS and abs(gap) > EACH]
+    _, one, other, gap = whole
+    both = f"{100 * one:.1f} % recorded, {100 * other:.1f} % modelled"
+    if abs(gap) <= OVERALL and not far:
         return f"the model may be trusted: {both}, and no interval of {CALLS} calls or more differs by more than {100 * EACH:.0f} points"
-    worst = max(far, key=lambda row: float(abs(row[5])), default=None)
     where = ""
-    if worst:
-        where = f"; {len(far)} of {len(each)} intervals differ by more than {100 * EACH:.0f} points, most at {worst[0]} ({100 * worst[5]:+.1f})"
-    how = "better" if whole[5] > 0 else "worse"
+    if far:
+        name, worst = max(far, key=lambda item: abs(item[1]))
+        where = f"; {len(far)} of {len(rows) - 1} intervals differ by more than {100 * EACH:.0f} points, most at {name} ({100 * worst:+.1f})"
+    how = "better" if gap > 0 else "worse"
     return f"the model may not be trusted: {both}, and the model is {how}{where}"
 
 
@@ -96,6 +106,12 @@ def rows_of(cells: Cells, within: int, same: int, every: int) -> Iterator[Row]:
 
 def recorded(trace: Trace, wait: str, abandoned: str | None = None) -> tuple[list[int], list[bool]]:
     """Returns, for each record of a Trace, the recorded wait (int, ticks) and whether the call was abandoned (two lists), from the columns of these
-    names. Raises ValueError for an unknown column."""
+    names. Raises ValueError for an unknown column.
+
+    >>> from mpsim.agents.validation import recorded
+    >>> from mpsim.traces import Trace
+    >>> recorded(Trace("t.csv", ["source", "time", "wait", "gone"], [["door", "0", "30", "0"], ["door", "9", "60", "1"]]), "wait", "gone")
+    ([30, 60], [False, True])
+    """
     waits = trace.numbers(wait)
     return waits, [value != 0 for value in trace.numbers(abandoned)] if abandoned else [False] * len(waits)

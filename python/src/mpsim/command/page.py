@@ -2,7 +2,8 @@
 
 from __future__ import annotations
 
-from typing import TYPE_CHECKING
+from datetime import datetime
+from typing import TYPE_CHECKING, Optional, TypedDict
 
 from .. import page
 from ..agents.pools import pool_lines
@@ -19,7 +20,6 @@ from .options import calendar_of, calendar_words, calendar_words_in, ticks
 if TYPE_CHECKING:
     from argparse import ArgumentParser, Namespace
     from collections.abc import Iterable
-    from typing import Any
 
     from ..report import Report
 
@@ -38,7 +38,14 @@ def words(parser: ArgumentParser) -> None:
     calendar_words(parser)
 
 
-def axes(args: Namespace, text: str | None) -> dict[str, Any]:
+class Axes(TypedDict, total=False):
+    """The options of a page that give its axes times of day: the seconds per tick, and the wall-clock time of time 0."""
+
+    tick: float
+    start: Optional[datetime]
+
+
+def axes(args: Namespace, text: str | None) -> Axes:
     """Returns the options of a page given by a command's arguments and a model's text (str or None): the seconds per tick, and the wall-clock time of
     time 0. Empty if nothing gives the length of a tick and no argument needs it."""
     tick, start, _ = settings_in(text or "")

@@ -10,7 +10,6 @@ from .codes import line_of, with_codes, word_of
 
 if TYPE_CHECKING:
     from collections.abc import Iterator
-    from typing import Any
 
 # The most bytes of a trace.
 BYTES = 1 << 27
@@ -46,7 +45,7 @@ class Prepared:
     def __len__(self) -> int:
         return len(self.times)
 
-    def rows(self) -> Iterator[tuple[Any, ...]]:
+    def rows(self) -> Iterator[tuple[str | int, ...]]:
         """Yields the source, time and values of each record."""
         return zip(self.sources, self.times, *self.values)
 

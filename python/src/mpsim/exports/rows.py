@@ -147,7 +147,7 @@ class Rows:
                 found.append(at)
         return found
 
-    def _record(self, at: int) -> tuple[Any, ...]:
+    def _record(self, at: int) -> tuple[object, ...]:
         return self.sources[at], self.stamps[at], *(column[at] for column in self.values)
 
     def drop(self, indices: Iterable[int]) -> None:

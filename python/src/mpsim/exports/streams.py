@@ -18,7 +18,9 @@ from ..files import named
 
 if TYPE_CHECKING:
     from collections.abc import Callable, Iterator
-    from typing import IO, Any, TextIO
+    from typing import IO, TextIO
+
+    from _typeshed import WriteableBuffer
 
     from ..shapes import Path
 
@@ -97,7 +99,7 @@ class Stream:
                 kept.write(piece)
                 if kept.tell() > PIPE:
                     raise ValueError(f"more than {PIPE:,} bytes through a pipe: give a file")
-        return lambda: cast("IO[bytes]", _Reading(kept))
+        return lambda: cast("IO[bytes]", _Reading(cast("io.BufferedRandom", kept)))
 
     def _unzip(self) -> None:
         """Chooses the file in a zip archive, of which there must be one."""
@@ -159,7 +161,7 @@ class Stream:
 class _Reading(io.RawIOBase):
     """Reads an open temporary file from its beginning and leaves it open."""
 
-    def __init__(self, file: IO[bytes]) -> None:
+    def __init__(self, file: io.BufferedRandom) -> None:
         self._file, self._at = file, 0
 
     def readable(self) -> bool:
@@ -176,12 +178,11 @@ class _Reading(io.RawIOBase):
     def tell(self) -> int:
         return self._at
 
-    def readinto(self, buffer: Any) -> int:
+    def readinto(self, buffer: WriteableBuffer) -> int:
         self._file.seek(self._at)
-        piece = self._file.read(len(buffer))
-        buffer[: len(piece)] = piece
-        self._at += len(piece)
-        return len(piece)
+        count = self._file.readinto(buffer)
+        self._at += count
+        return count
 
 
 def judge_text(begin: bytes) -> None:

@@ -13,7 +13,6 @@ from ..node_visits import HELD, LOST, percentile_of
 
 if TYPE_CHECKING:
     from collections.abc import Iterable, Sequence
-    from typing import Any
 
     from ..lines import Node
     from ..node_visits import NodeVisits
@@ -46,24 +45,24 @@ def width_of(span: int, pieces: int, tick: float | Fraction | None = None) -> in
     return nice(-(-max(span, 1) // pieces), tick)
 
 
-def over_time(visits: NodeVisits, span: int, pieces: int, tick: float | Fraction | None = None) -> dict[str, Any]:
+def over_time(visits: NodeVisits, span: int, pieces: int, tick: float | Fraction | None = None) -> dict[str, object]:
     """Returns the visits to a node by time of arrival, in about this many intervals of equal width: the arrivals, how many of them were lost or held,
     and the p50, p90 and maximum of the waits of those that departed, None if none did."""
-    width = width_of(span, pieces, tick)
-    series: dict[str, Any] = {"width": width, "came": [], "lost": [], "p50": [], "p90": [], "max": []}
-    begin = 0
+    width, begin = width_of(span, pieces, tick), 0
+    came, lost = [], []
+    waits_at: dict[str, list[int | None]] = {"p50": [], "p90": [], "max": []}
     for end_time in range(width, span + width + 1, width):
         end = bisect_left(visits.arrive, end_time, begin)
         waits = sorted(item for item in visits.wait[begin:end] if item >= 0)
-        series["came"].append(end - begin)
-        series["lost"].append(end - begin - len(waits))
+        came.append(end - begin)
+        lost.append(end - begin - len(waits))
         for name, percent in ("p50", 50), ("p90", 90), ("max", 100):
-            series[name].append(percentile_of(waits, percent) if waits else None)
+            waits_at[name].append(percentile_of(waits, percent) if waits else None)
         begin = end
-    return series
+    return {"width": width, "came": came, "lost": lost, **waits_at}
 
 
-def number_over_time(visits: NodeVisits, span: int, width: int) -> dict[str, Any]:
+def number_over_time(visits: NodeVisits, span: int, width: int) -> dict[str, object]:
     """Returns how many of a node's visits were in it, in time intervals of one width (int, ticks), the last of which ends with the span: the mean of
     each interval, to three decimals, and the maximum. Lost visits are never in the node, held ones stay to the end. At any moment departures come
     before arrivals, so a visit of no duration doesn't show.
@@ -75,16 +74,15 @@ def number_over_time(visits: NodeVisits, span: int, width: int) -> dict[str, Any
     """
     begins = array("q", (arrive for arrive, wait in zip(visits.arrive, visits.wait) if wait != LOST))
     ends = array("q", sorted(span if wait == HELD else depart for depart, wait in zip(visits.depart, visits.wait) if wait != LOST))
-    series: dict[str, Any] = {"width": width, "mean": [], "max": []}
-    came, gone = 0, 0
+    means, greatest, came, gone = [], [], 0, 0
     for begin in range(0, span, width):
         end, first, before = min(begin + width, span), came, gone
         came, gone = bisect_left(begins, end, first), bisect_left(ends, end, before)
         # A visit present at the beginning counts for the whole interval, less the time after its departure; an arrival counts from its time on.
         within = (first - before) * (end - begin) + (came - first - gone + before) * end - sum(begins[first:came]) + sum(ends[before:gone])
-        series["mean"].append(round(within / (end - begin), 3))
-        series["max"].append(_greatest(begins, ends, begin, range(first, came), before))
-    return series
+        means.append(round(within / (end - begin), 3))
+        greatest.append(_greatest(begins, ends, begin, range(first, came), before))
+    return {"width": width, "mean": means, "max": greatest}
 
 
 def _greatest(begins: Sequence[int], ends: Sequence[int], begin: int, numbers: range, gone: int) -> int:
@@ -99,7 +97,7 @@ def _greatest(begins: Sequence[int], ends: Sequence[int], begin: int, numbers: r
     return most
 
 
-def distribution(visits: NodeVisits, most: int) -> dict[str, Any]:
+def distribution(visits: NodeVisits, most: int) -> dict[str, object]:
     """Returns the number of visits, and some waits of those that departed, in rising order, with how many waited no longer. Each count is exact. All
     waits are included if they are few; else those at equally spaced ranks, at common percentiles, and at ranks that close in on the longest."""
     waits = visits.waits()
@@ -110,7 +108,7 @@ def distribution(visits: NodeVisits, most: int) -> dict[str, Any]:
     return {"came": len(visits), "wait": kept, "count": [bisect_right(waits, item) for item in kept]}
 
 
-def pictures_of(report: Report, nodes: Iterable[Node], numbers: int, tick: float | Fraction | None = None) -> dict[str, dict[str, dict[str, Any]]]:
+def pictures_of(report: Report, nodes: Iterable[Node], numbers: int, tick: float | Fraction | None = None) -> dict[str, dict[str, dict[str, object]]]:
     """Returns the charts of those nodes (list of Node) of a report where jobs can stay and did arrive, by name, with about this many numbers in all.
     `tick` is the seconds per tick, if known."""
     if report.visits is None:
@@ -119,7 +117,7 @@ def pictures_of(report: Report, nodes: Iterable[Node], numbers: int, tick: float
     drawn = [visit for visit in visits_at(report, waited) if len(visit)]
     each = numbers // max(len(drawn), 1)
     pieces, waits = (min(max(each // share, LEAST), most) for share, most in ((10, PIECES), (7, WAITS)))
-    found: dict[str, dict[str, dict[str, Any]]] = {}
+    found: dict[str, dict[str, dict[str, object]]] = {}
     for item in drawn:
         count, mine = max(min(pieces, len(item) // VISITS), 10), found.setdefault(item.node, {})
         if waited[item.node]:

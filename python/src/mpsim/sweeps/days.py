@@ -94,7 +94,12 @@ def _clock(text: str) -> int:
 
 
 def by_ticks(times: Sequence[int], every: int) -> tuple[list[Day], int]:
-    """Returns pieces of `every` ticks (int), as `cut` does; time 0 of each is its beginning."""
+    """Returns pieces of `every` ticks (int), as `cut` does; time 0 of each is its beginning.
+
+    >>> from mpsim.sweeps.days import by_ticks
+    >>> by_ticks([5, 12], 10)
+    ([Day(name='0..9', zero=0, end=10, records=(0,)), Day(name='10..19', zero=10, end=20, records=(1,))], 0)
+    """
     found: dict[int, list[int]] = {}
     for at, time in enumerate(times):
         found.setdefault(time // every * every, []).append(at)
@@ -109,7 +114,15 @@ def days(
 
     Agents and waits at a pool are recomputed for the records of the piece (`recomputed`). The model is any that `mpsim.run` accepts, and is read for
     each piece. If a run is refused because of the bound or of a node with too many visits, its scenario has that error. Any other error is raised,
-    with the path of the model if given. `tell` is called with the number of pieces done."""
+    with the path of the model if given. `tell` is called with the number of pieces done.
+
+    >>> from mpsim.sweeps.days import by_ticks, days
+    >>> from mpsim.traces import Trace
+    >>> trace = Trace("t.csv", ["source", "time"], [["door", "5"], ["door", "6"], ["door", "12"]])
+    >>> sweep, over = days("model 1\\nsource door\\nserver desk =4 from door\\n", trace, by_ticks(trace.times(), 10)[0])
+    >>> sweep.curve("desk", "max"), over
+    ([('0..9', 3), ('10..19', 0)], 1)
+    """
     times, sweep, over, known = trace.times(), Sweep(), 0, model_pools(model, trace)
     for done, it in enumerate(pieces):
         tell(done)

@@ -26,7 +26,13 @@ REFUSED = 3, 4, 5, 9
 
 class Scenario(NamedTuple):
     """The run of one model of a sweep: its label (any value), its status (int), its report (Report), and, if the status isn't 0, the exception
-    (Error, not raised) with the program's line and numbers."""
+    (Error, not raised) with the program's line and numbers.
+
+    >>> import mpsim
+    >>> scenario, = mpsim.scenarios([("door", 0)], {"now": "model 1\\nsource door\\n"})
+    >>> scenario.label, scenario.status, scenario.report.jobs, scenario.refusal
+    ('now', 0, 1, None)
+    """
 
     label: Hashable
     status: int
@@ -48,7 +54,14 @@ class Sweep(Dict[Hashable, Scenario]):
 
     @classmethod
     def read(cls, path: Path, labels: Sequence[Hashable] | None = None) -> Sweep:
-        """Returns the sweep in a file. The labels and exceptions are those of `parse`; OSError is raised if the file can't be read."""
+        """Returns the sweep in a file. The labels and exceptions are those of `parse`; OSError is raised if the file can't be read.
+
+        >>> import mpsim, tempfile
+        >>> with tempfile.NamedTemporaryFile("w") as file:
+        ...     print("scenario 1 status 3\\nmpsim: model line 1: expected model 1 or model 2", file=file, flush=True)
+        ...     mpsim.Sweep.read(file.name, ["today"])["today"].refusal.line
+        1
+        """
         with open(path, "rb") as stream, read_from(path):
             return cls.parse(stream, labels)
 
@@ -72,12 +85,24 @@ class Sweep(Dict[Hashable, Scenario]):
         return cls((it, scenario._replace(label=it)) for it, scenario in zip(labels or range(1, len(found) + 1), found))
 
     def reports(self) -> dict[Hashable, Report]:
-        """Returns the reports of the scenarios that weren't refused: a dict of Report by label."""
+        """Returns the reports of the scenarios that weren't refused: a dict of Report by label.
+
+        >>> import mpsim
+        >>> sweep = mpsim.sweep([("door", 0)], {"now": "model 1\\nsource door\\n", "bad": "model 3\\n"})
+        >>> sweep.reports()
+        {'now': <Report of 1 jobs, 1 nodes, span 0>}
+        """
         return {label: it.report for label, it in self.items() if it.report is not None}
 
     def curve(self, node: str, figure: str) -> list[tuple[Hashable, int | float | None]]:
         """Returns pairs of a label and a node's figure: a field of its line (str, such as "p90" or "in") or a property of Node (such as "mean_wait").
-        Refused scenarios are left out. Raises KeyError for an unknown node, AttributeError for an unknown figure."""
+        Refused scenarios are left out. Raises KeyError for an unknown node, AttributeError for an unknown figure.
+
+        >>> import mpsim
+        >>> models = mpsim.variants("model 1\\nsource door\\nserver desk ={talk} from door\\n", talk=[4, 6])
+        >>> mpsim.sweep([("door", 0), ("door", 1)], models).curve("desk", "mean_wait")
+        [(4, 1.5), (6, 2.5)]
+        """
         return [(label, it[node].figure(figure)) for label, it in self.reports().items()]
 
     def save(

@@ -57,7 +57,14 @@ class Writer:
 
 
 def write_table(rows: Iterable[Sequence[object]], form: str = "csv", style: str = "plain", path: Path | None = None) -> None:
-    """Writes a table (iterable of lists, the first of which is the header) to a file or standard output. Raises ValueError if openpyxl is missing."""
+    """Writes a table (iterable of lists, the first of which is the header) to a file or standard output. Raises ValueError if openpyxl is missing.
+
+    >>> from mpsim.tables.sheets import write_table
+    >>> write_table([["node", "wait"], ["desk", 1.5]], form="md")
+    | node | wait |
+    |---|---|
+    | desk | 1.5 |
+    """
     if style != "plain" and form != "csv":
         raise ValueError(f"--csv-style {style}: it can't be used with --format {form}")
     content = _xlsx(rows) if form == "xlsx" else None

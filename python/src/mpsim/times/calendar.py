@@ -82,7 +82,13 @@ def with_line(text: str, pattern: str, line: str) -> str:
 
 class Calendar:
     """The day and hour of each tick. `tick` (int) is in nanoseconds, `start` an ISO 8601 text, `zone` a name. Without a start, time 0 is a midnight.
-    Days change at midnight of the zone. Raises ValueError for an invalid value, and for a zone without a start."""
+    Days change at midnight of the zone. Raises ValueError for an invalid value, and for a zone without a start.
+
+    >>> from mpsim.times.calendar import Calendar
+    >>> days = Calendar(10**9, "2026-03-28T00:00:00+01:00", "Europe/Berlin")
+    >>> days.parts("day", 200000)
+    ([0, 86400, 169200], ['2026-03-28', '2026-03-29', '2026-03-30'])
+    """
 
     def __init__(self, tick: int | None, start: str | None = None, zone: str | None = None) -> None:
         if tick is None:

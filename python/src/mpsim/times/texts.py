@@ -59,7 +59,11 @@ class Cache(Dict[Key, Value]):
 
 
 def length(text: str) -> int:
-    """Returns the nanoseconds (int) of a text such as `1s`, `100ms` or `0.5min`. Raises ValueError for an invalid text."""
+    """Returns the nanoseconds (int) of a text such as `1s`, `100ms` or `0.5min`. Raises ValueError for an invalid text.
+
+    >>> length("1.5s"), length("100ms")
+    (1500000000, 100000000)
+    """
     found = re.fullmatch(r"\s*([0-9]+)(?:\.([0-9]+))?\s*([a-z]+)\s*", text)
     if not found or found[3] not in UNITS:
         raise ValueError(f"not a length of time: expected a number and one of {', '.join(UNITS)}")
@@ -101,7 +105,11 @@ _SPACES = str.maketrans("\u00a0\u202f", "  ")
 
 def clock(text: str) -> int:
     """Returns the nanoseconds since midnight of a text such as `8:05`, `08:05:09`, `08:05:09.250` or `1:30 pm`; 24:00 is the midnight at the end of
-    the day, and second 60 the first of the next minute. Raises Unread."""
+    the day, and second 60 the first of the next minute. Raises Unread.
+
+    >>> clock("8:05") == clock("08:05:00.000"), clock("1:30 pm") // MINUTE
+    (True, 810)
+    """
     found = CLOCK.fullmatch(text.translate(_SPACES).strip())
     if not found:
         raise Unread("not h:mm or h:mm:ss")

@@ -21,7 +21,12 @@ TWICE = {
 
 class Zone:
     """A time zone by its name (str), such as Europe/Berlin. Without a name, every day has 24 hours and moments are wall-clock times. `twice` says
-    which hour is meant when clocks are set back. Raises ValueError for a zone that this machine doesn't know."""
+    which hour is meant when clocks are set back. Raises ValueError for a zone that this machine doesn't know.
+
+    >>> from mpsim.times.zones import Zone
+    >>> Zone("Europe/Berlin").shown(1772438417 * 10**9)
+    '2026-03-02T09:00:17+01:00'
+    """
 
     again: dict[str, int]
     zone: tzinfo | None

@@ -280,7 +280,19 @@ def _is_closed(text: str) -> bool:
 
 def edited(path: Path, changes: Path, model: Path | None = None) -> Edited:
     """Returns the trace of a file after the changes in another (Edited). All arguments are paths; edits for mpedit use the columns of the model.
-    Raises OSError if a file can't be read, ValueError if one is invalid."""
+    Raises OSError if a file can't be read, ValueError if one is invalid.
+
+    >>> import os, tempfile
+    >>> from mpsim.traces.edit import edited
+    >>> with tempfile.TemporaryDirectory() as folder:
+    ...     trace, changes = os.path.join(folder, "trace.csv"), os.path.join(folder, "changes.csv")
+    ...     with open(trace, "w") as file:
+    ...         _ = file.write("source,time,talk\\ndoor,0,9\\ndoor,8,4\\n")
+    ...     with open(changes, "w") as file:
+    ...         _ = file.write("record,talk\\n2,+3\\n")
+    ...     list(edited(trace, changes).lines())
+    ['source,time,talk\\n', 'door,0,9\\n', 'door,8,7\\n']
+    """
     made, data = Edited(path, model), bytes_of(changes)
     text = decoded(changes, data)
     if text.split(None, 1)[:1] not in ([], ["set"], ["add"]):

@@ -79,7 +79,14 @@ def around(time: int, count: int, shift: int, first: int, last: int) -> list[int
 
 
 def scaled(trace: Trace, k: int, n: int, way: str, shift: int | None = None, only: Collection[str] = ()) -> Trace:
-    """Returns the trace (Trace) with k/n of the load of another, in order of time; `way` is "times", "twins" or "shift"."""
+    """Returns the trace (Trace) with k/n of the load of another, in order of time; `way` is "times", "twins" or "shift".
+
+    >>> from mpsim.traces import Trace
+    >>> from mpsim.traces.scale import scaled
+    >>> trace = Trace("t.csv", ["source", "time", "talk"], [["door", "0", "9"], ["door", "8", "4"]])
+    >>> scaled(trace, 2, 1, "times").rows
+    [['door', '0', '9'], ['door', '4', '4']]
+    """
     times = trace.times()
     for name in only:
         if name not in trace.sources():

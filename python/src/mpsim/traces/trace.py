@@ -154,7 +154,11 @@ def pool_warning(path: str, header: Sequence[str]) -> str | None:
 
 
 def header_of(path: Path) -> list[str]:
-    """Returns the header (list of str) of the trace in a file that can be read twice; an empty list for any other."""
+    """Returns the header (list of str) of the trace in a file that can be read twice; an empty list for any other.
+
+    >>> header_of("absent.csv")
+    []
+    """
     if not os.path.isfile(path):
         return []
     with open(path, encoding="utf-8-sig", errors="surrogateescape", newline="") as file:
