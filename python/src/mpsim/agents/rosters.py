@@ -37,7 +37,7 @@ def read_roster(path: Path, days: Calendar, last: int, queues: Collection[str]) 
     >>> from mpsim.agents.rosters import read_roster
     >>> from mpsim.times.calendar import Calendar
     >>> with tempfile.NamedTemporaryFile("w") as file:
-    ...     print("agent,queues,from,to\nann,phone,mon-fri 08:00,16:00", file=file, flush=True)
+    ...     print("agent,queues,from,to\\nann,phone,mon-fri 08:00,16:00", file=file, flush=True)
     ...     read_roster(file.name, Calendar(10**9, "2026-03-02T00:00"), 90000, ["phone", "mail"])
     ([Agent(intervals=[(28800, 57600), (115200, 144000)], queues=['phone'])], ['ann'])
     """
