@@ -23,7 +23,7 @@ def calendar_words(parser: ArgumentParser) -> None:
 
 
 def calendar_words_in(args: Namespace) -> list[str]:
-    """Returns those options (list of str) declared by `words` that were given."""
+    """Returns those options (list of str) declared by `calendar_words` that were given."""
     return [f"--{name}" for name in ("tick", "start", "zone") if getattr(args, name) is not None]
 
 
