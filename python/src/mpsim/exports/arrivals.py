@@ -9,8 +9,10 @@ from ..times.formats import looks_like_clocks
 from ..times.texts import CLOCK, DAY, HOUR, SECOND, clock, given, iso
 from ..wording import counted
 
-# Records are far from the rest if the gap is longer than the rest spans, and than this.
+# Some records are far from the rest if the gap is longer than the rest spans, and than this.
 FAR = 30 * DAY
+# Any number of records is far from the rest after such a gap, in which no system was silent.
+AGES = 3653 * DAY
 
 
 def ticks(plan, stamps, begin, made):
@@ -74,13 +76,15 @@ def _zero(plan, begin, first, is_utc):
 
 
 def judge_far(plan, rows):
-    """Raises ValueError if the first or the last records (up to 5 percent) lie further from the rest than the rest spans: such a time is usually an
-    empty date of the system that wrote the export."""
+    """Raises ValueError if the first or the last records (up to 5 percent) lie further from the rest than the rest spans, or any number of them ten
+    years: such a time is usually an empty date of the system that wrote the export."""
     stamps = rows.stamps
-    if not plan.has_day or plan.is_ticks or len(stamps) < 3 or max(stamps) - min(stamps) <= FAR:
+    if not plan.has_day or plan.is_ticks or max(stamps) - min(stamps) <= FAR:
         return
     ordered, few = sorted(stamps), max(len(stamps) // 20, 1)
     begin, end = _far(ordered, few), -_far([-item for item in reversed(ordered)], few)
+    if begin == ordered[0] and end == ordered[-1]:
+        begin, end = _ages(ordered)
     is_early = begin > ordered[0]
     if not is_early and end == ordered[-1]:
         return
@@ -102,6 +106,14 @@ def _far(ordered, few):
         if ordered[at] - ordered[at - 1] > max(last - ordered[at], FAR):
             return ordered[at]
     return ordered[0]
+
+
+def _ages(ordered):
+    """Returns the first and the last of these moments (in rising order) between which there is no gap of ten years: of the moments before and after
+    such a gap the more numerous, or the later."""
+    cuts = [0, *(at for at in range(1, len(ordered)) if ordered[at] - ordered[at - 1] > AGES), len(ordered)]
+    begin, end = max(zip(cuts, cuts[1:]), key=lambda cut: (cut[1] - cut[0], cut[1]))
+    return ordered[begin], ordered[end - 1]
 
 
 def _day(plan, value):

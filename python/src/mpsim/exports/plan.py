@@ -234,7 +234,10 @@ class Plan:
     def _in_order_of(self):
         """Returns the ends of services (Times) if the rows are in order of those and not of the arrivals, which matters for --twice order; else
         None."""
-        ends = [column.times for column in self.columns if isinstance(column, End) and not column.times.how.is_of_day]
+        parts = [part for column in self.columns for part in getattr(column, "parts", [column])]
+        ends = [part.times for part in parts if isinstance(part, End)]
+        ends += [times for part in parts if isinstance(part, Expression) for sign, times in part.times if sign > 0]
+        ends = list({times.column: times for times in ends if not times.how.is_of_day}.values())
         if self.place.twice != "order" or self.time.dates or len(ends) != 1:
             return None
         found = [self._descents(times) for times in (self.time, ends[0])]

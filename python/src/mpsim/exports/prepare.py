@@ -145,7 +145,7 @@ def _finished(plan, rows, begin, most, far, duplicates):
         made.told += [counted(sum(made.left.values()), "row") + f" {'is' if sum(made.left.values()) == 1 else 'are'} left out", *left[:LINES]]
         made.told += [f"and for {len(left) - LINES} other reasons"] if left[LINES:] else []
     if rows.long:
-        made.warned.append(f"a field has more than {LINES} lines: is a closing quote missing?")
+        made.warned.append(f"row {rows.long}: a field has more than {LINES} lines: is a closing quote missing?")
     return made
 
 
@@ -201,7 +201,7 @@ def _note_values(plan, rows, made):
             made.warned += _code_warnings(it)
             if plan.model is not None and it.known is None:
                 made.unlike.append(f"{it.name}: the model doesn't say which word has which number, so another export may number them differently")
-        elif isinstance(it, End) and not plan.is_ticks:
+        if any(isinstance(part, End) or getattr(part, "times", None) for part in getattr(it, "parts", [it])) and not plan.is_ticks:
             over = sum(value > 12 * HOUR // plan.per for value in values)
             if over:
                 made.warned.append(f"{it.name}: {counted(over, 'service')} longer than 12 hours")

@@ -24,8 +24,8 @@ class TooManyLeft(ValueError):
 
 class Rows:
     """The records of an export, in its order: `sources` (list of str), `stamps` (array, their moments) and `values` (list of arrays). `left` has, by
-    reason, the number of rows left out and the first of them, `unwanted` the number that conditions excluded, and `long` the number of fields with
-    many lines. Rows that are left out are written to a file, if given."""
+    reason, the number of rows left out and the first of them, `unwanted` the number that conditions excluded, and `long` the number of the first row
+    with a field of many lines, or 0. Rows that are left out are written to a file, if given."""
 
     def __init__(self, plan, left_out=None):
         self.plan, self.left, self.unwanted, self.long = plan, {}, 0, 0
@@ -36,19 +36,39 @@ class Rows:
     def read(self):
         """Reads all rows. Raises ValueError if the export is too long or needs another option."""
         rows, number = self.plan.export.rows()
-        lines = 0
+        lines = rows.line_num
         if self._writer:
             self._writer.writerow(["row", "reason", *self.plan.export.header])
         with uncollected(), Progress(self.plan.export.size, "rows") as progress:
             try:
                 while some := list(islice(rows, CHUNK)):
                     self._read_some(some, number)
-                    if rows.line_num - lines > len(some) + LINES:
-                        self.long += any(item.count("\n") > LINES for row in some for item in row)
+                    if rows.line_num - lines > len(some):
+                        self._judge_lines(some, number)
                     number, lines = number + len(some), rows.line_num
                     progress(number)
             except csv.Error as error:
-                raise ValueError(f"after row {number - 1}: {error}: is a closing quote missing?") from None
+                raise ValueError(f"row {self._unread()}: {error}: is a closing quote missing?") from None
+
+    def _unread(self):
+        """Returns the number of the row that the reader of rows can't read."""
+        rows, number = self.plan.export.rows()
+        with contextlib.suppress(csv.Error):
+            for _ in rows:
+                number += 1
+        return number
+
+    def _judge_lines(self, rows, first):
+        """Raises ValueError if a field of these rows has lines that are rows themselves, as after a quote that isn't closed."""
+        plan = self.plan
+        for number, row in enumerate(rows, first):
+            for lines in (item.splitlines() for item in row if "\n" in item or "\r" in item):
+                inner = csv.reader(lines[1:], delimiter=plan.export.delimiter)
+                found = sum(len(item) == len(plan.export.header) and plan.time.how.is_one(item[plan.time.column]) for item in inner)
+                if found:
+                    raise ValueError(f"row {number}: a field contains {counted(found, 'row')} of the table: is a closing quote missing?")
+                if len(lines) > LINES and not self.long:
+                    self.long = number
 
     def _read_some(self, rows, first):
         """Reads some rows, the first of which has this number."""
