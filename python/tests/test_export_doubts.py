@@ -184,7 +184,8 @@ class HoursThatOccurTwice(Test):
         self.assertEqual(self.sums("@2:00,@2:50,@2:10,0", "@2:50,@2:55,@2:05,0", "@2:50,@2:05,@2:15,0").values[0].tolist(), [20, 10, 10])
 
     def test_a_sum_with_rows_in_order_of_their_ends(self):
-        rows = "@1:50,@1:55,@2:05,0", "@2:20,@2:21,@2:30,0", "@2:05,@2:07,@2:35,0", "@2:55,@2:58,@2:01,0", "@2:58,@2:05,@2:10,0", "@2:55,@2:56,@3:10,0"
+        rows = "@1:50,@1:55,@2:05,0", "@2:20,@2:21,@2:30,0", "@2:05,@2:07,@2:35,0", "@2:55,@2:58,@2:01,0"
+        rows += "@2:58,@2:05,@2:10,0", "@2:55,@2:56,@3:10,0"
         made = self.sums(*rows, twice="order")
         self.assertEqual((list(made.times), made.values[0].tolist()), ([110, 125, 140, 175, 178, 235], [10, 28, 9, 3, 5, 14]))
         self.assertIn("rows are in order of 'end'", made.told)

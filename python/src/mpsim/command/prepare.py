@@ -18,7 +18,7 @@ EXAMPLE = (
 
 def words(parser):
     """Declares the arguments of `mpplan prepare`."""
-    for declare in _times, _columns, _rows, _file, _outputs:
+    for declare in _times, _columns, _events, _rows, _file, _outputs:
         declare(parser.add_argument)
 
 
@@ -53,6 +53,21 @@ def _columns(add):
     add("--code", action="append", default=[], metavar="COLUMN[=NAME]", help=codes)
     add("--empty", metavar="LENGTH", help="service time of an empty field; default: its row is left out")
     add("--rename", action="append", default=[], metavar="OLD=NEW", help="name in the trace (NEW) of a source in the export (OLD)")
+
+
+def _events(add):
+    add("--unit", metavar="COLUMN", help="an event log: rows with one value in this column are one job")
+    says = "column with the station of an event, for --unit: the services of each station become a column of the trace"
+    add("--steps", metavar="COLUMN", help=says)
+    add("--event", metavar="COLUMN", help="column with the kind of event; default: the one that has those of --begin-event and --end-event")
+    for name, says in (
+        ("arrive", "at which a job arrives; default: its first"),
+        ("begin", "at which a service begins"),
+        ("end", "at which a service ends"),
+        ("abandon", "at which a caller gives up; adds the columns wait and abandoned"),
+    ):
+        add(f"--{name}-event", action="append", default=[], metavar="EVENT", help=f"event {says}; may be repeated")
+    add("--route", metavar="NAME", help="name of a column with the order in which a job passes its stations, as numbers for a split")
 
 
 def _rows(add):

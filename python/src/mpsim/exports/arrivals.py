@@ -17,7 +17,7 @@ AGES = 3653 * DAY
 
 def ticks(plan, stamps, begin, made):
     """Returns the times of the trace (array), in ticks from time 0."""
-    readers = [reader.how for reader in plan.readers()]
+    readers = [reader.how for reader in plan.readers]
     if any(reader.has_none for reader in readers) and any(reader.has_offsets for reader in readers) and not plan.place.name:
         raise ValueError("some times have an offset from UTC and others have none: give --zone for those")
     if any(len(reader.halves) > 1 for reader in readers):

@@ -15,6 +15,7 @@ from ..times.zones import Zone
 from ..wording import listed
 from .codes import codes_in
 from .conditions import parsed
+from .events import BEGIN, END, OPTIONS, Log, found_units
 from .expressions import Expression, terms
 from .records import Dates, Numbers, Records, Times
 from .values import Code, Constant, Demand, End, Sum
@@ -34,6 +35,7 @@ class Plan:
         self.export, self.place, self.per, self.decimal, self.model = export, place, per, decimal, model
         self.format = judged_format(format) if format else None
         self.notes, self.warned, self.columns, self.conditions = list(export.notes), [], [], []
+        self.known, self.log, self.is_ragged = codes_in(model or ""), None, False
         self._sample = export.sample
 
     def where(self, words):
@@ -98,7 +100,7 @@ class Plan:
         self.time = Times(column, how, self.place, dates)
         self.answered = [self._more_times(self.export.column(name)) for name in answered]
 
-    def readers(self):
+    def _readers(self):
         """Returns all columns of times."""
         parts = [part for column in self.columns for part in getattr(column, "parts", [column])]
         ends = [part.times for part in parts if isinstance(part, End)]
@@ -145,16 +147,20 @@ class Plan:
         for item in self.columns:
             if isinstance(item, Sum):
                 self.notes.append(f"{item.name} is the sum of {' and '.join(repr(self.export.header[part.column]) for part in item.parts)}")
-        known = codes_in(self.model or "")
         for word in code:
             column, name, _ = self.export.parse(word)
             name = self._named(name, column)
-            self.columns.append(Code(name, column, known.get(name)))
+            self.columns.append(Code(name, column, self.known.get(name)))
+
+    def judge_columns(self):
+        """Raises ValueError if there are too many columns, or if one that the model names is missing."""
         if len(self.columns) > COLUMNS:
-            raise ValueError(f"{len(self.columns)} columns; the limit of a trace is {COLUMNS}")
+            names = listed([column.name for column in self.columns])
+            raise ValueError(f"{len(self.columns)} columns; the limit of a trace is {COLUMNS}" + (f": {names}" if self.log else ""))
         lacking = [item for item in columns(self.model or "") if item not in [column.name for column in self.columns]]
         if lacking:
-            raise ValueError(f"the model names {', '.join(lacking)}, which no --demand, --end, --constant or --code provides")
+            given = "station" if self.log else "--demand, --end, --constant or --code"
+            raise ValueError(f"the model names {', '.join(lacking)}, which no {given} provides")
 
     def _demand(self, word, empty):
         """Adds a column of service times, or adds it to a column of the same name."""
@@ -206,6 +212,60 @@ class Plan:
         except ValueError as error:
             raise ValueError(f"column {self.export.header[column]!r}: {error} (--decimal)") from None
 
+    def events(self, unit, steps, event, kinds, route):
+        """Sets how the rows of an event log are gathered into records. `kinds` has the names of the events (lists of str) that --arrive-event,
+        --begin-event, --end-event and --abandon-event give."""
+        if unit is None:
+            given = zip(("--steps", "--event", "--route", *OPTIONS), (steps, event, route, *kinds))
+            for option in (option for option, value in given if value):
+                raise ValueError(f"{option} requires --unit")
+            if hint := found_units(self.export.header, self._sample, self._used()):
+                self.warned.append(hint)
+            return self.judge_columns()
+        found = {}
+        for option, kind, words in zip(OPTIONS, range(len(kinds)), kinds):
+            for word in words:
+                if word in found:
+                    raise ValueError(f"the event {word!r} is given twice ({option})")
+                found[word] = kind
+        services = [it for it in self.columns if not isinstance(it, (Code, Constant))]
+        if bool(kinds[BEGIN]) != bool(kinds[END]) or found and not kinds[BEGIN]:
+            raise ValueError("--begin-event and --end-event are given together: without the one, the length of a service is unknown")
+        if found and services:
+            raise ValueError(f"{services[0].name}: the events give the services: leave --demand and --end out")
+        if not found and len(services) != 1:
+            how = "add columns up by giving them one name" if services else "give --begin-event and --end-event, --end, or --demand"
+            raise ValueError(f"each row of --unit {unit} needs one service time, but has {len(services) or 'none'}: {how}")
+        if not found and event:
+            raise ValueError("--event requires --begin-event and --end-event")
+        self._named(route) if route else None
+        columns = self.export.column(unit), None if steps is None else self.export.column(steps)
+        self.log = Log(*columns, self._event_column(event, found) if found else None, found, route)
+        self.is_ragged = bool(found) and not self.export.has_header
+        self.columns += self.log.columns()
+        self.conditions.append(self.log)
+        return None
+
+    def _event_column(self, event, kinds):
+        """Returns the index of the column with these kinds of event (dict): the one given, or the only one that has both a beginning and an end."""
+        if event is not None:
+            return self.export.column(event)
+        found = []
+        for at in range(len(self.export.header)):
+            met = {kinds.get(text.strip()) for text in self._texts(at)}
+            found += [at] if {BEGIN, END} <= met else []
+        if len(found) != 1:
+            names = " and ".join(repr(self.export.header[at]) for at in found)
+            raise ValueError(f"{names or 'no column'} {'have' if found else 'has'} the events {listed(list(kinds))}: give --event")
+        self.notes.append(f"column {self.export.header[found[0]]!r} has the events")
+        return found[0]
+
+    def _used(self):
+        """Returns the indices of the columns that are read as times or services."""
+        dates = [item for item in (self.time.dates,) if item]
+        days = [at for item in dates for at in getattr(item, "columns", [getattr(item, "column", None)])]
+        return {*days, *(item.column for item in (self.time, *self.answered, *self.columns) if not isinstance(item, Code))}
+
     def sources(self, source, rename):
         """Sets the sources, which completes the plan."""
         header, known = self.export.header, sources(self.model) if self.model else None
@@ -228,6 +288,7 @@ class Plan:
             raise ValueError("--rename requires a column for --source")
         self.records = Records(len(header), self.time, self.answered, self.columns, column, only, renamed, known)
         self.records.conditions, self.records.ended = self.conditions, self._in_order_of()
+        self.readers = self._readers()
         # The rows from which formats were detected aren't needed any more.
         self._sample = self.export.sample = []
 
@@ -256,7 +317,9 @@ class Plan:
 
     def between(self, begins, until):
         """Sets the times between which jobs arrive."""
-        self.records.begins, self.records.ends = (text and self._bound(option, text) for option, text in (("--from", begins), ("--until", until)))
+        # The jobs of an event log are judged by when they arrive.
+        of = self.log or self.records
+        of.begins, of.ends = (text and self._bound(option, text) for option, text in (("--from", begins), ("--until", until)))
 
     def _bound(self, option, text):
         """Returns the moment of --from or --until."""

@@ -12,6 +12,7 @@ from ..traces.trace import fields_up_to
 from ..wording import counted
 from .arrivals import judge_far, ticks
 from .delimited import LINES, Export
+from .events import EVENTS, Units
 from .expressions import Expression
 from .plan import Plan
 from .result import Prepared
@@ -58,6 +59,14 @@ def prepare(
     duplicates=None,
     left_out_most="5%",
     sheet=None,
+    unit=None,
+    steps=None,
+    event=None,
+    arrive_event=(),
+    begin_event=(),
+    end_event=(),
+    abandon_event=(),
+    route=None,
 ):
     """Returns the trace (Prepared) made from an export, which is a path or bytes.
 
@@ -77,9 +86,10 @@ def prepare(
             plan.where(where)
             plan.times(time, date, date_format, day, [answered] if isinstance(answered, str) else answered)
             plan.values(demand, end, constant, code, empty)
+            plan.events(unit, steps, event, [arrive_event, begin_event, end_event, abandon_event], route)
             plan.sources(source, rename)
             plan.between(begins, until)
-            rows, most = Rows(plan, left_out), given("--left-out-most", percent, left_out_most)
+            rows, most = Rows(plan, left_out, EVENTS if plan.log else None), given("--left-out-most", percent, left_out_most)
             rows.read()
             return _finished(plan, rows, begin, most, far, duplicates)
     except ValueError as error:
@@ -123,9 +133,12 @@ def _finished(plan, rows, begin, most, far, duplicates):
     """Returns the trace made from the rows read."""
     unnamed = plan.judge_renames()
     rows.judge_left(most)
+    repeats, read = _judge_repeats(rows, duplicates), rows
+    if plan.log:
+        rows = Units(plan, rows)
+        rows.judge_left(most)
     if not far:
         judge_far(plan, rows)
-    repeats = _judge_repeats(rows, duplicates)
     made = Prepared(["source", "time", *(column.name for column in plan.columns)], _order(plan, rows.sources), plan.per, plan.place.name)
     made.told += [*plan.notes, *([repeats] if duplicates and repeats else [])]
     made.warned += [*plan.warned, *unnamed, *([repeats] if repeats and not duplicates else [])]
@@ -139,14 +152,20 @@ def _finished(plan, rows, begin, most, far, duplicates):
     _sort(made, rows, at)
     if rows.unwanted:
         made.told.append(f"{counted(rows.unwanted, 'row')} excluded by --where, --from or --until")
-    if rows.left:
-        left = rows.reasons()
-        made.left = {why: count for why, (count, _) in rows.left.items()}
-        made.told += [counted(sum(made.left.values()), "row") + f" {'is' if sum(made.left.values()) == 1 else 'are'} left out", *left[:LINES]]
-        made.told += [f"and for {len(left) - LINES} other reasons"] if left[LINES:] else []
+    for some in [rows] if rows is read else [read, rows]:
+        _note_left(some, made)
     if rows.long:
         made.warned.append(f"row {rows.long}: a field has more than {LINES} lines: is a closing quote missing?")
     return made
+
+
+def _note_left(rows, made):
+    """Notes the rows or the units that are left out."""
+    if rows.left:
+        left, count = rows.reasons(), sum(count for count, _ in rows.left.values())
+        made.left.update((why, count) for why, (count, _) in rows.left.items())
+        made.told += [counted(count, rows.what) + f" {'is' if count == 1 else 'are'} left out", *left[:LINES]]
+        made.told += [f"and for {len(left) - LINES} other reasons"] if left[LINES:] else []
 
 
 def _judge_repeats(rows, duplicates):

@@ -3,7 +3,7 @@
 import contextlib
 import csv
 from array import array
-from bisect import bisect_right
+from bisect import bisect_left, bisect_right
 from itertools import compress, islice
 
 from ..limits import RECORDS
@@ -27,7 +27,11 @@ class Rows:
     reason, the number of rows left out and the first of them, `unwanted` the number that conditions excluded, and `long` the number of the first row
     with a field of many lines, or 0. Rows that are left out are written to a file, if given."""
 
-    def __init__(self, plan, left_out=None):
+    # What is counted in messages.
+    what = "row"
+
+    def __init__(self, plan, left_out=None, most=None):
+        self._most = most or RECORDS
         self.plan, self.left, self.unwanted, self.long = plan, {}, 0, 0
         self.sources, self.stamps, self.values = [], array("q"), [array("q") for _ in plan.columns]
         self._hashes, self._runs = array("q"), []
@@ -73,6 +77,9 @@ class Rows:
     def _read_some(self, rows, first):
         """Reads some rows, the first of which has this number."""
         plan = self.plan
+        if plan.is_ragged:
+            width = len(plan.export.header)
+            rows = [row and row[:width] + [""] * (width - len(row)) for row in rows]
         with contextlib.suppress(ValueError, OverflowError):
             # If one of them needs individual treatment, all are read one by one.
             return self._add(range(first, first + len(rows)), rows, plan.records.many(rows))
@@ -87,8 +94,12 @@ class Rows:
                 kept.append(row)
             except Unwanted:
                 self.unwanted += 1
+                if plan.log:
+                    plan.log.excluded(row)
             except Left as error:
                 self._leave(number, error, row)
+                if plan.log:
+                    plan.log.leave(row)
             except Asks as error:
                 raise ValueError(f"row {number}, column {plan.export.header[error.column]!r}: {quoted(row[error.column])}: {error}") from None
         self._add(numbers, kept, zip(*records))
@@ -103,8 +114,9 @@ class Rows:
         for column, more in zip((self.sources, self.stamps, *self.values), columns):
             column.extend(more)
         self._hashes.extend(map(hash, map(tuple, rows)))
-        if len(self.stamps) > RECORDS:
-            raise ValueError(f"more than {RECORDS:,} records, the limit of a trace: choose a part with --from, --until or --where")
+        if len(self.stamps) > self._most:
+            what = "records, the limit of a trace" if self.plan.log is None else "events"
+            raise ValueError(f"more than {self._most:,} {what}: choose a part with --from, --until or --where")
 
     def _leave(self, number, error, row):
         """Counts a row that is left out."""
@@ -125,16 +137,16 @@ class Rows:
     def reasons(self):
         """Returns a text for each reason to leave rows out, the commonest first."""
         ordered = sorted(self.left.items(), key=lambda item: -item[1][0])
-        return [f"{counted(count, 'row')}: {why}" + (f" ({where})" if count == 1 else f"; the first is {where}") for why, (count, where) in ordered]
+        return [f"{counted(count, self.what)}: {why}" + (f" ({where})" if count == 1 else f"; the first is {where}") for why, (count, where) in ordered]
 
     def judge_left(self, most):
         """Raises ValueError if no row is left, and TooManyLeft if more than this percentage of the rows is left out."""
         left = sum(count for count, _ in self.left.values())
         if not self.stamps:
             unwanted = [f"{counted(self.unwanted, 'row')} excluded by --where, --from or --until"] if self.unwanted else []
-            raise ValueError("; ".join(["no rows are left", *unwanted, *self.reasons()[:3]]))
+            raise ValueError("; ".join([f"no {self.what}s are left", *unwanted, *self.reasons()[:3]]))
         if 100 * left > most * (left + len(self.stamps)):
-            rows = f"{left:,} of {counted(left + len(self.stamps), 'row')}"
+            rows = f"{left:,} of {counted(left + len(self.stamps), self.what)}"
             allow = f"more than {most:g} percent: to allow it, give --left-out-most {-(-100 * left // (left + len(self.stamps)))}%"
             raise TooManyLeft("; ".join([f"{rows} would be left out, {allow}", *self.reasons()[:3]]))
 
@@ -152,9 +164,14 @@ class Rows:
         return self.sources[at], self.stamps[at], *(column[at] for column in self.values)
 
     def drop(self, indices):
-        """Removes the records with these indices."""
+        """Removes the records with these indices (in rising order)."""
         keep = bytearray(b"\1") * len(self.stamps)
+        numbers = [self.row_of(at) for at in indices]
         for at in indices:
             keep[at] = 0
+        runs = [(at + 1, number + 1) for at, number in zip(indices, numbers)]
+        # Each record after a removed one begins a run; its index falls by the number of those removed before it.
+        begins = sorted({*self._runs, *runs})
+        self._runs = [(at - bisect_left(indices, at), number) for at, number in begins if at < len(keep) and keep[at]]
         self.sources = list(compress(self.sources, keep))
         self.stamps, *self.values = (array("q", compress(column, keep)) for column in (self.stamps, *self.values))

@@ -1,10 +1,29 @@
 """The columns of a trace after the time: service times, and words as numbers."""
 
+from __future__ import annotations
+
+from typing import Optional
+
 from ..limits import GREATEST_VALUE
 from ..times.texts import HOUR, Asks, Unread
+from ..times.zones import Zone
 
 # Clocks are set back by half an hour or more: a shorter service is the shortest there may be.
 REPEATED = HOUR // 2
+
+
+def other_length(zone: Zone, begin: int, end: int) -> Optional[int]:
+    """Returns the nanoseconds (int) between two moments if they would be fewer with one of them in the other of two hours that the clock of a Zone
+    shows alike; None if they wouldn't, or if the order of the rows says which hour it is.
+
+    >>> from mpsim.times.zones import Zone
+    >>> other_length(Zone("Europe/Berlin", "first"), 1792889700 * 10**9, 1792894080 * 10**9) // 10**9
+    780
+    """
+    if not zone.name or end - begin < REPEATED or zone.twice not in ("first", "second"):
+        return None
+    least = min(last - first for first in zone.both(begin) for last in zone.both(end) if first <= last)
+    return least if least < end - begin else None
 
 
 class Demand:
@@ -72,8 +91,10 @@ class End:
         end = self.times.later(row, begin)
         if end < begin:
             raise Unread("before the service begins")
-        if self.times.zone.name and end - begin >= REPEATED:
-            self._judge(begin, end)
+        least = other_length(self.times.zone, begin, end)
+        if least is not None:
+            lengths = f"{self._ticks(least)} or {self._ticks(end - begin)} ticks"
+            raise Asks(f"the service is {lengths} long, since an hour occurs twice: give --twice order, for rows in order of --time or of --end")
         return self._ticks(end - begin)
 
     def _ticks(self, length):
@@ -81,17 +102,6 @@ class End:
         if ticks > GREATEST_VALUE:
             raise Unread("above 2^36 ticks")
         return ticks
-
-    def _judge(self, begin, end):
-        """Raises Asks if the service would be shorter with its beginning or its end in the other of two hours that a clock shows alike."""
-        zone = self.times.zone
-        if zone.twice not in ("first", "second"):
-            return
-        begins, ends = zone.both(begin), zone.both(end)
-        least = min(last - first for first in begins for last in ends if first <= last)
-        if least < end - begin:
-            lengths = f"{self._ticks(least)} or {self._ticks(end - begin)} ticks"
-            raise Asks(f"the service is {lengths} long, since an hour occurs twice: give --twice order, for rows in order of --time or of --end")
 
     def many(self, columns):
         raise Unread("one by one")
