@@ -124,7 +124,8 @@ class Duplicates(Test):
 class Zeros(Test):
     def test_services_of_0(self):
         made = prepare(table("8:00,a,0:00:00", "8:00,b,0:00:05", "8:01,c,0"), "when", demand=["long=d"], decimal=".")
-        self.assertIn("d: 2 services of 0 ticks: --where 'long>0' leaves them out", made.told)
+        says = "d: 2 services of 0 ticks: --where 'long>0' leaves them out, --abandoned 'long<=0' keeps them as jobs that gave up"
+        self.assertIn(says, made.told)
         made = prepare(table("8:00,a,0:00:00", "8:00,b,0:00:05", "8:01,c,0"), "when", demand=["long=d"], where=["long>0"])
         self.assertEqual((made.values[0].tolist(), any("services" in item for item in made.told)), ([5], False))
         self.assertIn("2 rows excluded by --where, --from or --until", made.told)

@@ -51,6 +51,10 @@ def _columns(add):
     add("--constant", action="append", default=[], metavar="NAME=LENGTH", help="a service time that all jobs have, e.g. wrap=90s")
     codes = "column of words, written as numbers for a split; the numbers come from --model, or count from 0"
     add("--code", action="append", default=[], metavar="COLUMN[=NAME]", help=codes)
+    says = "column with the wait of a job, or the time at which it ended; the first that isn't empty, if repeated"
+    add("--wait", action="append", default=[], metavar="COLUMN[=NAME][:UNIT]", help=says)
+    says = "keep rows that meet this condition (as in --where) as abandoned calls: services of 0, and 1 in a column abandoned; may be repeated"
+    add("--abandoned", action="append", default=[], metavar="CONDITION", help=says)
     add("--empty", metavar="LENGTH", help="service time of an empty field; default: its row is left out")
     add("--rename", action="append", default=[], metavar="OLD=NEW", help="name in the trace (NEW) of a source in the export (OLD)")
 

@@ -15,7 +15,7 @@ from ..wording import counted, listed, quoted
 from .delimited import LINES
 from .rows import Rows
 from ..times.texts import Unread
-from .values import Code, Constant, other_length
+from .values import ABANDONED, WAIT, Code, Constant, other_length
 
 if TYPE_CHECKING:
     from .plan import Plan
@@ -27,15 +27,12 @@ ARRIVE, BEGIN, END, ABANDON, STEP = range(5)
 OPTIONS = "--arrive-event", "--begin-event", "--end-event", "--abandon-event"
 # Rows examined for a column that looks like one of units.
 SAMPLE = 2000
-# The columns that abandoned jobs need: how long a job waited, and whether it gave up.
-WAIT, ABANDONED = "wait", "abandoned"
 
 
 class Column(NamedTuple):
     """A column of a trace that is made of events, by its name."""
 
     name: str
-    code: None = None
 
 
 class Log:
@@ -89,7 +86,7 @@ class _Text(Code):
 class _Kind:
     """What the event of a row does, as a column of numbers."""
 
-    name, code = "event", None
+    name, code, is_service = "event", None, False
 
     def __init__(self, log: Log) -> None:
         self._log, self.column = log, log.event
@@ -244,12 +241,12 @@ class Units(Rows):
             for key, (_, ticks) in zip(route, unit.visits):
                 stations[at[key]][number] = ticks
         made = [*zip(map(Column, names.values()), stations)]
+        for it, values in others:
+            made.append((it, array("q", (0 if unit.abandoned and it.is_service else values[unit.first] for unit in found))))
+            self._note_differing(it, values)
         if ABANDON in self._log.kinds.values():
             made.append((Column(WAIT), array("q", (unit.wait for unit in found))))
             made.append((Column(ABANDONED), array("q", (unit.abandoned for unit in found))))
-        for it, values in others:
-            made.append((it, array("q", (values[unit.first] for unit in found))))
-            self._note_differing(it, values)
         if self._log.route:
             made.append(self._route_column(routes))
         made += self._absent(made, len(found))

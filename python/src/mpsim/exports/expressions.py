@@ -49,6 +49,8 @@ class Expression:
     """A sum of columns with signs: `times` (list of pairs of a sign and Times), of which as many are added as subtracted, and `lengths` (list of
     triples of a sign, the index of a column and its Lengths). The result is rounded to ticks once."""
 
+    is_service = True
+
     def __init__(self, name, times, lengths, tick, empty=None):
         self.name, self.times, self.lengths, self.tick, self.empty = name, times, lengths, tick, empty
         self.column = times[0][1].column if times else lengths[0][1]

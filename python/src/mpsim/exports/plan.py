@@ -15,10 +15,11 @@ from ..times.zones import Zone
 from ..wording import listed
 from .codes import codes_in
 from .conditions import parsed
-from .events import BEGIN, END, OPTIONS, Log, found_units
+from .events import BEGIN, OPTIONS, Log, found_units
+from .events import END as ENDS
 from .expressions import Expression, terms
 from .records import Dates, Numbers, Records, Times
-from .values import Code, Constant, Demand, End, Sum
+from .values import ABANDONED, WAIT, Abandoned, Code, Constant, Demand, End, Sum, Wait
 
 # The most columns of a trace.
 COLUMNS = 16
@@ -35,6 +36,7 @@ class Plan:
         self.export, self.place, self.per, self.decimal, self.model = export, place, per, decimal, model
         self.format = judged_format(format) if format else None
         self.notes, self.warned, self.columns, self.conditions = list(export.notes), [], [], []
+        self.gone = []
         self.known, self.log, self.is_ragged = codes_in(model or ""), None, False
         self._sample = export.sample
 
@@ -54,7 +56,8 @@ class Plan:
                 form = found_format(self._texts(column))
             except ValueError as error:
                 raise ValueError(f"column {name!r}: {error} ({option})") from None
-            self.notes.append(f"column {name!r} is read as {form}")
+            note = f"column {name!r} is read as {form}"
+            self.notes += [] if note in self.notes else [note]
         return Moments(form, self.place)
 
     def _more_times(self, column):
@@ -152,6 +155,22 @@ class Plan:
             name = self._named(name, column)
             self.columns.append(Code(name, column, self.known.get(name)))
 
+    def waits(self, wait, abandoned):
+        """Sets the column of waits, and which jobs gave up."""
+        parts = []
+        for word in wait:
+            column, name, unit = self.export.parse(word, has_unit=True)
+            if unit is None and self._is_time(column):
+                parts.append(End(name or WAIT, self._more_times(column), 1 if self.is_ticks else self.per))
+            else:
+                parts.append(Demand(name or WAIT, column, Lengths(unit or "s", self._mark(column), self.per)))
+        if parts:
+            self.columns.append(Wait(self._named(parts[0].name), parts))
+        if abandoned:
+            self.gone = [parsed(word, self.export, self._mark, "--abandoned") for word in abandoned]
+            self.columns.append(Abandoned(self._named(ABANDONED), self.gone))
+            self.notes += [] if wait else ["jobs that gave up have no wait: --wait COLUMN gives one"]
+
     def judge_columns(self):
         """Raises ValueError if there are too many columns, or if one that the model names is missing."""
         if len(self.columns) > COLUMNS:
@@ -228,8 +247,10 @@ class Plan:
                 if word in found:
                     raise ValueError(f"the event {word!r} is given twice ({option})")
                 found[word] = kind
+        if self.gone or any(isinstance(it, Wait) for it in self.columns):
+            raise ValueError("--wait and --abandoned can't be used with --unit: the events give them (--abandon-event)")
         services = [it for it in self.columns if not isinstance(it, (Code, Constant))]
-        if bool(kinds[BEGIN]) != bool(kinds[END]) or found and not kinds[BEGIN]:
+        if bool(kinds[BEGIN]) != bool(kinds[ENDS]) or found and not kinds[BEGIN]:
             raise ValueError("--begin-event and --end-event are given together: without the one, the length of a service is unknown")
         if found and services:
             raise ValueError(f"{services[0].name}: the events give the services: leave --demand and --end out")
@@ -253,7 +274,7 @@ class Plan:
         found = []
         for at in range(len(self.export.header)):
             met = {kinds.get(text.strip()) for text in self._texts(at)}
-            found += [at] if {BEGIN, END} <= met else []
+            found += [at] if {BEGIN, ENDS} <= met else []
         if len(found) != 1:
             names = " and ".join(repr(self.export.header[at]) for at in found)
             raise ValueError(f"{names or 'no column'} {'have' if found else 'has'} the events {listed(list(kinds))}: give --event")
@@ -287,6 +308,7 @@ class Plan:
         if renamed and column is None:
             raise ValueError("--rename requires a column for --source")
         self.records = Records(len(header), self.time, self.answered, self.columns, column, only, renamed, known)
+        self.records.gone = self.gone
         self.records.conditions, self.records.ended = self.conditions, self._in_order_of()
         self.readers = self._readers()
         # The rows from which formats were detected aren't needed any more.
@@ -295,7 +317,7 @@ class Plan:
     def _in_order_of(self):
         """Returns the ends of services (Times) if the rows are in order of those and not of the arrivals, which matters for --twice order; else
         None."""
-        parts = [part for column in self.columns for part in getattr(column, "parts", [column])]
+        parts = [part for column in self.columns if column.is_service for part in getattr(column, "parts", [column])]
         ends = [part.times for part in parts if isinstance(part, End)]
         ends += [times for part in parts if isinstance(part, Expression) for sign, times in part.times if sign > 0]
         ends = list({times.column: times for times in ends if not times.how.is_of_day}.values())

@@ -18,7 +18,7 @@ from .plan import Plan
 from .result import Prepared
 from .rows import Rows, TooManyLeft
 from .streams import Stream
-from .values import Code, Demand, End, Sum
+from .values import Abandoned, Code, Demand, End, Sum
 from .workbook import Workbook
 
 # A field with more characters is rejected: an unclosed quote makes one field of the rest.
@@ -59,6 +59,8 @@ def prepare(
     duplicates=None,
     left_out_most="5%",
     sheet=None,
+    wait=(),
+    abandoned=(),
     unit=None,
     steps=None,
     event=None,
@@ -86,6 +88,7 @@ def prepare(
             plan.where(where)
             plan.times(time, date, date_format, day, [answered] if isinstance(answered, str) else answered)
             plan.values(demand, end, constant, code, empty)
+            plan.waits([wait] if isinstance(wait, str) else wait, abandoned)
             plan.events(unit, steps, event, [arrive_event, begin_event, end_event, abandon_event], route)
             plan.sources(source, rename)
             plan.between(begins, until)
@@ -166,6 +169,7 @@ def _note_left(rows, made):
         made.left.update((why, count) for why, (count, _) in rows.left.items())
         made.told += [counted(count, rows.what) + f" {'is' if count == 1 else 'are'} left out", *left[:LINES]]
         made.told += [f"and for {len(left) - LINES} other reasons"] if left[LINES:] else []
+        made.told += rows.hints()
 
 
 def _judge_repeats(rows, duplicates):
@@ -208,9 +212,15 @@ def _judge_zero(plan, made):
 
 
 def _note_values(plan, rows, made):
+    gone = sum(values.count(1) for it, values in zip(plan.columns, rows.values) if isinstance(it, Abandoned))
+    made.told += [f"{counted(gone, 'job')} that gave up"] if gone else []
+    served = plan.records.served
+    made.warned += [f"{counted(served, 'service')} above 0 of jobs that gave up: taken as 0"] if served else []
     for it, values in zip(plan.columns, rows.values):
-        if isinstance(it, (Demand, Sum, End, Expression)) and (zeros := values.count(0)):
-            where = f": --where '{plan.export.header[it.column]}>0' leaves them out" if isinstance(it, Demand) else ""
+        if isinstance(it, (Demand, Sum, End, Expression)) and (zeros := values.count(0) - gone):
+            name = plan.export.header[it.column]
+            keeps = "" if gone else f", --abandoned '{name}<=0' keeps them as jobs that gave up"
+            where = f": --where '{name}>0' leaves them out{keeps}" if isinstance(it, Demand) else ""
             made.told.append(f"{it.name}: {counted(zeros, 'service')} of 0 ticks{where}")
         if isinstance(it, (Demand, Sum, Expression)) and it.rounded:
             made.told.append(f"{it.name}: {counted(it.rounded, 'different value')} between two ticks, rounded to the nearest")
@@ -220,7 +230,7 @@ def _note_values(plan, rows, made):
             made.warned += _code_warnings(it)
             if plan.model is not None and it.known is None:
                 made.unlike.append(f"{it.name}: the model doesn't say which word has which number, so another export may number them differently")
-        if any(isinstance(part, End) or getattr(part, "times", None) for part in getattr(it, "parts", [it])) and not plan.is_ticks:
+        if not plan.is_ticks and any(isinstance(part, End) or getattr(part, "times", None) for part in getattr(it, "parts", [it])):
             over = sum(value > 12 * HOUR // plan.per for value in values)
             if over:
                 made.warned.append(f"{it.name}: {counted(over, 'service')} longer than 12 hours")

@@ -12,6 +12,7 @@ from ..tables.sheets import Writer
 from ..times.texts import Asks
 from ..wording import counted, quoted
 from .delimited import LINES
+from .expressions import Expression
 from .records import Left, Unwanted
 from .result import CHUNK
 
@@ -20,6 +21,14 @@ class TooManyLeft(ValueError):
     """More rows of an export can't be read than is allowed."""
 
     status = 13
+
+
+def _service_columns(plan):
+    """Returns the indices (set) of the columns that an abandoned call leaves empty."""
+    parts = [part for it in plan.columns if it.is_service for part in getattr(it, "parts", [it])]
+    terms = [term for part in parts for term in getattr(part, "lengths", [])]
+    times = [times for part in parts if isinstance(part, Expression) for _, times in part.times]
+    return {*(item.column for item in (*plan.answered, *parts, *times)), *(column for _, column, _ in terms)}
 
 
 class Rows:
@@ -34,6 +43,7 @@ class Rows:
         self._most = most or RECORDS
         self.plan, self.left, self.unwanted, self.long = plan, {}, 0, 0
         self.sources, self.stamps, self.values = [], array("q"), [array("q") for _ in plan.columns]
+        self._empty, self._services = {}, _service_columns(plan)
         self._hashes, self._runs = array("q"), []
         self._writer = Writer(left_out) if left_out is not None else None
 
@@ -126,6 +136,8 @@ class Rows:
             why = f"{name} is empty" if why == "empty" else f"{name}: {why}"
             first += f", {quoted(row[error.column])}" if row[error.column].strip() else ""
         self.left.setdefault(why, [0, first])[0] += 1
+        if error.why == "empty" and error.column in self._services:
+            self._empty[name] = self._empty.get(name, 0) + 1
         if self._writer:
             self._writer.writerow([number, why, *row])
 
@@ -137,7 +149,15 @@ class Rows:
     def reasons(self):
         """Returns a text for each reason to leave rows out, the commonest first."""
         ordered = sorted(self.left.items(), key=lambda item: -item[1][0])
-        return [f"{counted(count, self.what)}: {why}" + (f" ({where})" if count == 1 else f"; the first is {where}") for why, (count, where) in ordered]
+        where = {why: f" ({first})" if count == 1 else f"; the first is {first}" for why, (count, first) in ordered}
+        return [f"{counted(count, self.what)}: {why}{where[why]}" for why, (count, _) in ordered]
+
+    def hints(self):
+        """Returns a note (list of str) on rows that may be abandoned calls."""
+        if not self._empty or self.plan.gone or self.plan.log:
+            return []
+        name = max(self._empty, key=self._empty.__getitem__)
+        return [f"if an empty {name!r} means an abandoned call: --abandoned '{name}=' keeps it as such, --where '{name}!=' excludes it"]
 
     def judge_left(self, most):
         """Raises ValueError if no row is left, and TooManyLeft if more than this percentage of the rows is left out."""
@@ -148,7 +168,7 @@ class Rows:
         if 100 * left > most * (left + len(self.stamps)):
             rows = f"{left:,} of {counted(left + len(self.stamps), self.what)}"
             allow = f"more than {most:g} percent: to allow it, give --left-out-most {-(-100 * left // (left + len(self.stamps)))}%"
-            raise TooManyLeft("; ".join([f"{rows} would be left out, {allow}", *self.reasons()[:3]]))
+            raise TooManyLeft("; ".join([f"{rows} would be left out, {allow}", *self.reasons()[:3], *self.hints()]))
 
     def repeated(self):
         """Returns the indices (list of int) of records whose rows repeat an earlier one, field by field."""

@@ -1,15 +1,19 @@
-"""The columns of a trace after the time: service times, and words as numbers."""
+"""The columns of a trace after the time: service times and waits, and words as numbers. The services (`is_service`) of a job that gave up are 0."""
 
 from __future__ import annotations
 
-from typing import Optional
+from collections.abc import Sequence
+from typing import Optional, Union
 
 from ..limits import GREATEST_VALUE
 from ..times.texts import HOUR, Asks, Unread
 from ..times.zones import Zone
+from .conditions import Condition
 
 # Clocks are set back by half an hour or more: a shorter service is the shortest there may be.
 REPEATED = HOUR // 2
+# The columns that jobs which gave up need: how long each waited, and whether it gave up.
+WAIT, ABANDONED = "wait", "abandoned"
 
 
 def other_length(zone: Zone, begin: int, end: int) -> Optional[int]:
@@ -28,6 +32,8 @@ def other_length(zone: Zone, begin: int, end: int) -> Optional[int]:
 
 class Demand:
     """A column of service times (Lengths); `empty` is the number of ticks for an empty field, or None to leave the row out."""
+
+    is_service = True
 
     def __init__(self, name, column, how, empty=None):
         self.name, self.column, self.how, self.empty = name, column, how, empty
@@ -48,6 +54,8 @@ class Demand:
 
 class Sum:
     """Service times (`parts`, a list of Demand, End or Expression) with one name, which are rounded to ticks and added up."""
+
+    is_service = True
 
     def __init__(self, parts):
         self.parts, self.name, self.column = parts, parts[0].name, parts[0].column
@@ -80,6 +88,8 @@ class End:
     """The time from the beginning of a service to its end in a column (Times), rounded to ticks. `begin` (int) selects the beginning: 0 is the
     arrival, 1 and up those of `Records.answered`."""
 
+    is_service = True
+
     def __init__(self, name, times, tick, empty=None, begin=0):
         self.name, self.column, self.times, self.tick, self.empty, self.begin = name, times.column, times, tick, empty, begin
         self.code = None
@@ -107,8 +117,46 @@ class End:
         raise Unread("one by one")
 
 
+class Wait:
+    """How long a job waited, in the first of some columns (`parts`, a list of Demand or End) that isn't empty."""
+
+    is_service = False
+
+    def __init__(self, name: str, parts: list[Union[Demand, End]]) -> None:
+        self.name, self.parts, self.column = name, parts, parts[0].column
+        self.code = None
+
+    def of(self, row: Sequence[str], begun: Sequence[int]) -> int:
+        part = next((part for part in self.parts if row[part.column].strip()), self.parts[0])
+        try:
+            return part.of(row, begun)
+        except (Unread, Asks) as error:
+            error.column = part.column
+            raise
+
+    def many(self, columns: Sequence[Sequence[str]]) -> list[int]:
+        raise Unread("one by one")
+
+
+class Abandoned:
+    """Whether a job gave up, which it did if it meets all conditions (list of Condition), as 1 or 0."""
+
+    is_service, column, code = False, None, None
+
+    def __init__(self, name: str, conditions: list[Condition]) -> None:
+        self.name, self.conditions = name, conditions
+
+    def of(self, row: Sequence[str], begun: Sequence[int]) -> int:
+        return int(all(condition.holds(row) for condition in self.conditions))
+
+    def many(self, columns: Sequence[Sequence[str]]) -> list[int]:
+        raise Unread("one by one")
+
+
 class Constant:
     """The same ticks for all records."""
+
+    is_service = True
 
     def __init__(self, name, ticks):
         self.name, self.column, self.ticks = name, None, ticks
@@ -124,6 +172,8 @@ class Constant:
 class Code:
     """A column of words as numbers. Words in `known` (dict or None) have theirs; others are numbered in order of their first record, from 0 or from
     the greatest known number plus 1."""
+
+    is_service = False
 
     def __init__(self, name, column, known=None):
         self.name, self.column, self.known, self.codes = name, column, known, dict(known or {})
