@@ -1,8 +1,10 @@
 """The options of `mpplan prepare`."""
 
 import contextlib
+import os
 
-from ..exports.prepare import prepare
+from ..exports.parts import KINDS
+from ..exports.prepare import prepare, prepare_parts
 from ..files import all_written, judge_outputs, written
 from ..runs import judged_text
 from ..times.formats import NUMBERS
@@ -97,6 +99,8 @@ def _file(add):
 
 
 def _outputs(add):
+    says = "write one trace per month, week or day, to FILE-2026-03.csv and so on for --out FILE.csv"
+    add("--split-by", choices=list(KINDS), help=says)
     judges = "a model: it sets the order of sources at equal times; rows of other sources are left out; its columns must be present"
     add("--model", metavar="FILE", help=judges)
     add("--left-out", metavar="FILE", help="write the rows that are left out, with their number and the reason")
@@ -107,22 +111,70 @@ def _outputs(add):
 
 def main(args):
     """Runs `mpplan prepare`."""
-    options = {name: value for name, value in vars(args).items() if name not in ("command", "main", "export", "first_lines", "out_model", "out")}
+    own = "command", "main", "first_lines", "out_model", "out", "split_by"
+    options = {name: value for name, value in vars(args).items() if name not in own}
     # Standard output, as without --out.
     args.out = None if args.out == "-" else args.out
-    judge_outputs([args.out, args.left_out, args.first_lines, args.out_model], {"export": [args.export], "model": [args.model]})
+    inputs = {"export": [args.export], "model": [args.model]}
+    judge_outputs([args.out, args.left_out, args.first_lines, args.out_model], inputs)
     if args.out_model and not args.model:
         raise ValueError("--out-model requires --model")
-    model = judged_text(args.model, say) if args.model else None
+    if args.split_by and not args.out:
+        raise ValueError("--split-by requires --out FILE: each trace gets the name of its part, as in FILE-2026-03.csv")
+    model = options["model"] = judged_text(args.model, say) if args.model else None
+    if args.split_by:
+        with all_written(args.left_out) as (left_out,):
+            _write_parts(args, model, prepare_parts(by=args.split_by, **{**options, "left_out": left_out}), inputs)
+        return
     with all_written(args.left_out, args.first_lines, args.out_model, args.out) as (left_out, lines, out_model, out):
-        made = prepare(**{**options, "export": args.export, "model": model, "left_out": left_out})
-        unlike = [] if args.out_model else [f"{item} (--out-model writes a model for this trace)" for item in made.unlike]
-        warned = [f"warning: {item}" for item in [*made.warned, *unlike]]
-        for line in [*made.told, *warned, f"{counted(len(made), 'record')}, {counted(len(made.names), 'source')}"]:
+        made = prepare(**{**options, "left_out": left_out})
+        for line in [*_notes(args, made), _size(made)]:
             say(line)
-        if lines:
-            lines.write(made.first_lines())
-        if out_model:
-            out_model.write(made.model(model))
         with contextlib.nullcontext(out) if out else written() as file:
-            file.writelines(made.lines())
+            _write(made, model, lines, out_model, file)
+
+
+def _notes(args, made):
+    """Returns the lines about a trace."""
+    unlike = [] if args.out_model else [f"{item} (--out-model writes a model for this trace)" for item in made.unlike]
+    return [*made.told, *(f"warning: {item}" for item in [*made.warned, *unlike])]
+
+
+def _size(made):
+    return f"{counted(len(made), 'record')}, {counted(len(made.names), 'source')}"
+
+
+def _write(made, model, lines, out_model, out):
+    """Writes a trace, and the first lines and the copy of the model that go with it, to files (None for those that aren't wanted)."""
+    if lines:
+        lines.write(made.first_lines())
+    if out_model:
+        out_model.write(made.model(model))
+    out.writelines(made.lines())
+
+
+def _write_parts(args, model, parts, inputs):
+    """Writes the trace of each part to a file of its own, whose name has that of the part before its suffix. A line that was printed for an earlier
+    part isn't repeated."""
+    said = set()
+    for name, made in parts:
+        paths = [path and _named(path, name) for path in (args.first_lines, args.out_model, args.out)]
+        judge_outputs(paths, inputs)
+        for line in _notes(args, made):
+            if line not in said:
+                say(line)
+        said.update(_notes(args, made))
+        with all_written(*paths) as files:
+            _write(made, model, *files)
+        say(f"{paths[-1]}: {_size(made)}")
+        del made
+
+
+def _named(path, part):
+    """Returns the name of a part's file.
+
+    >>> _named("traces/calls.csv", "2026-03")
+    'traces/calls-2026-03.csv'
+    """
+    begin, suffix = os.path.splitext(path)
+    return f"{begin}-{part}{suffix}"

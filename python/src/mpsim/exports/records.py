@@ -145,12 +145,11 @@ class Records:
         return made
 
     def many(self, rows):
-        """Returns records as columns (sources, moments, and each of the values) for rows that need no individual treatment. Raises ValueError if one
-        may; nothing visible has changed then."""
-        if self.time.dates or self.answered or self.ended or self.gone or set(map(len, rows)) != {self.width}:
+        """Returns records as columns (sources, moments, and each of the values) for rows that meet the conditions and need no individual treatment.
+        Raises ValueError if one may; nothing visible has changed then."""
+        if self.time.dates or self.answered or self.ended or self.gone:
             raise Unread("one by one")
-        if not all(condition.holds(row) for condition in self.conditions for row in rows):
-            raise Unread("one by one")
+        self.judge_widths(rows)
         columns = list(zip(*rows))
         stamps = self.time.how.many(columns[self.time.column])
         first, last = min(stamps), max(stamps)
@@ -161,6 +160,11 @@ class Records:
         for at in self._codes:
             values[at] = list(map(self.values[at].code, rows))
         return [named, stamps, *values]
+
+    def judge_widths(self, rows):
+        """Raises ValueError unless all rows have as many fields as the header."""
+        if set(map(len, rows)) != {self.width}:
+            raise Unread("one by one")
 
     def _unserved(self, value, row):
         """Returns the service of a job that gave up, and counts it if the export has another."""

@@ -92,7 +92,7 @@ class Rows:
             rows = [row and row[:width] + [""] * (width - len(row)) for row in rows]
         with contextlib.suppress(ValueError, OverflowError):
             # If one of them needs individual treatment, all are read one by one.
-            return self._add(range(first, first + len(rows)), rows, plan.records.many(rows))
+            return self._read_met(rows, range(first, first + len(rows)))
         numbers, kept, records = [], [], []
         for number, row in enumerate(rows, first):
             if not row:
@@ -114,6 +114,24 @@ class Rows:
                 raise ValueError(f"row {number}, column {plan.export.header[error.column]!r}: {quoted(row[error.column])}: {error}") from None
         self._add(numbers, kept, zip(*records))
 
+    def _read_met(self, rows, numbers):
+        """Reads some rows with these numbers at once, after excluding those that don't meet all conditions. Raises ValueError if one of them may need
+        individual treatment; nothing has changed then."""
+        conditions, records = self.plan.records.conditions, self.plan.records
+        excluded = []
+        if conditions:
+            records.judge_widths(rows)
+            met = [all(condition.holds(row) for condition in conditions) for row in rows]
+            if not all(met):
+                excluded = [row for row, is_met in zip(rows, met) if not is_met]
+                rows, numbers = list(compress(rows, met)), list(compress(numbers, met))
+        columns = records.many(rows) if rows else []
+        self.unwanted += len(excluded)
+        if self.plan.log:
+            for row in excluded:
+                self.plan.log.excluded(row)
+        self._add(numbers, rows, columns)
+
     def _add(self, numbers, rows, columns):
         """Adds records, given as columns: sources, moments, and each of the values; with the numbers and the fields of their rows."""
         for at, number in enumerate(numbers, len(self.stamps)):
@@ -125,8 +143,8 @@ class Rows:
             column.extend(more)
         self._hashes.extend(map(hash, map(tuple, rows)))
         if len(self.stamps) > self._most:
-            what = "records, the limit of a trace" if self.plan.log is None else "events"
-            raise ValueError(f"more than {self._most:,} {what}: choose a part with --from, --until or --where")
+            what, cut = ("records, the limit of a trace", ", or cut it with --split-by month") if self.plan.log is None else ("events", "")
+            raise ValueError(f"more than {self._most:,} {what}: choose a part with --from, --until or --where{cut}")
 
     def _leave(self, number, error, row):
         """Counts a row that is left out."""
@@ -159,15 +177,17 @@ class Rows:
         name = max(self._empty, key=self._empty.__getitem__)
         return [f"if an empty {name!r} means an abandoned call: --abandoned '{name}=' keeps it as such, --where '{name}!=' excludes it"]
 
-    def judge_left(self, most):
-        """Raises ValueError if no row is left, and TooManyLeft if more than this percentage of the rows is left out."""
+    def judge_left(self, most, kept=None):
+        """Raises ValueError if no row is left, and TooManyLeft if more than this percentage of the rows is left out; `kept` is the number of records,
+        by default of those in memory."""
         left = sum(count for count, _ in self.left.values())
-        if not self.stamps:
+        kept = len(self.stamps) if kept is None else kept
+        if not kept:
             unwanted = [f"{counted(self.unwanted, 'row')} excluded by --where, --from or --until"] if self.unwanted else []
             raise ValueError("; ".join([f"no {self.what}s are left", *unwanted, *self.reasons()[:3]]))
-        if 100 * left > most * (left + len(self.stamps)):
-            rows = f"{left:,} of {counted(left + len(self.stamps), self.what)}"
-            allow = f"more than {most:g} percent: to allow it, give --left-out-most {-(-100 * left // (left + len(self.stamps)))}%"
+        if 100 * left > most * (left + kept):
+            rows = f"{left:,} of {counted(left + kept, self.what)}"
+            allow = f"more than {most:g} percent: to allow it, give --left-out-most {-(-100 * left // (left + kept))}%"
             raise TooManyLeft("; ".join([f"{rows} would be left out, {allow}", *self.reasons()[:3], *self.hints()]))
 
     def repeated(self):
