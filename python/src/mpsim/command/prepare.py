@@ -91,6 +91,7 @@ def _rows(add):
 def _file(add):
     add("--decimal", choices=[".", ","], help="decimal mark; default: detected")
     add("--delimiter", metavar="CHARACTER", help="character between fields, \\t for a tab; default: detected")
+    add("--fixed", metavar="WIDTHS", help="widths of the columns in characters, e.g. 8,20,6, for an export without delimiters")
     says = "text encoding; default: detected (UTF-8, UTF-16 with a byte order mark, or Windows-1252, a superset of printable Latin-1)"
     add("--encoding", metavar="NAME", help=says)
     add("--skip", type=int, default=0, metavar="N", help="number of lines to skip before the header")

@@ -20,6 +20,7 @@ from .arrivals import judge_far, ticks
 from .delimited import LINES, Export
 from .events import EVENTS, Units
 from .expressions import Expression
+from .fixed import Fixed, widths_in
 from .parts import Parts
 from .plan import Plan
 from .result import Prepared
@@ -66,6 +67,7 @@ def prepare(
     duplicates=None,
     left_out_most="5%",
     sheet=None,
+    fixed=None,
     wait=(),
     abandoned=(),
     unit=None,
@@ -176,9 +178,13 @@ def _table(stream, words):
     if not stream.is_workbook:
         if words.sheet is not None:
             raise ValueError(f"--sheet {words.sheet}: this isn't a spreadsheet")
-        return Export(stream, words.encoding, words.delimiter, words.skip, words.header)
-    if words.encoding or words.delimiter:
-        raise ValueError("--encoding and --delimiter can't be used with a spreadsheet")
+        if words.fixed is None:
+            return Export(stream, words.encoding, words.delimiter, words.skip, words.header)
+        if words.delimiter:
+            raise ValueError("--fixed and --delimiter exclude each other: give one of them")
+        return Fixed(stream, given("--fixed", widths_in, words.fixed), words.encoding, words.skip, words.header)
+    if words.encoding or words.delimiter or words.fixed:
+        raise ValueError("--encoding, --delimiter and --fixed can't be used with a spreadsheet")
     return Workbook(stream, words.sheet, words.skip, words.header)
 
 
