@@ -1,8 +1,12 @@
 """Decides how to read the columns of an export: what is given, what is detected, and what must be asked for."""
 
+from __future__ import annotations
+
 import contextlib
+from collections.abc import Iterable, Sequence
 from difflib import get_close_matches
 from itertools import islice
+from typing import Optional
 
 from ..limits import GREATEST_VALUE
 from ..model import columns, sources
@@ -155,7 +159,7 @@ class Plan:
             name = self._named(name, column)
             self.columns.append(Code(name, column, self.known.get(name)))
 
-    def waits(self, wait, abandoned):
+    def waits(self, wait: Iterable[str], abandoned: Iterable[str]) -> None:
         """Sets the column of waits, and which jobs gave up."""
         parts = []
         for word in wait:
@@ -171,7 +175,7 @@ class Plan:
             self.columns.append(Abandoned(self._named(ABANDONED), self.gone))
             self.notes += [] if wait else ["jobs that gave up have no wait: --wait COLUMN gives one"]
 
-    def judge_columns(self):
+    def judge_columns(self) -> None:
         """Raises ValueError if there are too many columns, or if one that the model names is missing."""
         if len(self.columns) > COLUMNS:
             names = listed([column.name for column in self.columns])
@@ -231,7 +235,9 @@ class Plan:
         except ValueError as error:
             raise ValueError(f"column {self.export.header[column]!r}: {error} (--decimal)") from None
 
-    def events(self, unit, steps, event, kinds, route):
+    def events(
+        self, unit: Optional[str], steps: Optional[str], event: Optional[str], kinds: Sequence[Sequence[str]], route: Optional[str]
+    ) -> None:
         """Sets how the rows of an event log are gathered into records. `kinds` has the names of the events (lists of str) that --arrive-event,
         --begin-event, --end-event and --abandon-event give."""
         if unit is None:
@@ -267,7 +273,7 @@ class Plan:
         self.conditions.append(self.log)
         return None
 
-    def _event_column(self, event, kinds):
+    def _event_column(self, event: Optional[str], kinds: dict[str, int]) -> int:
         """Returns the index of the column with these kinds of event (dict): the one given, or the only one that has both a beginning and an end."""
         if event is not None:
             return self.export.column(event)
@@ -281,7 +287,7 @@ class Plan:
         self.notes.append(f"column {self.export.header[found[0]]!r} has the events")
         return found[0]
 
-    def _used(self):
+    def _used(self) -> set[int]:
         """Returns the indices of the columns that are read as times or services."""
         dates = [item for item in (self.time.dates,) if item]
         days = [at for item in dates for at in getattr(item, "columns", [getattr(item, "column", None)])]
