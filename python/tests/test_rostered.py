@@ -11,7 +11,7 @@ from ticking_agents import ticking
 import mpsim
 from mpsim.agents import Agent, Call
 from mpsim.agents.rosters import counts_roster, read_roster
-from mpsim.times.calendar import Calendar
+from mpsim.times.calendar import Calendar, settings_in
 from mpsim.times.texts import SECOND
 
 WEEK = EXAMPLES / "week" / "model.txt", EXAMPLES / "week" / "trace.csv"
@@ -95,6 +95,25 @@ class Pools(InFolder):
                 lines = text_of(self.model).splitlines()
                 self.assertEqual([line for line in lines if not line.startswith("# desk is a pool")], text_of(model).splitlines())
 
+    def test_a_plain_pool_of_several_sources_says_so(self):
+        """The table per interval has a row for each source; the plain one says that it has all of them together."""
+        model, trace = self.file("m.txt", MODEL), self.file("t.csv", "source,time,d\nphone,0,50\nmail,10,50\n")
+        words = "pool", model, trace, "--node", "desk", "--agents", 1
+        self.tells(*words, error="mpplan: figures of several sources together (mail, phone) at desk; --every gives each\n")
+        rows = list(csv.DictReader(io.StringIO(self.tells(*words, "--every", "1h"))))
+        self.assertEqual([(row["queue"], row["offered"], row["within"]) for row in rows], [("all", "2", "0.5"), ("mail", "1", "0.0"), ("phone", "1", "1.0")])
+        self.tells("pool", model, self.file("t.csv", "source,time,d\nphone,0,50\n"), "--node", "desk", "--agents", 1)
+
+    def test_the_model_keeps_its_first_lines(self):
+        """What a tick is, when time 0 is, and other comments: with one agent, with several, and with a roster; also with carriage returns."""
+        lines = MODEL.splitlines()
+        for end in "\n", "\r\n":
+            model, trace = self.file("m.txt", end.join([*lines, ""])), self.file("t.csv", "source,time,d\nphone,0,50\n")
+            for words in ("--agents", 1), ("--agents", 3), ("--agents", 9, "--by", "agents"), ("--agents", "0:00=2"), ("--agents", 1, "--patience", "5s"):
+                self.tells("pool", model, trace, "--node", "desk", *words, "--out-model", self.model)
+                self.assertEqual(text_of(self.model).splitlines()[1], lines[1])
+                self.assertEqual(settings_in(text_of(self.model)), (SECOND, "2026-03-02T00:00:00+01:00", "Europe/Berlin"))
+
     def made(self, *words, calls=((0, 50), (10, 50), (20, 5), (70, 30), (3600, 9)), queues="phone mail mail phone phone"):
         """Runs a pool over calls; returns the table and the outcomes in the trace."""
         rows = "".join(f"{queue},{time},{talk},{patience}\n" for queue, (time, talk), patience in zip(queues.split(), calls, (9, 20, 15, 0, 5)))
@@ -139,11 +158,12 @@ class Pools(InFolder):
     def test_callers_who_left_are_lost_wherever_the_package_reports_them(self):
         self.made("--agents", 1, "--patience", "patient")
         told = "mpplan: desk is a pool: its waits are those of desk_queue\n"
+        together = "mpplan: figures of several sources together (mail, phone) at desk; {}\n"
         report = mpsim.run(self.model, self.out, jobs=True)
         self.assertEqual((report["desk"].lost, report["desk_gone"].out), (0, 2))
-        (row,) = csv.DictReader(io.StringIO(self.tells("service", self.model, self.out, "--node", "desk", error=told)))
+        (row,) = csv.DictReader(io.StringIO(self.tells("service", self.model, self.out, "--node", "desk", error=told + together.format("--by source gives each"))))
         self.assertEqual([row[name] for name in ("came", "departed", "lost", "within_20_of_all")], ["5", "3", "2", "0.6"])
-        rows = self.tells("hours", self.model, self.out, "--node", "desk", error=told).splitlines()
+        rows = self.tells("hours", self.model, self.out, "--node", "desk", error=told + together.format("--source NAME gives one")).splitlines()
         self.assertEqual([row.split(",")[:4] for row in rows[1:]], [["00:00", "4", "2", "2"], ["01:00", "1", "1", "0"]])
         lacks = "mpplan: a pool's max, p50, p90 and p99 need job lines: run mpsim with --jobs\n"
         rows = list(csv.DictReader(io.StringIO(self.tells("table", self.model, self.out, error=told + lacks))))

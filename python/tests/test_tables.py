@@ -23,6 +23,7 @@ from mpsim.tables.sojourns import table as sojourn_table
 CALLS = EXAMPLES / "callcentre"
 JOBS, REPORT, SWEEP = CALLS / "jobs.txt", CALLS / "report.txt", EXAMPLES / "sweep" / "report.txt"
 NO_TICK = "the length of a tick is unknown: give --tick and --start, or {} whose first lines mpplan prepare wrote"
+TOGETHER = "mpplan: figures of several sources together (phone, web) at {}; --by source gives each\n"
 NO_JOBS = f"{REPORT}: the report has no job lines: run mpsim with --jobs"
 
 
@@ -41,25 +42,48 @@ class Service(InFolder):
         want = "node,came,departed,lost,held,mean_wait,p95,max,within_5_of_all,within_5_of_departed\n"
         want += "desk,7,7,0,0,4.286,8,8,0.571429,0.571429\nexpert,6,3,3,0,3.0,5,5,0.5,1.0\n"
         words = "--node", "desk", "--node", "expert", "--within", 5, "--percentile", 95
-        self.assertEqual(self.tells("service", JOBS, *words), want)
-        self.assertEqual(self.tells("service", MODEL, TRACE, *words), want)
-        told = rows_of(self.tells("service", JOBS))
+        self.assertEqual(self.tells("service", JOBS, *words, error=TOGETHER.format("desk, expert")), want)
+        self.assertEqual(self.tells("service", MODEL, TRACE, *words, error=TOGETHER.format("desk, expert")), want)
+        told = rows_of(self.tells("service", JOBS, error=TOGETHER.format("greet, expert, desk, wrap")))
         self.assertEqual([item[0] for item in told[1:]], ["greet", "expert", "desk", "wrap"])
         self.assertEqual(told[0][-2:], ["within_20_of_all", "within_20_of_departed"])
-        told = rows_of(self.tells("service", JOBS, "--node", "desk", "--within", 4, "--within", 3, "--percentile", 99.9))
+        told = rows_of(self.tells("service", JOBS, "--node", "desk", "--within", 4, "--within", 3, "--percentile", 99.9, error=TOGETHER.format("desk")))
         self.assertEqual((told[0][6], told[1][6:]), ("p99.9", ["8", "8"] + 4 * ["0.428571"]))
+
+    def test_each_source(self):
+        """The desk's calls by hand: each source has the waits of its own jobs, and all together are as without sources."""
+        text = text_of(JOBS)
+        lines = [line.split() for line in text.splitlines() if line.startswith("job ")]
+        sources = {job[1]: job[2] for job in lines if job[2] in ("phone", "web")}
+        words = "service", JOBS, "--node", "desk", "--within", 5, "--percentile", 90
+        (plain,) = records_of(self.tells(*words, error=TOGETHER.format("desk")))
+        found = records_of(self.tells(*words, "--by", "source"))
+        self.assertEqual([(row["node"], row.pop("source")) for row in found], [("desk", name) for name in ("all", "phone", "web")])
+        self.assertEqual(found[0], plain)
+        for row, name in zip(found[1:], ("phone", "web")):
+            waits = [int(job[6]) for job in lines if job[2] == "desk" and sources[job[1]] == name]
+            self.assertEqual((int(row["came"]), float(row["within_5_of_all"])), (len(waits), round(sum(it <= 5 for it in waits) / len(waits), 6)))
+            (hour,) = records_of(self.tells("hours", JOBS, "--node", "desk", "--tick", "1h", "--by", "day", "--within", 5, "--source", name))[:1]
+            self.assertIn("within_5_of_all", hour)
+        words = "hours", JOBS, "--node", "desk", "--tick", "1s", "--percentile", 90
+        both = [records_of(self.tells(*words, "--source", name)) for name in ("phone", "web")]
+        every = records_of(self.tells(*words, error=TOGETHER.format("desk").replace("--by source gives each", "--source NAME gives one")))
+        self.assertEqual(sum(int(row["came"]) for rows in both for row in rows), sum(int(row["came"]) for row in every))
+        self.assertEqual(records_of(self.tells(*words, "--source", "web", "--source", "phone")), every)
+        self.refuses(f"{JOBS}: no source 'fax'; it has phone, web", *words, "--source", "fax")
 
     def test_a_figure_that_is_asked_twice(self):
         """It is reported once, at its first place."""
         twice = "--within", 5, "--percentile", 90, "--within", 0, "--within", "05", "--percentile", 50, "--percentile", "90.0"
-        told = rows_of(self.tells("service", JOBS, "--node", "desk", *twice))[0]
+        told = rows_of(self.tells("service", JOBS, "--node", "desk", *twice, error=TOGETHER.format("desk")))[0]
         shares = [f"within_{item}_of_{whom}" for item in (5, 0) for whom in ("all", "departed")]
         self.assertEqual(told[6:], ["p90", "p50", "max", *shares])
         told = rows_of(self.tells("sojourns", JOBS, "--by", "all", *twice))[0]
         self.assertEqual(told, ["jobs", "mean_sojourn", "p90", "p50", "max", "within_5", "within_0"])
         # The name has all digits.
         for words, at in (("service", JOBS, "--node", "desk"), 6), (("sojourns", JOBS, "--by", "all"), 2):
-            told = rows_of(self.tells(*words, "--percentile", "99.99995", "--percentile", "100.0"))[0]
+            error = TOGETHER.format("desk") if words[0] == "service" else ""
+            told = rows_of(self.tells(*words, "--percentile", "99.99995", "--percentile", "100.0", error=error))[0]
             self.assertEqual(told[at : at + 2], ["p99.99995", "p100"])
 
     def test_beside_each_stored_report(self):

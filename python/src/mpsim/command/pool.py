@@ -10,8 +10,10 @@ from ..report import Report
 from ..tables.pools import staffing
 from ..tables.service import PERCENTS, figures, heads
 from ..tables.sheets import write_table
+from ..tables.visits import together
 from ..traces.trace import Trace
 from .groups import asks_for_group, roster_words, rows_of_group
+from .messages import say
 from .options import figure_words, table_words
 
 EXAMPLE = """mpplan pool model.txt trace.csv --node desk --agents 8..15 --within 20
@@ -45,14 +47,17 @@ def numbers_of(text):
 
 
 def main(args):
+    mixed = None
     within, percents = args.within or (20,), args.percentile or PERCENTS
     if asks_for_group(args):
         rows = rows_of_group(args)
     elif args.report:
         rows = _of_report(args, within, percents)
     else:
-        rows = _of_agents(args, within, percents)
+        rows, mixed = _of_agents(args, within, percents)
     write_table(rows, args.format, args.csv_style)
+    if mixed:
+        say(f"{mixed}; --every gives each")
 
 
 def _of_report(args, within, percents):
@@ -61,7 +66,8 @@ def _of_report(args, within, percents):
     report = Report.read(args.report)
     if report.visits is None:
         raise ValueError(f"{args.report}: the report has no job lines: run mpsim with --jobs")
-    return [["node", *heads(within, percents)], [args.node, *figures(pooled(report, args.node).wait, within, percents)]]
+    visits = pooled(report, args.node)
+    return [["node", *heads(within, percents)], [args.node, *figures(visits.wait, within, percents)]]
 
 
 def _of_agents(args, within, percents):
@@ -84,4 +90,5 @@ def _of_agents(args, within, percents):
                 out.writelines(trace.texts())
             if out_model:
                 out_model.write(model)
-    return rows
+    every_source = queue.trace.sources()
+    return rows, together({args.node: [every_source[job - 1] for job in queue.jobs]})

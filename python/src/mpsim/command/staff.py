@@ -13,6 +13,7 @@ from ..progress import Progress
 from ..times.intervals import days_of, every_of
 from ..times.texts import DAY, WEEKDAYS, given, length
 from ..traces.trace import Trace
+from .messages import say
 from .options import calendar_of, calendar_words, every_words
 
 EXAMPLE = """mpplan staff model.txt trace.csv --node desk --goal 80/20 --weekday monday

@@ -42,14 +42,21 @@ def _exact(value):
     return str(value) if isinstance(value, int) and value >= 1 << 53 else value
 
 
-def _data(reports, lines, labels, columns, tick, start):
-    """Returns the script's data: the figures and charts of the nodes of each run (`lines`, lists of Node), in the order of the columns."""
+def _texts(label):
+    """Returns the texts (list of str) of a label; those of a tuple are several. A file name that isn't UTF-8 can't appear in a page."""
+    return [str(it).encode(errors="surrogateescape").decode(errors="replace") for it in (label if isinstance(label, tuple) else [label])]
+
+
+def _data(reports, lines, labels, columns, tick, start, within):
+    """Returns the script's data: the figures and charts of the nodes of each run (`lines`, lists of Node), in the order of the columns. `labels` are
+    lists of texts."""
     runs = []
     for label, report, mine in zip(labels, reports, lines):
         nodes = nodes_that_are_drawn(report)
         runs.append(
             {
-                "label": label,
+                "label": ", ".join(label),
+                "parts": label,
                 "facts": facts(report),
                 "span": report.span,
                 "kinds": {item.name: item.kind for item in mine},
@@ -66,6 +73,7 @@ def _data(reports, lines, labels, columns, tick, start):
         "columns": [column.name for column in columns],
         "runs": runs,
         "node": _first_node(lines[0]),
+        "within": within,
         "tick": None if tick is None else float(tick),
         "date": start and start.date().isoformat(),
         "start": start.hour * 3600 + start.minute * 60 + start.second if start else 0,
@@ -78,7 +86,9 @@ def _options(names, chosen=None):
 
 def page(reports, labels=None, title=None, tick=None, start=None, within=None):
     """Returns the page (str) of a report, or of several side by side, under their labels (by default 1, 2 and so on). The network and the rows of the
-    tables are those of the first; figures follow the selected run. A pool is one node: the figures under its name are those of the whole.
+    tables are those of the first; figures follow the selected run. A pool is one node: the figures under its name are those of the whole. If all
+    labels are tuples of one length, such as agents and load, the number with the most values is the axis of the curves, and there is a curve for
+    each combination of the others.
 
     With `tick`, the seconds per tick (a number), axes show times of day; with `start`, the local datetime of time 0, also dates. With `within` (int,
     ticks), the share of all arrivals served within that time becomes a figure; each report then needs its visits. Raises ValueError if there is no
@@ -87,12 +97,12 @@ def page(reports, labels=None, title=None, tick=None, start=None, within=None):
     reports = list(reports)
     if not reports:
         raise ValueError("a page needs a report: none was given, or every model was refused")
-    # A file name that isn't UTF-8 can't appear in a page.
-    labels = [str(label).encode(errors="surrogateescape").decode(errors="replace") for label in labels or range(1, len(reports) + 1)]
+    parts = list(map(_texts, labels or range(1, len(reports) + 1)))
+    labels = [", ".join(texts) for texts in parts]
     first, is_several = reports[0], len(reports) > 1
     title = (title or (f"{len(reports)} runs" if is_several else "Run")).encode(errors="surrogateescape").decode(errors="replace")
     columns, lines = columns_of(reports, within), [beside_pools(report) for report in reports]
-    data = _data(reports, lines, labels, columns, tick, start)
+    data = _data(reports, lines, parts, columns, tick, start, within)
     script = "(() => {\n'use strict';\n" + "".join(map(_part, SCRIPTS)) + "})();\n"
     svg = network(first, lines[0], data["node"])
     return Template(_part("page.html")).substitute(

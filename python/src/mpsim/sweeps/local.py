@@ -54,7 +54,8 @@ def _pooled_again(plan, trace, models, with_jobs):
 
 
 def label_of(plan, trace, at):
-    """Returns the label of a scenario on the page: its values, with the names of its model and its trace if there are several."""
+    """Returns the label of a scenario on the page: its values, with the names of its model and its trace if there are several. A label of several
+    texts is a tuple of them."""
     label, values, _ = plan.model(at)
     words = [trace["label"]] * (len(plan.traces) > 1) + [label] * (len(plan.models) > 1 or not values) + [str(value) for value in values.values()]
-    return ", ".join(words)
+    return tuple(words) if len(words) > 1 else words[0]

@@ -1,9 +1,10 @@
 """Reports the service level: how many were served, how soon, and how long the others waited."""
 
 from bisect import bisect_right
+from typing import Dict, Iterator, Optional, Sequence
 
-from ..node_visits import HELD, LOST, percentile_of
-from .visits import Passing
+from ..node_visits import HELD, LOST, NodeVisits, percentile_of
+from .visits import Passing, of_source
 
 PERCENTS = 50, 90, 95, 99
 
@@ -39,8 +40,11 @@ def figures_of(visits, waits, within=(20,), percents=PERCENTS):
     return [*found[:4], *[None] * (len(found) - 4)] if isinstance(visits, Passing) else found
 
 
-def service(visits, within=(20,), percents=PERCENTS):
-    """Yields the header and the rows (lists) of a table of visits (list of NodeVisits), a row each, with what `figures` returns.
+def service(
+    visits: Sequence[NodeVisits], within: Sequence[int] = (20,), percents: Sequence[float] = PERCENTS, sources: Optional[Dict[int, str]] = None
+) -> Iterator[list]:
+    """Yields the header and the rows (lists) of a table of visits (list of NodeVisits), a row each, with what `figures` returns. With the source of
+    each job, as `sources_in` returns it, each has a row for "all" and a row per source.
 
     >>> import mpsim
     >>> from mpsim.tables.service import service
@@ -51,6 +55,9 @@ def service(visits, within=(20,), percents=PERCENTS):
     ['node', 'came', 'departed', 'lost', 'held', 'mean_wait', 'p90', 'max', 'within_3_of_all', 'within_3_of_departed']
     ['desk', 3, 2, 1, 0, 2.0, 4, 4, 0.333333, 0.5]
     """
-    yield ["node", *heads(within, percents)]
+    yield ["node", *([] if sources is None else ["source"]), *heads(within, percents)]
     for visit in visits:
-        yield [visit.node, *figures_of(visit, visit.wait, within, percents)]
+        yield [visit.node, *([] if sources is None else ["all"]), *figures_of(visit, visit.wait, within, percents)]
+        for name in () if sources is None else sorted({sources[job] for job in visit.job}):
+            mine = of_source(visit, sources, [name])
+            yield [visit.node, name, *figures_of(mine, mine.wait, within, percents)]
