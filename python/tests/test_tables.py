@@ -19,6 +19,8 @@ from mpsim.tables.comparison import compare
 from mpsim.tables.service import figures, service
 from mpsim.tables.sojourns import sojourns
 from mpsim.tables.sojourns import table as sojourn_table
+from mpsim.times.calendar import with_settings
+from mpsim.times.texts import SECOND
 
 CALLS = EXAMPLES / "callcentre"
 JOBS, REPORT, SWEEP = CALLS / "jobs.txt", CALLS / "report.txt", EXAMPLES / "sweep" / "report.txt"
@@ -72,6 +74,30 @@ class Service(InFolder):
         self.assertEqual(records_of(self.tells(*words, "--source", "web", "--source", "phone")), every)
         self.refuses(f"{JOBS}: no source 'fax'; it has phone, web", *words, "--source", "fax")
 
+    def test_times_in_place_of_ticks(self):
+        """Half seconds: 2.4 s are four whole ticks. The tick comes from --tick or from the model; a time and its ticks have one column."""
+        bare = text_of(MODEL)
+        model = self.file("m.txt", with_settings(bare, SECOND // 2, None, None))
+        error = TOGETHER.format("desk")
+        want = self.tells("service", JOBS, "--node", "desk", "--within", 4, error=error)
+        self.assertIn("within_4_of_all", want)
+        for words in (JOBS, "--tick", "500ms"), (model, TRACE), (MODEL, TRACE, "--tick", "500ms"):
+            for times in ("--within", "2s"), ("--within", "2.4s"), ("--within", "4", "--within", "2s"):
+                self.assertEqual(self.tells("service", *words, "--node", "desk", *times, error=error), want)
+        one = error.replace("--by source gives each", "--source NAME gives one")
+        hours = "hours", JOBS, "--node", "desk", "--tick", "500ms"
+        self.assertEqual(self.tells(*hours, "--within", "2s", error=one), self.tells(*hours, "--within", 4, error=one))
+        sojourns = "sojourns", model, TRACE
+        self.assertEqual(self.tells(*sojourns, "--within", "10s"), self.tells(*sojourns, "--within", 20))
+        self.assertEqual(self.tells("sojourns", JOBS, "--tick", "1min", "--within", "1h"), self.tells("sojourns", JOBS, "--within", 60))
+        pages = [self.folder / name for name in ("one.html", "other.html")]
+        for path, within in zip(pages, ("2s", "4")):
+            self.assertEqual(planner("page", JOBS, "--model", model, "--title", "x", "--within", within, "--out", path)[0], 0)
+        self.assertEqual(*map(text_of, pages))
+        why = "the length of a tick is unknown: give a number of ticks, --tick, or a model whose first lines mpplan prepare wrote"
+        for words in ("service", JOBS), ("sojourns", JOBS), ("page", JOBS, "--out", pages[0]), ("sweep", MODEL, TRACE):
+            self.refuses(f"--within 2s: {why}", *words, "--within", "2s")
+
     def test_a_figure_that_is_asked_twice(self):
         """It is reported once, at its first place."""
         twice = "--within", 5, "--percentile", 90, "--within", 0, "--within", "05", "--percentile", 50, "--percentile", "90.0"
@@ -123,8 +149,9 @@ class Service(InFolder):
         self.refuses(f"{JOBS}: no node 'deck'; it has phone, web, greet, menu, expert, desk, wrap", "service", JOBS, "--node", "deck")
         self.refuses("a percentile is from 0 to 100, not 101.0", "service", JOBS, "--percentile", 101)
         pool, sweep, page = ("--node", "desk", "--agents", 2), (MODEL, TRACE), (JOBS, "--out", self.folder / "page.html")
+        expected = "expected a number of ticks, 0 or more, or a time such as 20s or 1min"
         for words in ("service", JOBS), ("hours", JOBS), ("pool", MODEL, TRACE, *pool), ("sojourns", JOBS), ("sweep", *sweep), ("page", *page):
-            for text, why in ("-1", "-1: expected a number of ticks, 0 or more"), ("1.5", "1.5: expected a number of ticks, 0 or more"):
+            for text, why in ("-1", f"-1: {expected}"), ("1.5", f"1.5: {expected}"), ("5x", f"5x: {expected}"):
                 self.refuses(f"argument --within: {why} (see mpplan {words[0]} --help)", *words, f"--within={text}", status=2)
         self.refuses("/absent: cannot read the model", "service", "/absent", "/absent", status=6)
         self.assertEqual(planner("service", "/absent"), (1, "", "mpplan: /absent: No such file or directory\n"))

@@ -1,11 +1,19 @@
 """Compares the waits that a telephone system recorded with those of a group of agents who get the same calls."""
 
-from typing import NamedTuple
+from typing import List, NamedTuple
 
 from ..times.intervals import label
+from ..wording import counted
 
-# When a model is trusted: how far the service levels may differ over all calls, and in an interval of at least so many calls.
-OVERALL, EACH, CALLS = 0.02, 0.05, 50
+
+class Trust(NamedTuple):
+    """When a model is trusted: how far the service levels may differ (float) over all calls, and in an interval of at least this many calls (int)."""
+
+    overall: float = 0.02
+    each: float = 0.05
+    calls: int = 50
+
+
 HEADS = "from", "queue", "offered", "recorded_within", "modelled_within", "gap", "same"
 
 
@@ -50,20 +58,26 @@ def figures(pairs, within, same):
     return [len(pairs), *(round(it, 4) for it in (*shares, shares[1] - shares[0], alike))]
 
 
-def verdict(rows):
+def verdict(rows: List[list], trust: Trust = Trust()) -> str:
     """Returns a line (str) that says whether a model may be trusted, and why not, from rows as in HEADS with the queue "all": the first of all calls,
-    the others per interval."""
+    the others per interval.
+
+    >>> rows = [["all", "all", 90, 0.8, 0.83, 0.03, 0.99], ["08:00", "all", 90, 0.8, 0.83, 0.03, 0.99]]
+    >>> verdict(rows, Trust(overall=0.03))
+    'the model may be trusted: 80.0 % recorded, 83.0 % modelled, and no interval of 50 calls or more differs by more than 5 points'
+    """
     whole, *each = rows
     if whole[5] is None:
         return "there are no calls to compare"
-    far = [row for row in each if row[2] >= CALLS and abs(row[5]) > EACH]
+    far = [row for row in each if row[2] >= trust.calls and abs(row[5]) > trust.each]
     both = f"{100 * whole[3]:.1f} % recorded, {100 * whole[4]:.1f} % modelled"
-    if abs(whole[5]) <= OVERALL and not far:
-        return f"the model may be trusted: {both}, and no interval of {CALLS} calls or more differs by more than {100 * EACH:.0f} points"
+    points = f"{100 * trust.each:g} points"
+    if abs(whole[5]) <= trust.overall and not far:
+        return f"the model may be trusted: {both}, and no interval of {counted(trust.calls, 'call')} or more differs by more than {points}"
     worst = max(far, key=lambda row: abs(row[5]), default=None)
     where = ""
     if worst:
-        where = f"; {len(far)} of {len(each)} intervals differ by more than {100 * EACH:.0f} points, most at {worst[0]} ({100 * worst[5]:+.1f})"
+        where = f"; {len(far)} of {len(each)} intervals differ by more than {points}, most at {worst[0]} ({100 * worst[5]:+.1f})"
     how = "better" if whole[5] > 0 else "worse"
     return f"the model may not be trusted: {both}, and the model is {how}{where}"
 

@@ -5,7 +5,7 @@ from ..tables.hours import hours
 from ..tables.service import PERCENTS
 from ..tables.sheets import write_table
 from ..tables.visits import of_source, sources_in
-from .options import calendar_of, calendar_words, figure_words, place_words, report_words, table_words
+from .options import calendar_of, calendar_words, figure_words, place_words, report_words, resolve_within, table_words
 from .reports import print_mixed, report_of, visits_of
 
 EXAMPLE = "mpplan hours model.txt trace.csv --node desk --within 20 >hours.csv"
@@ -35,7 +35,9 @@ def main(args):
                 raise ValueError(f"{args.report}: no source {name!r}; it has {', '.join(known)}")
         found = [of_source(found[0], sources, args.source)]
     path = args.report if args.trace is not None else args.model
-    days = calendar_of(args, text_of(path) if path else None)
+    text = text_of(path) if path else None
+    days = calendar_of(args, text)
+    resolve_within(args, text)
     rows = list(hours(found[0], days, args.by, args.within or (20,), args.percentile or PERCENTS))
     write_table(rows, args.format, args.csv_style)
     if not args.source:

@@ -4,7 +4,7 @@ import re
 
 from ..agents.pools import pooled
 from ..agents.queues import Queue
-from ..files import all_written, judge_outputs
+from ..files import all_written, judge_outputs, text_of
 from ..progress import Progress
 from ..report import Report
 from ..tables.pools import staffing
@@ -14,7 +14,7 @@ from ..tables.visits import together
 from ..traces.trace import Trace
 from .groups import asks_for_group, roster_words, rows_of_group
 from .messages import say
-from .options import figure_words, table_words
+from .options import figure_words, resolve_within, table_words
 
 EXAMPLE = """mpplan pool model.txt trace.csv --node desk --agents 8..15 --within 20
          mpplan pool model.txt trace.csv --node desk --agents 12 --out pooled.csv --out-model pooled.txt
@@ -48,6 +48,7 @@ def numbers_of(text):
 
 def main(args):
     mixed = None
+    resolve_within(args, text_of(args.model) if args.model else None)
     within, percents = args.within or (20,), args.percentile or PERCENTS
     if asks_for_group(args):
         rows = rows_of_group(args)

@@ -1,14 +1,13 @@
 """Reports the waits that a telephone system recorded, with abandoned calls, in the form of the table of `mpplan pool --roster`."""
 
-import csv
-
 from ..agents.groups import Agent
 from ..agents.validation import recorded
-from ..files import text_of, written
+from ..files import text_of
 from ..tables.intervals import HEADS, Table
 from ..times.intervals import days_of, every_of
 from ..traces.trace import Trace
-from .options import calendar_of, calendar_words, every_words, ticks
+from ..tables.sheets import write_table
+from .options import calendar_of, calendar_words, every_words, resolve_within, table_words, within_word
 
 EXAMPLE = "mpplan recorded calls.csv --model model.txt --wait wait --abandoned gone --within 20 >recorded.csv"
 
@@ -19,18 +18,26 @@ def words(parser):
     parser.add_argument("--source", action="append", default=[], metavar="NAME", help="only calls of this source; may be repeated")
     parser.add_argument("--model", metavar="FILE", help="a model whose comments give the tick and time 0")
     calendar_words(parser)
+    table_words(parser)
 
 
 def recorded_words(parser):
     says = "column with the recorded wait in ticks, for an abandoned call until the caller left"
     parser.add_argument("--wait", required=True, metavar="COLUMN", help=says)
     parser.add_argument("--abandoned", metavar="COLUMN", help="column that isn't 0 for a call that was abandoned; default: none was")
-    parser.add_argument("--within", type=ticks, default=20, metavar="TICKS", help="report the share answered within this many ticks (default: 20)")
+    within_word(parser, "report the share answered within 20 ticks (the default),")
     every_words(parser)
 
 
+def within_of(args):
+    """Returns the ticks (int) of --within, by default 20."""
+    return 20 if args.within is None else args.within
+
+
 def main(args):
-    days = calendar_of(args, text_of(args.model) if args.model else None)
+    text = text_of(args.model) if args.model else None
+    days = calendar_of(args, text)
+    resolve_within(args, text)
     every = every_of(args.every)
     trace = Trace.read(args.trace)
     sources, times, (waits, gone) = trace.sources(), trace.times(), recorded(trace, args.wait, args.abandoned)
@@ -41,6 +48,5 @@ def main(args):
     columns = [[column[at] for at in kept] for column in (sources, times, waits, gone)]
     # Who answered isn't asked for: agent 1 stands for any.
     calls = columns[0], columns[1], [0] * len(kept), [int(not it) for it in columns[3]], columns[2]
-    table = Table(days_of(days, max(columns[1], default=0), every), calls, [Agent([])], args.within)
-    with written() as file:
-        csv.writer(file, lineterminator="\n").writerows([HEADS[:-2], *(row[:-2] for row in table.rows(every, days.tick))])
+    table = Table(days_of(days, max(columns[1], default=0), every), calls, [Agent([])], within_of(args))
+    write_table([HEADS[:-2], *(row[:-2] for row in table.rows(every, days.tick))], args.format, args.csv_style)
