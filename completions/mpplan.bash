@@ -15,27 +15,28 @@ _mpplan() {
             repeated=' --demand --end --answered --constant --code --rename --where '
             ;;
         scale)
-            options='--by --shift --times --twins --source --out --help'
+            options='--by --shift --times --twins --source --out --model --tick --start --zone --help'
             repeated=' --source '
             ;;
         edit)
             options='--model --out --edits --help'
             ;;
         pool)
-            options='--node --agents --roster --first --then --choose --patience --seed --every --tick --start --zone --by --out --out-model
-                --report --within --percentile --format --csv-style --help'
+            options='--node --agents --roster --queue --first --then --choose --patience --seed --every --tick --start --zone --by --out
+                --out-model --report --within --percentile --format --csv-style --help'
             repeated=' --first --then --within --percentile '
             ;;
         staff)
-            options='--node --goal --every --weekday --date --patience --seed --max-occupancy --shrinkage --format --tick --start --zone
-                --help'
+            options='--node --goal --every --weekday --date --patience --seed --max-occupancy --shrinkage --queue --by --tick --start --zone
+                --format --csv-style --help'
             ;;
         recorded)
-            options='--wait --abandoned --within --every --source --model --tick --start --zone --help'
+            options='--wait --abandoned --within --every --source --queue --model --tick --start --zone --format --csv-style --help'
             repeated=' --source '
             ;;
         validate)
-            options='--node --agents --roster --first --then --choose --wait --abandoned --within --every --tick --start --zone --help'
+            options='--node --agents --roster --queue --first --then --choose --wait --abandoned --within --every --trust-overall
+                --trust-interval --trust-calls --tick --start --zone --format --csv-style --help'
             repeated=' --first --then '
             ;;
         run)
@@ -54,15 +55,15 @@ _mpplan() {
             repeated=' --node '
             ;;
         service)
-            options='--node --pool --within --percentile --format --csv-style --help'
+            options='--node --pool --by --within --percentile --tick --format --csv-style --help'
             repeated=' --node --pool --within --percentile '
             ;;
         hours)
-            options='--node --pool --by --model --within --percentile --tick --start --zone --format --csv-style --help'
-            repeated=' --node --pool --within --percentile '
+            options='--node --pool --by --model --source --within --percentile --tick --start --zone --format --csv-style --help'
+            repeated=' --node --pool --source --within --percentile '
             ;;
         sojourns)
-            options='--by --within --percentile --each --format --csv-style --help'
+            options='--by --within --percentile --each --tick --format --csv-style --help'
             repeated=' --within --percentile '
             ;;
         sweep)
@@ -84,8 +85,14 @@ _mpplan() {
         pool.--format) choices='csv json md xlsx' ;;
         pool.--csv-style) choices='plain excel-de' ;;
         staff.--weekday) choices='Monday Tuesday Wednesday Thursday Friday Saturday Sunday' ;;
-        staff.--format) choices='csv json md' ;;
+        staff.--by) choices='source' ;;
+        staff.--format) choices='csv json md xlsx' ;;
+        staff.--csv-style) choices='plain excel-de' ;;
+        recorded.--format) choices='csv json md xlsx' ;;
+        recorded.--csv-style) choices='plain excel-de' ;;
         validate.--choose) choices='longest-idle first' ;;
+        validate.--format) choices='csv json md xlsx' ;;
+        validate.--csv-style) choices='plain excel-de' ;;
         days.--format) choices='csv json md xlsx' ;;
         days.--csv-style) choices='plain excel-de' ;;
         table.--of) choices='nodes exits visits' ;;
@@ -94,6 +101,7 @@ _mpplan() {
         compare.--figure) choices='in out lost held wait max p50 p90 p99 busy area peak util mean_wait mean_time share_lost' ;;
         compare.--format) choices='csv json md xlsx' ;;
         compare.--csv-style) choices='plain excel-de' ;;
+        service.--by) choices='source' ;;
         service.--format) choices='csv json md xlsx' ;;
         service.--csv-style) choices='plain excel-de' ;;
         hours.--by) choices='hour day weekday each' ;;
@@ -106,8 +114,9 @@ _mpplan() {
         *.--abandoned | *.--agents | *.--answered | *.--begin | *.--by | *.--close | *.--code | *.--constant | *.--date | *.--date-format | \
             *.--day | *.--delimiter | *.--demand | *.--empty | *.--encoding | *.--end | *.--every | *.--first | *.--format | *.--from | \
             *.--goal | *.--header | *.--labels | *.--left-out-most | *.--max-occupancy | *.--node | *.--open | *.--patience | *.--percentile \
-            | *.--pool | *.--rename | *.--seed | *.--set | *.--shard | *.--sheet | *.--shift | *.--shrinkage | *.--skip | *.--source | \
-            *.--start | *.--then | *.--tick | *.--time | *.--title | *.--until | *.--wait | *.--where | *.--within | *.--zone) return ;;
+            | *.--pool | *.--queue | *.--rename | *.--seed | *.--set | *.--shard | *.--sheet | *.--shift | *.--shrinkage | *.--skip | \
+            *.--source | *.--start | *.--then | *.--tick | *.--time | *.--title | *.--trust-calls | *.--trust-interval | *.--trust-overall | \
+            *.--until | *.--wait | *.--where | *.--within | *.--zone) return ;;
     esac
     if [[ $choices ]]; then
         COMPREPLY=($(compgen -W "$choices" -- "$word"))

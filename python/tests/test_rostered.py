@@ -2,6 +2,7 @@
 
 import csv
 import io
+import re
 import unittest
 
 from commands import InFolder, planner
@@ -11,6 +12,8 @@ from ticking_agents import ticking
 import mpsim
 from mpsim.agents import Agent, Call
 from mpsim.agents.rosters import counts_roster, read_roster
+from mpsim.agents.waits import carried
+from mpsim.sweeps.days import by_calendar
 from mpsim.times.calendar import Calendar, settings_in
 from mpsim.times.texts import SECOND
 
@@ -171,8 +174,84 @@ class Pools(InFolder):
         self.assertEqual([rows[2][name] for name in ("kind", "in", "out", "lost")], ["pool", "5", "3", "2"])
         visits = self.tells("table", self.model, self.out, "--of", "visits", "--node", "desk", error=told).splitlines()[1:]
         self.assertEqual(visits[:2], ["1,desk,0,0,50,left", "2,desk,10,,,lost"])
-        why = "its waits hold only for the whole trace; run mpplan pool for each part"
-        self.refuses(f"desk is a pool with a roster, patience or priorities: {why}", "days", self.model, self.out)
+        why = "desk has a roster, patience or priorities, so its waits are those of the whole trace; on 0 of 1 days they may depend on calls of another"
+        (row,) = csv.DictReader(io.StringIO(self.tells("days", self.model, self.out, "--node", "desk", error=f"{told}mpplan: {why}\n")))
+        self.assertEqual([row[name] for name in ("kind", "in", "out", "lost")], ["pool", "5", "3", "2"])
+
+    def test_days_of_a_roster(self):
+        """Where nobody is left over night, each day is that of a pool made for the day alone; where somebody is, a line counts the days."""
+        self.table(*WEEK, "--roster", EXAMPLES / "week" / "roster.csv", "--patience", "exp:120s", "--seed", 7)
+        status, text, said = planner("days", self.model, self.out, "--node", "desk")
+        self.assertEqual(status, 0, said)
+        self.assertIn("; on 0 of 6 days they may depend on calls of another\n", said)
+        rows, whole = list(csv.DictReader(io.StringIO(text))), mpsim.traces.Trace.read(self.out)
+        days = Calendar(SECOND, "2026-03-23T00:00:00+01:00", "Europe/Berlin")
+        pieces, _ = by_calendar(whole.times(), days)
+        agents, _ = read_roster(EXAMPLES / "week" / "roster.csv", days, max(whole.times()), ["calls"])
+        patience, talk = whole.numbers("desk_patience"), whole.numbers("talk")
+        for row, piece in zip(rows, pieces):
+            calls = [Call(whole.times()[at], talk[at], "calls", patience[at]) for at in piece.records]
+            waits = [it.wait for it in mpsim.agents.Group(agents).serve(calls) if it.agent]
+            self.assertEqual((int(row["out"]), int(row["wait"]), int(row["in"])), (len(waits), sum(waits), len(calls)))
+        # Pieces of half an hour cut calls, but most of those that are cut don't keep anybody waiting.
+        said = planner("days", self.model, self.out, "--every", 1800)[2]
+        shared = int(re.search(r"; in (\d+) of (\d+) pieces they may", said)[1])
+        self.assertTrue(5 < shared < 42, said)
+
+    def test_pieces_that_share_agents(self):
+        """A call is there at the first arrival of a piece, or comes before the last of its calls begins; one that ends then, or comes later, isn't."""
+        model = "model 2\nsource a\nsource b\ndelay desk_queue desk_wait from a b\ntrunk desk 2 d from desk_queue\n"
+        head = ["source", "time", "d", "desk_wait"]
+        for others, shared in [
+            ([["b", 0, 10, 0]], 0),
+            ([["b", 0, 11, 0]], 1),
+            ([["b", 0, 5, 6]], 1),
+            ([["b", 15, 1, 0]], 1),
+            ([["b", 20, 1, 0]], 1),
+            ([["b", 21, 1, 0]], 0),
+        ]:
+            rows = sorted([["a", 10, 4, 0], ["a", 12, 4, 8], *others], key=lambda row: row[1])
+            report = mpsim.run(model, [head, *rows], jobs=True)
+            self.assertEqual(carried(report, "desk", [[at for at, row in enumerate(rows) if row[0] == "a"]]), shared, others)
+
+    def test_a_sweep_over_its_number_is_rejected(self):
+        """The waits of a roster don't follow from a number of agents."""
+        self.table(*WEEK, "--agents", 2, "--patience", "60s")
+        text = text_of(self.model)
+        path = self.file("many.txt", text.replace("trunk desk 2", "trunk desk {agents}"))
+        why = "its waits hold only for this trace; run mpplan pool for each number of agents"
+        self.refuses(f"desk is a pool with a roster, patience or priorities: {why}", "sweep", path, self.out, "--set", "agents=2..4")
+
+    def test_a_column_as_the_queue(self):
+        """As if its values were the sources: in the roster, in the priorities and in the table; words of the model's comments stand for numbers."""
+        rows = [(0, 50, 1), (10, 50, 1), (20, 5, 2), (25, 5, 3), (70, 30, 2), (3600, 9, 1)]
+        names = {1: "service", 2: "sales", 3: "3"}
+        by_column = self.file("c.csv", "source,time,d,kind\n" + "".join(f"phone,{time},{d},{kind}\n" for time, d, kind in rows))
+        by_source = self.file("s.csv", "source,time,d\n" + "".join(f"{names[kind].replace('3', 'three')},{time},{d}\n" for time, d, kind in rows))
+        comment = '# kind: 1 is "service", 2 is "sales", 3 is "other things"\n'
+        front = "\n".join(MODEL.splitlines()[:2])
+        model = self.file("m.txt", f"{front}\n{comment}source phone\nserver desk d from phone\n")
+        three = "source service\nsource sales\nsource three\nserver desk d from service sales three\n"
+        other = self.file("o.txt", f"{front}\n{three}")
+        head = "agent,queues,from,to\nA,service {},0,4000\nB,sales,20,4000\n"
+        rosters = self.file("r.csv", head.format("3")), self.file("q.csv", head.format("three"))
+        want = self.table(other, by_source, "--roster", rosters[1], "--first", "sales", "--then", "three")
+        made = text_of(self.out)
+        found = self.table(model, by_column, "--roster", rosters[0], "--first", "sales", "--then", 3, "--queue", "kind")
+        values = [tuple(it.replace("three", "3") for it in row.values()) for row in want]
+        self.assertEqual(sorted(values), sorted(tuple(row.values()) for row in found))
+        self.assertEqual([row.split(",")[-2:] for row in made.splitlines()[1:]], [row.split(",")[-2:] for row in text_of(self.out).splitlines()[1:]])
+        self.assertEqual([row["queue"] for row in found[:4]], ["all", "3", "sales", "service"])
+        rows = list(csv.DictReader(io.StringIO(self.tells("staff", model, by_column, "--node", "desk", "--queue", "kind", "--by", "source"))))
+        self.assertEqual([row["queue"] for row in rows], ["all", "3", "sales", "service", "all", "service"])
+        rows = list(csv.reader(io.StringIO(self.tells("recorded", by_column, "--model", model, "--wait", "d", "--queue", "kind"))))
+        self.assertEqual([row[1] for row in rows], ["queue", "all", "3", "sales", "service", "all", "service"])
+        words = "validate", model, by_column, "--node", "desk", "--wait", "d", "--queue", "kind", "--agents", 1
+        rows = list(csv.reader(io.StringIO(planner(*words)[1])))
+        self.assertEqual([row[1] for row in rows[1:5]], ["all", "3", "sales", "service"])
+        words = "pool", model, by_column, "--node", "desk", "--agents", 1
+        self.refuses(f"{by_column}: no column 'k'; it has d, kind", *words, "--queue", "k")
+        self.refuses("no value 'mail' in kind; the trace has service, sales, 3", *words, "--queue", "kind", "--first", "mail")
 
     def test_drawn_patience_is_written_and_can_be_repeated(self):
         words = *WEEK, "--agents", 2, "--patience", "exp:60s"

@@ -4,10 +4,14 @@ import csv
 import math
 import random
 import re
+from typing import TYPE_CHECKING, Dict, List
 
 from ..files import bytes_of
 from ..times.texts import DAY, WEEKDAYS, clock, given, iso, length, moment
 from .groups import Agent
+
+if TYPE_CHECKING:
+    from ..traces.trace import Trace
 
 HEAD = ["agent", "queues", "from", "to"]
 _SHORT = [name[:3].lower() for name in WEEKDAYS]
@@ -113,6 +117,22 @@ def counts_roster(text, days, last):
                 for mine in intervals[:count]:
                     mine.append((max(0, begin), end))
     return [Agent(mine) for mine in intervals]
+
+
+def queues_in(trace: "Trace", column: str, words: Dict[str, int]) -> List[str]:
+    """Returns the queue of each record (list of str) of a trace from the values of a column: the word that stands for the value, if `words` (dict of
+    word to number) has one without spaces, else the value itself. Raises ValueError for an unknown column.
+
+    >>> from mpsim.traces.trace import Trace
+    >>> trace = Trace("t.csv", ["source", "time", "kind"], [["door", "0", "1"], ["door", "9", "2"]])
+    >>> queues_in(trace, "kind", {"orders": 1, "other things": 2})
+    ['orders', '2']
+    """
+    if column not in trace.header[2:]:
+        raise ValueError(f"{trace.path}: no column {column!r}; it has {', '.join(trace.header[2:]) or 'none'}")
+    names = {str(number): word for word, number in words.items() if word and not re.search(r"\s", word)}
+    place = trace.header.index(column, 2)
+    return [names.get(row[place], row[place]) for row in trace.rows]
 
 
 def patience_in(text, trace, tick, seed):

@@ -26,21 +26,21 @@ class Pair(NamedTuple):
     served: bool
 
 
-def compared(queue, group, days, waits, gone):
-    """Returns the calls of a Queue (list of Pair), by the number of their interval and their source (dict), with the agents of a Group in the model.
-    `days` (list of Day) have the intervals; `waits` (list of int, ticks) and `gone` (list of bool) are those that `recorded` returns."""
-    every_source = queue.trace.sources()
-    sources = [every_source[job - 1] for job in queue.jobs]
+def compared(queue, group, days, waits, gone, queues):
+    """Returns the calls of a Queue (list of Pair), by the number of their interval and their queue (dict), with the agents of a Group in the model.
+    `days` (list of Day) have the intervals; `waits` (list of int, ticks) and `gone` (list of bool) are those that `recorded` returns; `queues` (list
+    of str) are the queues of the records."""
+    mine = [queues[job - 1] for job in queue.jobs]
     # An abandoned call shows how long the caller waited, any other only that the patience was longer.
     patience = [waits[job - 1] if gone[job - 1] else None for job in queue.jobs]
-    who, modelled = group.assigned(queue.arrivals, queue.demands, sources, patience)
+    who, modelled = group.assigned(queue.arrivals, queue.demands, mine, patience)
     found, at = {}, 0
     for call in sorted(range(len(queue.jobs)), key=queue.arrivals.__getitem__):
         while queue.arrivals[call] >= days[at].begins[-1] and at + 1 < len(days):
             at += 1
         record = queue.jobs[call] - 1
         pair = Pair(waits[record], not gone[record], modelled[call], who[call] > 0)
-        found.setdefault((days[at].interval(queue.arrivals[call]), sources[call]), []).append(pair)
+        found.setdefault((days[at].interval(queue.arrivals[call]), mine[call]), []).append(pair)
     return found
 
 

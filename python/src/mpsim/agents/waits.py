@@ -1,7 +1,9 @@
 """Finds the pools in a model and recomputes their agents and waits for part of a trace that `mpplan pool` made."""
 
 import contextlib
-from typing import NamedTuple
+import re
+from bisect import bisect_left, bisect_right
+from typing import TYPE_CHECKING, List, NamedTuple, Sequence
 
 from ..errors import BoundError, ModelError, TraceError, VisitsError
 from ..inputs import model_input
@@ -10,6 +12,9 @@ from ..runs import run
 from .networks import ROSTERED, agent_lines, front, in_front, inputs_of, trunk_lines
 from .pools import agents_of, gone_name, queue_name
 from .queues import calls_at, columns_of
+
+if TYPE_CHECKING:
+    from ..report import Report
 
 
 class ModelPool(NamedTuple):
@@ -26,8 +31,9 @@ def model_pools(model, trace):
     """Returns the pools (list of ModelPool) in a model whose lines are those that `mpplan pool` writes, upstream pools first.
 
     A trunk group that loses a call of the trace (Trace) isn't a pool, since the trace was made for another number of agents; if the trace is
-    rejected, it counts as one. The model is any that `mpsim.run` accepts. An invalid model, or one that can't be read twice, has no pools. Raises
-    ValueError for a pool with a roster, patience or priorities, whose agents don't follow from their number.
+    rejected, it counts as one. The model is any that `mpsim.run` accepts. An invalid model, or one that can't be read twice, has no pools. Nor does
+    it have those with a roster, patience or priorities, whose waits don't follow from a number of agents (`rostered_pools`). Raises ValueError if
+    one of those is downstream of another pool: its arrivals would change.
 
     >>> from mpsim.agents.waits import model_pools
     >>> from mpsim.traces import Trace
@@ -43,15 +49,72 @@ def model_pools(model, trace):
     with contextlib.suppress(ValueError):
         nodes = {node.name: node for node in nodes_of(text)}
         found = sorted(_named(nodes), key=lambda item: len(in_front(nodes, [queue_name(item[0])])))
-    for name, *_ in found:
-        if ROSTERED.format(node=name) in text.splitlines() or gone_name(name) in nodes:
-            why = "its waits hold only for the whole trace; run mpplan pool for each part"
-            raise ValueError(f"{name} is a pool with a roster, patience or priorities: {why}")
+    rostered = rostered_pools(text)
+    found = [it for it in found if it[0] not in rostered]
+    for name in rostered:
+        if above := [it[0] for it in found if it[0] in in_front(nodes, [queue_name(name)])]:
+            raise ValueError(f"{name} is {_SPECIAL}, downstream of the pool {above[0]}: run mpplan pool for each part of the trace")
     if groups := [name for name, *_, end in found if name == end]:
         with contextlib.suppress(ModelError, TraceError, BoundError, VisitsError):
             report = run(front(text, groups), trace.lines())
             lost = {name: report[name].lost for name in groups}
     return [ModelPool(name, agents, demand, front(text, [end])) for name, agents, demand, end in found if not lost.get(name)]
+
+
+_SPECIAL = "a pool with a roster, patience or priorities"
+
+
+def rostered_pools(text: str) -> List[str]:
+    """Returns the pools (list of str) of a model's text that have a roster, patience or priorities.
+
+    >>> rostered_pools("model 2\\n# desk is a pool with a roster, patience or priorities: its waits hold only for this trace\\nsource door\\n")
+    ['desk']
+    """
+    pattern = re.escape(ROSTERED).replace(re.escape("{node}"), r"(\w+)")
+    marked = re.findall(rf"^{pattern}\r?$", text, re.M)
+    nodes = {}
+    with contextlib.suppress(ValueError):
+        nodes = {node.name: node for node in nodes_of(text)}
+    gone = [name for name in nodes if gone_name(name) in nodes and queue_name(name) in nodes]
+    return list(dict.fromkeys([*marked, *gone]))
+
+
+def carried(report: "Report", pool: str, pieces: Sequence[Sequence[int]]) -> int:
+    """Returns how many of some pieces of a trace (sequences of int, the records of each, from 0) share the agents of a pool with another piece, in a
+    report with visits of the whole trace: a call from elsewhere is waiting or served between the first arrival and the last beginning of a call of
+    the piece. The waits of all other pieces are those that each would have alone, if free agents are alike or their intervals begin with the piece.
+
+    >>> import mpsim
+    >>> model = "model 2\\nsource door\\ndelay desk_queue desk_wait from door\\ntrunk desk 1 talk from desk_queue\\n"
+    >>> rows = [("source", "time", "talk", "desk_wait"), ("door", 0, 9, 0), ("door", 2, 4, 7), ("door", 20, 4, 0)]
+    >>> report = mpsim.run(model, rows, jobs=True)
+    >>> carried(report, "desk", [[0], [1], [2]]), carried(report, "desk", [[0, 1], [2]])
+    (1, 0)
+    """
+    came = {job: (arrive, depart) for job, arrive, depart in _columns(report, queue_name(pool))}
+    ends = {job: depart for job, _, depart in _columns(report, pool)}
+    calls = [(arrive, ends[job], begin, job) for job, (arrive, begin) in came.items()]
+    if gone_name(pool) in report:
+        calls += [(arrive, depart, arrive, job) for job, arrive, depart in _columns(report, gone_name(pool))]
+    calls.sort()
+    piece_of = {record + 1: number for number, records in enumerate(pieces) for record in records}
+    arrivals, latest, mine = [call[0] for call in calls], [], {}
+    for arrive, depart, begin, job in calls:
+        latest.append(max(depart, latest[-1] if latest else 0))
+        if job in piece_of:
+            first, last = mine.get(piece_of[job], (arrive, begin))
+            mine[piece_of[job]] = min(first, arrive), max(last, begin)
+    shared = 0
+    for number, (first, last) in mine.items():
+        before, behind = bisect_left(arrivals, first), bisect_right(arrivals, last)
+        others = any(piece_of.get(calls[at][3]) != number for at in range(before, behind))
+        shared += others or before > 0 and latest[before - 1] > first
+    return shared
+
+
+def _columns(report, node):
+    visits = report.visits[node]
+    return zip(visits.job, visits.arrive, visits.depart)
 
 
 def _named(nodes):
@@ -73,7 +136,7 @@ def _named(nodes):
 
 def pools_in(text, trace):
     """Returns the pools (list of ModelPool) in the lines of a model (str) whose agents and waits are columns of a trace (Trace), upstream pools
-    first, whatever number of agents the trace was made for. Raises ValueError for a pool with a roster, patience or priorities."""
+    first, whatever number of agents the trace was made for."""
     with contextlib.suppress(ValueError):
         nodes = {node.name: node for node in nodes_of(text)}
         found = sorted(_named(nodes), key=lambda item: len(in_front(nodes, [queue_name(item[0])])))
@@ -84,7 +147,8 @@ def pools_in(text, trace):
 
 def varied(texts, trace):
     """Returns the names of pools (list of str) that have different numbers of agents in these models (iterable of str), and whose agents and waits
-    are columns of a trace (Trace): the trace holds for one of the numbers at most.
+    are columns of a trace (Trace): the trace holds for one of the numbers at most. Raises ValueError if there are any and a model has a pool with a
+    roster, patience or priorities, whose waits can't be worked out again from a number.
 
     >>> from mpsim.agents.waits import varied
     >>> from mpsim.traces import Trace
@@ -93,11 +157,15 @@ def varied(texts, trace):
     >>> varied(models, trace), varied(models[:1], trace)
     (['desk'], [])
     """
-    numbers = {}
+    numbers, special = {}, []
     for text in texts:
+        special += [name for name in rostered_pools(text) if f"{name}_wait" in trace.header]
         for pool in pools_in(text, trace):
             numbers.setdefault(pool.name, set()).add(pool.agents)
-    return [name for name, counts in numbers.items() if len(counts) > 1]
+    found = [name for name, counts in numbers.items() if len(counts) > 1]
+    if found and special:
+        raise ValueError(f"{special[0]} is {_SPECIAL}: its waits hold only for this trace; run mpplan pool for each number of agents")
+    return found
 
 
 def recomputed(trace, pools):

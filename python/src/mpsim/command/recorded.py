@@ -7,6 +7,7 @@ from ..tables.intervals import HEADS, Table
 from ..times.intervals import days_of, every_of
 from ..traces.trace import Trace
 from ..tables.sheets import write_table
+from .groups import queue_word, queues_of
 from .options import calendar_of, calendar_words, every_words, resolve_within, table_words, within_word
 
 EXAMPLE = "mpplan recorded calls.csv --model model.txt --wait wait --abandoned gone --within 20 >recorded.csv"
@@ -16,6 +17,7 @@ def words(parser):
     parser.add_argument("trace", help="a trace with the recorded waits as a column")
     recorded_words(parser)
     parser.add_argument("--source", action="append", default=[], metavar="NAME", help="only calls of this source; may be repeated")
+    queue_word(parser)
     parser.add_argument("--model", metavar="FILE", help="a model whose comments give the tick and time 0")
     calendar_words(parser)
     table_words(parser)
@@ -41,11 +43,12 @@ def main(args):
     every = every_of(args.every)
     trace = Trace.read(args.trace)
     sources, times, (waits, gone) = trace.sources(), trace.times(), recorded(trace, args.wait, args.abandoned)
+    queues = queues_of(args, trace, text)
     for name in args.source:
         if name not in sources:
             raise ValueError(f"{args.trace}: no source {name!r}; it has {', '.join(dict.fromkeys(sources))}")
     kept = [at for at, source in enumerate(sources) if not args.source or source in args.source]
-    columns = [[column[at] for at in kept] for column in (sources, times, waits, gone)]
+    columns = [[column[at] for at in kept] for column in (queues, times, waits, gone)]
     # Who answered isn't asked for: agent 1 stands for any.
     calls = columns[0], columns[1], [0] * len(kept), [int(not it) for it in columns[3]], columns[2]
     table = Table(days_of(days, max(columns[1], default=0), every), calls, [Agent([])], within_of(args))

@@ -13,6 +13,7 @@ from ..tables.visits import together
 from ..times.intervals import days_of, every_of
 from ..times.texts import DAY, WEEKDAYS, given, length
 from ..traces.trace import Trace
+from .groups import queue_word, queues_of
 from .messages import say
 from .options import calendar_of, calendar_words, every_words, table_words
 
@@ -35,7 +36,8 @@ def words(parser):
     parser.add_argument("--seed", type=int, default=1, metavar="N", help="seed of random patience; default: 1")
     parser.add_argument("--max-occupancy", metavar="P", help="agents work at most this share of their time, e.g. 85%%")
     parser.add_argument("--shrinkage", default="0%", metavar="P", help="share of paid time in which an agent isn't available, e.g. 30%%")
-    parser.add_argument("--by", choices=["source"], help="also a row per source of each interval; its agents are those of all")
+    queue_word(parser)
+    parser.add_argument("--by", choices=["source"], help="also a row per source (or --queue) of each interval; its agents are those of all")
     calendar_words(parser)
     table_words(parser)
 
@@ -62,7 +64,8 @@ def goal_of(text, tick):
 
 
 def main(args):
-    days = calendar_of(args, text_of(args.model))
+    text = text_of(args.model)
+    days = calendar_of(args, text)
     every = every_of(args.every)
     share, within = given("--goal", lambda text: goal_of(text, days.tick), args.goal)
     occupancy = None if args.max_occupancy is None else given("--max-occupancy", percent, args.max_occupancy)
@@ -78,10 +81,10 @@ def main(args):
     if args.patience:
         values, _ = patience_in(args.patience, trace, days.tick, args.seed)
         patience = [values[job - 1] for job in queue.jobs]
-    every_source = trace.sources()
-    sources = [every_source[job - 1] for job in queue.jobs]
+    every_queue = queues_of(args, trace, text)
+    queues = [every_queue[job - 1] for job in queue.jobs]
     every_day = days_of(days, max(queue.arrivals, default=0), every)
-    chosen = list(zip(every_day, calls_of(every, every_day, queue.arrivals, queue.demands, patience, sources)))
+    chosen = list(zip(every_day, calls_of(every, every_day, queue.arrivals, queue.demands, patience, queues)))
     if args.date:
         chosen = [it for it in chosen if it[0].name == args.date]
         if not chosen:
@@ -100,5 +103,5 @@ def main(args):
             rows += [[name, *row] for row in rows_of(found, len(mine), every, days.tick, goal, shrinkage, bool(args.by))]
     heads = [head, HEADS[0], *(["queue"] if args.by else []), *HEADS[1:]]
     write_table([heads, *rows], args.format, args.csv_style)
-    if not args.by and (mixed := together({args.node: sources})):
+    if not args.by and (mixed := together({args.node: queues})):
         say(f"{mixed}; --by source gives each")

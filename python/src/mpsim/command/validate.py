@@ -9,7 +9,7 @@ from ..tables.sheets import write_table
 from ..times.intervals import days_of, every_of
 from ..times.texts import SECOND, given
 from ..traces.trace import Trace
-from .groups import group_of, group_words
+from .groups import group_of, group_words, queues_of
 from .messages import say
 from .options import calendar_of, calendar_words, resolve_within, table_words
 from .recorded import recorded_words, within_of
@@ -61,9 +61,9 @@ def main(args):
     trace = Trace.read(args.trace)
     queue = Queue(args.model, trace, args.node)
     waits, gone = recorded(trace, args.wait, args.abandoned)
-    last, sources = max(queue.arrivals, default=0), trace.sources()
-    _, group = group_of(args, days, last, sources)
-    cells = compared(queue, group, days_of(days, last, every), waits, gone)
+    last, queues = max(queue.arrivals, default=0), queues_of(args, trace, text)
+    _, group = group_of(args, days, last, queues)
+    cells = compared(queue, group, days_of(days, last, every), waits, gone, queues)
     rows = list(rows_of(cells, within_of(args), max(1, SECOND // days.tick), every))
     say(verdict([row for row in rows if row[1] == "all"], trust))
     write_table([HEADS, *rows], args.format, args.csv_style)
