@@ -79,7 +79,7 @@ class Sweep(dict):
         ...     os.listdir(folder)
         ['places.html']
         """
-        from .page import save
+        from ..page import save
 
         reports = self.reports()
         save(path, reports.values(), reports, title, **options)

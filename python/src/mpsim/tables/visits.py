@@ -49,7 +49,7 @@ def sources_in(report: "Report") -> Dict[int, str]:
     """Returns the source (str) of each job of a report with visits, by its record (int, from 1).
 
     >>> import mpsim
-    >>> report = mpsim.run("model 1\nsource phone\nsource mail\nserver desk =4 from phone mail\n", [("phone", 0), ("mail", 1)], jobs=True)
+    >>> report = mpsim.run("model 1\\nsource phone\\nsource mail\\nserver desk =4 from phone mail\\n", [("phone", 0), ("mail", 1)], jobs=True)
     >>> sources_in(report)
     {1: 'phone', 2: 'mail'}
     """
