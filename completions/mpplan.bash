@@ -4,7 +4,7 @@ _mpplan() {
     local word=${COMP_WORDS[COMP_CWORD]} i choices='' given=' ' options='' repeated=' ' left=''
     COMPREPLY=()
     if ((COMP_CWORD == 1)); then
-        COMPREPLY=($(compgen -W 'prepare scale edit pool staff recorded validate run days table compare service hours sojourns sweep page --help --version' -- "$word"))
+        COMPREPLY=($(compgen -W 'prepare scale edit pool grid staff recorded validate run days table compare service hours sojourns sweep page --help --version' -- "$word"))
         return
     fi
     case ${COMP_WORDS[1]} in
@@ -25,6 +25,10 @@ _mpplan() {
             options='--node --agents --roster --queue --first --then --choose --patience --seed --every --tick --start --zone --by --out
                 --out-model --report --within --percentile --format --csv-style --help'
             repeated=' --first --then --within --percentile '
+            ;;
+        grid)
+            options='--node --agents --load --add --goal --shift --times --page --tick --start --zone --format --csv-style --help'
+            repeated=' --add '
             ;;
         staff)
             options='--node --goal --every --weekday --date --patience --seed --max-occupancy --shrinkage --queue --by --tick --start --zone
@@ -84,6 +88,8 @@ _mpplan() {
         pool.--by) choices='trunk agents' ;;
         pool.--format) choices='csv json md xlsx' ;;
         pool.--csv-style) choices='plain excel-de' ;;
+        grid.--format) choices='csv json md xlsx' ;;
+        grid.--csv-style) choices='plain excel-de' ;;
         staff.--weekday) choices='Monday Tuesday Wednesday Thursday Friday Saturday Sunday' ;;
         staff.--by) choices='source' ;;
         staff.--format) choices='csv json md xlsx' ;;
@@ -111,12 +117,12 @@ _mpplan() {
         sojourns.--format) choices='csv json md xlsx' ;;
         sojourns.--csv-style) choices='plain excel-de' ;;
         sweep.--csv-style) choices='plain excel-de' ;;
-        *.--abandoned | *.--agents | *.--answered | *.--begin | *.--by | *.--close | *.--code | *.--constant | *.--date | *.--date-format | \
-            *.--day | *.--delimiter | *.--demand | *.--empty | *.--encoding | *.--end | *.--every | *.--first | *.--format | *.--from | \
-            *.--goal | *.--header | *.--labels | *.--left-out-most | *.--max-occupancy | *.--node | *.--open | *.--patience | *.--percentile \
-            | *.--pool | *.--queue | *.--rename | *.--seed | *.--set | *.--shard | *.--sheet | *.--shift | *.--shrinkage | *.--skip | \
-            *.--source | *.--start | *.--then | *.--tick | *.--time | *.--title | *.--trust-calls | *.--trust-interval | *.--trust-overall | \
-            *.--until | *.--wait | *.--where | *.--within | *.--zone) return ;;
+        *.--abandoned | *.--add | *.--agents | *.--answered | *.--begin | *.--by | *.--close | *.--code | *.--constant | *.--date | \
+            *.--date-format | *.--day | *.--delimiter | *.--demand | *.--empty | *.--encoding | *.--end | *.--every | *.--first | *.--format \
+            | *.--from | *.--goal | *.--header | *.--labels | *.--left-out-most | *.--load | *.--max-occupancy | *.--node | *.--open | \
+            *.--patience | *.--percentile | *.--pool | *.--queue | *.--rename | *.--seed | *.--set | *.--shard | *.--sheet | *.--shift | \
+            *.--shrinkage | *.--skip | *.--source | *.--start | *.--then | *.--tick | *.--time | *.--title | *.--trust-calls | \
+            *.--trust-interval | *.--trust-overall | *.--until | *.--wait | *.--where | *.--within | *.--zone) return ;;
     esac
     if [[ $choices ]]; then
         COMPREPLY=($(compgen -W "$choices" -- "$word"))

@@ -5,6 +5,7 @@ COMMANDS = {
     "scale": "scale the load of a trace up or down",
     "edit": "change, add or remove records of a trace",
     "pool": "divide the calls of a trace among agents who share one queue",
+    "grid": "compare numbers of agents and loads, as a table and a heat map",
     "staff": "find the least number of agents per interval of the day that reaches a service level",
     "recorded": "report what the telephone system recorded, abandoned calls included, per interval of the day",
     "validate": "compare recorded waits with those of a model, per interval of the day",

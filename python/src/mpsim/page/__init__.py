@@ -1,7 +1,5 @@
 """Makes the page of a run, or of several side by side: one HTML file that loads nothing from the network; and the excerpt that a notebook shows."""
 
-import base64
-import hashlib
 import json
 import os
 from html import escape
@@ -13,21 +11,10 @@ from .colours import in_light, style
 from .flows import flows
 from .network import arguments_of, network, nodes_that_are_drawn
 from .pictures import NUMBERS, pictures_of
+from .parts import part, policy, shown_text
 from .tables import columns_of, exits_table, facts, legend, nodes_table
 
-HERE = os.path.dirname(os.path.abspath(__file__))
 SCRIPTS = "figures.js", "pictures.js", "page.js"
-
-
-def _part(name):
-    with open(os.path.join(HERE, name), encoding="utf-8") as file:
-        return file.read()
-
-
-def _policy(script):
-    """The browser's policy for the page: no network access, and only the page's own script."""
-    digest = base64.b64encode(hashlib.sha256(script.encode()).digest()).decode()
-    return f"default-src 'none'; style-src 'unsafe-inline'; script-src 'sha256-{digest}'; base-uri 'none'; form-action 'none'"
 
 
 def _first_node(nodes):
@@ -43,8 +30,8 @@ def _exact(value):
 
 
 def _texts(label):
-    """Returns the texts (list of str) of a label; those of a tuple are several. A file name that isn't UTF-8 can't appear in a page."""
-    return [str(it).encode(errors="surrogateescape").decode(errors="replace") for it in (label if isinstance(label, tuple) else [label])]
+    """Returns the texts (list of str) of a label; those of a tuple are several."""
+    return list(map(shown_text, label if isinstance(label, tuple) else [label]))
 
 
 def _data(reports, lines, labels, columns, tick, start, within):
@@ -100,20 +87,20 @@ def page(reports, labels=None, title=None, tick=None, start=None, within=None):
     parts = list(map(_texts, labels or range(1, len(reports) + 1)))
     labels = [", ".join(texts) for texts in parts]
     first, is_several = reports[0], len(reports) > 1
-    title = (title or (f"{len(reports)} runs" if is_several else "Run")).encode(errors="surrogateescape").decode(errors="replace")
+    title = shown_text(title or (f"{len(reports)} runs" if is_several else "Run"))
     columns, lines = columns_of(reports, within), [beside_pools(report) for report in reports]
     data = _data(reports, lines, parts, columns, tick, start, within)
-    script = "(() => {\n'use strict';\n" + "".join(map(_part, SCRIPTS)) + "})();\n"
+    script = "(() => {\n'use strict';\n" + "".join(map(part, SCRIPTS)) + "})();\n"
     svg = network(first, lines[0], data["node"])
-    return Template(_part("page.html")).substitute(
-        policy=escape(_policy(script)),
+    return Template(part("page.html")).substitute(
+        policy=escape(policy(script)),
         title=escape(title),
-        style=style() + _part("piece.css") + _part("page.css"),
+        style=style() + part("piece.css") + part("page.css"),
         facts=facts(first),
         pools="".join(f"\n<p>{escape(pool_line)}</p>" for pool_line in pool_lines(reports, lacks=True)),
         runs=f'<label>Run <select id="run">{_options(labels)}</select></label>' if is_several else "",
-        network=Template(_part("network.html")).substitute(legend=legend(), svg=svg) if svg else "",
-        compared=_part("compared.html") if is_several else "",
+        network=Template(part("network.html")).substitute(legend=legend(), svg=svg) if svg else "",
+        compared=part("compared.html") if is_several else "",
         nodes=_options([line.name for line in lines[0]], data["node"]),
         tables=nodes_table(first, lines[0], columns),
         exits="" if is_several else exits_table(first),
@@ -137,7 +124,7 @@ def drawing(report):
         raise ValueError("the network needs the model of the report")
     head, body = svg.split(">", 1)
     head = head.replace("<svg ", '<svg xmlns="http://www.w3.org/2000/svg" ', 1)
-    rules = in_light(_part("piece.css"))
+    rules = in_light(part("piece.css"))
     ground = in_light('<rect width="100%" height="100%" fill="var(--paper)"/>')
     return f'{head}><style>{rules}</style>{ground}<g class="mpsim">{body.removesuffix("</svg>")}</g></svg>\n'
 
@@ -149,4 +136,4 @@ def piece(report):
     drawn = f'{legend()}<div class="scroll">{svg}</div>' if svg else ""
     tables = nodes_table(report, lines, columns_of([report]), is_still=True) + exits_table(report, is_still=True)
     text = f'<p>{facts(report)}</p>{drawn}<div class="scroll">{tables}</div>'
-    return f'<div class="mpsim piece"><style>{style()}{_part("piece.css")}</style>{text}</div>'
+    return f'<div class="mpsim piece"><style>{style()}{part("piece.css")}</style>{text}</div>'
