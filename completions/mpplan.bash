@@ -4,7 +4,7 @@ _mpplan() {
     local word=${COMP_WORDS[COMP_CWORD]} i choices='' given=' ' options='' repeated=' ' left=''
     COMPREPLY=()
     if ((COMP_CWORD == 1)); then
-        COMPREPLY=($(compgen -W 'prepare scale edit pool grid staff recorded validate run days table compare service hours sojourns sweep page --help --version' -- "$word"))
+        COMPREPLY=($(compgen -W 'prepare scale resample edit pool grid staff recorded validate run days table compare service hours sojourns sweep page --help --version' -- "$word"))
         return
     fi
     case ${COMP_WORDS[1]} in
@@ -17,6 +17,11 @@ _mpplan() {
         scale)
             options='--by --shift --times --twins --source --out --model --tick --start --zone --help'
             repeated=' --source '
+            ;;
+        resample)
+            options='--model --unit --count --seed --out --node --agents --within --percentile --tick --start --zone --format --csv-style
+                --help'
+            repeated=' --node --within --percentile '
             ;;
         edit)
             options='--model --out --edits --help'
@@ -84,6 +89,9 @@ _mpplan() {
         prepare.--twice) choices='first second order' ;;
         prepare.--duplicates) choices='drop keep' ;;
         prepare.--decimal) choices='. ,' ;;
+        resample.--unit) choices='day' ;;
+        resample.--format) choices='csv json md xlsx' ;;
+        resample.--csv-style) choices='plain excel-de' ;;
         pool.--choose) choices='longest-idle first' ;;
         pool.--by) choices='trunk agents' ;;
         pool.--format) choices='csv json md xlsx' ;;
@@ -117,11 +125,11 @@ _mpplan() {
         sojourns.--format) choices='csv json md xlsx' ;;
         sojourns.--csv-style) choices='plain excel-de' ;;
         sweep.--csv-style) choices='plain excel-de' ;;
-        *.--abandoned | *.--add | *.--agents | *.--answered | *.--begin | *.--by | *.--close | *.--code | *.--constant | *.--date | \
-            *.--date-format | *.--day | *.--delimiter | *.--demand | *.--empty | *.--encoding | *.--end | *.--every | *.--first | *.--format \
-            | *.--from | *.--goal | *.--header | *.--labels | *.--left-out-most | *.--load | *.--max-occupancy | *.--node | *.--open | \
-            *.--patience | *.--percentile | *.--pool | *.--queue | *.--rename | *.--seed | *.--set | *.--shard | *.--sheet | *.--shift | \
-            *.--shrinkage | *.--skip | *.--source | *.--start | *.--then | *.--tick | *.--time | *.--title | *.--trust-calls | \
+        *.--abandoned | *.--add | *.--agents | *.--answered | *.--begin | *.--by | *.--close | *.--code | *.--constant | *.--count | \
+            *.--date | *.--date-format | *.--day | *.--delimiter | *.--demand | *.--empty | *.--encoding | *.--end | *.--every | *.--first | \
+            *.--format | *.--from | *.--goal | *.--header | *.--labels | *.--left-out-most | *.--load | *.--max-occupancy | *.--node | \
+            *.--open | *.--patience | *.--percentile | *.--pool | *.--queue | *.--rename | *.--seed | *.--set | *.--shard | *.--sheet | \
+            *.--shift | *.--shrinkage | *.--skip | *.--source | *.--start | *.--then | *.--tick | *.--time | *.--title | *.--trust-calls | \
             *.--trust-interval | *.--trust-overall | *.--until | *.--wait | *.--where | *.--within | *.--zone) return ;;
     esac
     if [[ $choices ]]; then

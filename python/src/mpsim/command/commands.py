@@ -3,6 +3,7 @@
 COMMANDS = {
     "prepare": "make a trace from an export, whatever its delimiter, encoding, time format and names, and start a model for it",
     "scale": "scale the load of a trace up or down",
+    "resample": "draw other traces from the days of one, and report how much the figures of a node vary",
     "edit": "change, add or remove records of a trace",
     "pool": "divide the calls of a trace among agents who share one queue",
     "grid": "compare numbers of agents and loads, as a table and a heat map",

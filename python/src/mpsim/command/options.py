@@ -37,6 +37,10 @@ def calendar_of(args, model=None):
 
 def figure_words(parser, what="waits", share="report the share served within this many ticks (default: 20)"):
     parser.add_argument("--within", type=ticks, action=Once, metavar="TIME", help=f"{share}, or a time such as 20s; may be repeated")
+    percentile_word(parser, what)
+
+
+def percentile_word(parser, what="waits"):
     says = f"percentile of the {what} to report (default: 50, 90, 95 and 99); may be repeated"
     parser.add_argument("--percentile", type=float, action=Once, metavar="P", help=says)
 
