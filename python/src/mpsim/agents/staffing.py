@@ -118,9 +118,10 @@ class Search:
         while agents and not self.holds(agents, tried):
             agents += 1
             tried = self.tried(agents)
-        self._choose(number, agents, tried)
+        self.choose(number, agents, tried)
 
-    def _choose(self, number, agents, tried):
+    def choose(self, number, agents, tried):
+        """Sets the number of agents of the next interval, and each day at its end, which `tried` returned."""
         self.states = tried
         for it in tried:
             for at, wait, queue in it.began:
@@ -176,6 +177,23 @@ def least(days, goal, progress=None):
         search.step()
         if progress:
             progress(number + 1)
+    return search.found
+
+
+def with_numbers(days: list, goal: Goal, numbers: List[int]) -> List[Interval]:
+    """Returns an Interval for each interval of a day, with these numbers of agents (list of int), whether they reach a Goal or not; `days` are those
+    of `least`.
+
+    >>> from mpsim.times.calendar import Calendar
+    >>> from mpsim.times.intervals import days_of
+    >>> day, = days_of(Calendar(10**9), 0, 43200 * 10**9)
+    >>> calls = [[Waiting(0, at, 60, None) for at in (0, 10, 20, 100)], []]
+    >>> [it.within(20) for it in with_numbers([(day, calls)], Goal(Fraction(3, 4), 20), [1, 0])]
+    [0.25, None]
+    """
+    search = Search(days, goal)
+    for number, agents in enumerate(numbers):
+        search.choose(number, agents, search.tried(agents))
     return search.found
 
 

@@ -52,17 +52,13 @@ def _longer(args, trace, demand, tick):
     return trace
 
 
-def _copying(args, trace, days):
-    """Returns the Copying that the arguments ask for."""
-    if args.times:
-        if args.shift:
-            raise ValueError("--times makes no copies: give it without --shift")
-        return Copying("times")
+def copying_of(trace, days, shift=None):
+    """Returns the Copying by a length of time (str), by default a week, or a day for a trace of less than two weeks, for a Calendar."""
     times = trace.times()
     span = (max(times, default=0) - min(times, default=0)) * days.tick
-    nanos = given("--shift", length, args.shift) if args.shift else 7 * DAY if span >= 13 * DAY else DAY
+    nanos = given("--shift", length, shift) if shift else 7 * DAY if span >= 13 * DAY else DAY
     if nanos < days.tick:
-        raise ValueError(f"--shift {args.shift}: it is shorter than a tick")
+        raise ValueError(f"--shift {shift}: it is shorter than a tick")
     return Copying("shift", nanos // days.tick, days if days.place.zone and nanos % DAY == 0 else None)
 
 
@@ -86,7 +82,9 @@ def main(args):
         raise ValueError(f"{warning.removeprefix('warning: ')}: give the trace before the pool")
     demand = next((node.arguments for node in nodes_of(text) if node.name == args.node and node.kind == "server"), "")
     trace = _longer(args, trace, demand, days.tick)
-    copying = _copying(args, trace, days) if max(loads) > 1 or args.times else Copying("twins")
+    if args.times and args.shift:
+        raise ValueError("--times makes no copies: give it without --shift")
+    copying = Copying("times") if args.times else copying_of(trace, days, args.shift)
     with Progress(len(agents) * len(loads), "cells") as progress:
         header, *rows = grid(args.model, trace, args.node, agents, loads, copying, (within,), tell=progress)
     write_table([header, *rows], args.format, args.csv_style)

@@ -60,6 +60,20 @@ def spoken(seconds: float) -> str:
     return f"{whole // 3600} h {whole % 3600 // 60} min"
 
 
+def in_words(seconds: float) -> str:
+    """Returns a time for reading, in words.
+
+    >>> in_words(1), in_words(20), in_words(75), in_words(7260)
+    ('1 second', '20 seconds', '1 minute 15 seconds', '2 hours 1 minute')
+    """
+    words = []
+    for count, unit in zip(*[iter(spoken(seconds).split())] * 2):
+        word = {"s": "second", "min": "minute", "h": "hour"}[unit]
+        if count != "0" or not words and unit == "s":
+            words.append(f"{count} {word}{'' if count == '1' else 's'}")
+    return " ".join(words)
+
+
 def percent(share: float) -> str:
     """Returns a share as a percentage with one decimal.
 

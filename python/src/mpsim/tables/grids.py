@@ -72,6 +72,19 @@ def with_longer(trace: Trace, column: str, more: int) -> Trace:
     return trace.with_values(**{column: made})
 
 
+def with_copies(trace: Trace, load: Fraction, copying: Copying) -> Trace:
+    """Returns a trace with this load. Raises ValueError for too many records.
+
+    >>> with_copies(Trace("t.csv", ["source", "time"], [["a", "0"], ["a", "9"]]), Fraction(1, 2), Copying("shift", 9)).times()
+    [9]
+    """
+    k, n = load.numerator, load.denominator
+    way = copying.way if load > 1 or copying.way == "times" else "twins"
+    if (over := count_of(trace, k, n, way, ()) - RECORDS) > 0:
+        raise ValueError(f"load {load_text(load)}: {counted(over, 'record')} above the limit of {RECORDS}")
+    return scaled(trace, k, n, way, copying.shift, (), copying.days)
+
+
 def grid(
     model: object,
     trace: Trace,
@@ -98,12 +111,7 @@ def grid(
     yield ["load", "agents", "util", *heads(within, percents)]
     done = 0
     for load in loads:
-        k, n = load.numerator, load.denominator
-        way = copying.way if load > 1 or copying.way == "times" else "twins"
-        if (over := count_of(trace, k, n, way, ()) - RECORDS) > 0:
-            raise ValueError(f"--load {load_text(load)}: {counted(over, 'record')} above the limit of {RECORDS}")
-        made = scaled(trace, k, n, way, copying.shift, (), copying.days)
-        rows = staffing(Queue(model, made, node), agents, within, percents)
+        rows = staffing(Queue(model, with_copies(trace, load, copying), node), agents, within, percents)
         next(rows)
         for row in rows:
             done += 1
