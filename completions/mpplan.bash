@@ -4,7 +4,7 @@ _mpplan() {
     local word=${COMP_WORDS[COMP_CWORD]} i choices='' given=' ' options='' repeated=' ' left=''
     COMPREPLY=()
     if ((COMP_CWORD == 1)); then
-        COMPREPLY=($(compgen -W 'prepare scale resample edit pool grid staff recorded validate run days table compare service hours sojourns sweep page --help --version' -- "$word"))
+        COMPREPLY=($(compgen -W 'prepare scale resample edit pool grid staff decision recorded validate run days table compare service hours sojourns sweep page --help --version' -- "$word"))
         return
     fi
     case ${COMP_WORDS[1]} in
@@ -38,6 +38,11 @@ _mpplan() {
         staff)
             options='--node --goal --every --weekday --date --patience --seed --max-occupancy --shrinkage --queue --by --tick --start --zone
                 --format --csv-style --help'
+            ;;
+        decision)
+            options='--node --out --title --goal --every --weekday --date --agents --roster --queue --first --then --choose --wait
+                --abandoned --patience --seed --shrinkage --cost --what-if --assume --missing --tick --start --zone --help'
+            repeated=' --first --then --what-if --assume --missing '
             ;;
         recorded)
             options='--wait --abandoned --within --every --source --queue --model --tick --start --zone --format --csv-style --help'
@@ -102,6 +107,8 @@ _mpplan() {
         staff.--by) choices='source' ;;
         staff.--format) choices='csv json md xlsx' ;;
         staff.--csv-style) choices='plain excel-de' ;;
+        decision.--weekday) choices='Monday Tuesday Wednesday Thursday Friday Saturday Sunday' ;;
+        decision.--choose) choices='longest-idle first' ;;
         recorded.--format) choices='csv json md xlsx' ;;
         recorded.--csv-style) choices='plain excel-de' ;;
         validate.--choose) choices='longest-idle first' ;;
@@ -125,12 +132,13 @@ _mpplan() {
         sojourns.--format) choices='csv json md xlsx' ;;
         sojourns.--csv-style) choices='plain excel-de' ;;
         sweep.--csv-style) choices='plain excel-de' ;;
-        *.--abandoned | *.--add | *.--agents | *.--answered | *.--begin | *.--by | *.--close | *.--code | *.--constant | *.--count | \
-            *.--date | *.--date-format | *.--day | *.--delimiter | *.--demand | *.--empty | *.--encoding | *.--end | *.--every | *.--first | \
-            *.--format | *.--from | *.--goal | *.--header | *.--labels | *.--left-out-most | *.--load | *.--max-occupancy | *.--node | \
-            *.--open | *.--patience | *.--percentile | *.--pool | *.--queue | *.--rename | *.--seed | *.--set | *.--shard | *.--sheet | \
-            *.--shift | *.--shrinkage | *.--skip | *.--source | *.--start | *.--then | *.--tick | *.--time | *.--title | *.--trust-calls | \
-            *.--trust-interval | *.--trust-overall | *.--until | *.--wait | *.--where | *.--within | *.--zone) return ;;
+        *.--abandoned | *.--add | *.--agents | *.--answered | *.--assume | *.--begin | *.--by | *.--close | *.--code | *.--constant | \
+            *.--cost | *.--count | *.--date | *.--date-format | *.--day | *.--delimiter | *.--demand | *.--empty | *.--encoding | *.--end | \
+            *.--every | *.--first | *.--format | *.--from | *.--goal | *.--header | *.--labels | *.--left-out-most | *.--load | \
+            *.--max-occupancy | *.--missing | *.--node | *.--open | *.--patience | *.--percentile | *.--pool | *.--queue | *.--rename | \
+            *.--seed | *.--set | *.--shard | *.--sheet | *.--shift | *.--shrinkage | *.--skip | *.--source | *.--start | *.--then | *.--tick \
+            | *.--time | *.--title | *.--trust-calls | *.--trust-interval | *.--trust-overall | *.--until | *.--wait | *.--what-if | \
+            *.--where | *.--within | *.--zone) return ;;
     esac
     if [[ $choices ]]; then
         COMPREPLY=($(compgen -W "$choices" -- "$word"))

@@ -137,7 +137,7 @@ class Decisions(InFolder):
 
     def test_its_words(self):
         """Clock times, minutes and people, and nothing that only we know."""
-        page = self.page("--roster", ROSTER, *WAITS, "--cost", "35/h", "--left-out", "12 rows: no time", "--assume", "Nobody is ill.", "--patience", "4min")
+        page = self.page("--roster", ROSTER, *WAITS, "--cost", "35/h", "--missing", "12 rows: no time", "--assume", "Nobody is ill.", "--patience", "4min")
         text = text_in(next(elements(page.tree, "main")))
         self.assertNotRegex(text, r"(?i)\b(ticks?|queues?|nodes?|servers?|pools?|percentile|p90|occupancy|service level|interval)\b")
         for word in "Monday, 23 March 2026 to Saturday, 28 March 2026: 713 calls.", "08:30", "Nobody is ill.", "Callers who wait give up after 4min.":

@@ -52,7 +52,7 @@ def words(parser):
     says = "a case beside the proposal: load=110%%, handling=20s, agents=-1; may be repeated; default: those and agents=+1"
     parser.add_argument("--what-if", action="append", default=[], metavar="CASE", help=says)
     parser.add_argument("--assume", action="append", default=[], metavar="TEXT", help="a further assumption for the page; may be repeated")
-    parser.add_argument("--left-out", action="append", default=[], metavar="TEXT", help="what the trace lacks, e.g. '12 rows: no time'; may be repeated")
+    parser.add_argument("--missing", action="append", default=[], metavar="TEXT", help="what the trace lacks, e.g. '12 rows: no time'; may be repeated")
     calendar_words(parser)
 
 
@@ -149,8 +149,8 @@ def _left_out(args, trace, queue, chosen, node):
         yield f"{counted(away, 'record')} of {len(trace.rows):,}, which don't come to {node}."
     if other := chosen.count(False):
         yield f"{counted(other, 'call')} on other days."
-    yield from args.left_out
-    if not args.left_out:
+    yield from args.missing
+    if not args.missing:
         yield "Whether rows were left out before these calls were counted isn't known here."
 
 
