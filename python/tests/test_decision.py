@@ -66,7 +66,8 @@ class Decisions(InFolder):
         says += f"this costs {35 * paid:,.2f} EUR per week. With it {int(100 * share)} of 100 of these callers are answered in time."
         self.assertTrue(page.sections["What is proposed"].startswith(says), page.sections["What is proposed"])
         most = max(rows, key=lambda row: int(row["agents"]))
-        self.assertTrue(page.sections["What is proposed"].endswith(f"At most {most['agents']} people answer at the same time, first on {most['weekday']} at {most['from']}."))
+        says = f"At most {most['agents']} people answer at the same time, first on {most['weekday']} at {most['from']}."
+        self.assertTrue(page.sections["What is proposed"].endswith(says))
         self.assertEqual(page.tables["cases"][1][:4], ["as proposed", f"{hours:g}", f"{35 * paid:,.2f} EUR", ""])
 
     def test_what_was(self):
@@ -99,7 +100,8 @@ class Decisions(InFolder):
 
     def test_what_ifs(self):
         """The same calls give the proposal again; one person fewer, and longer calls, what the pool gives that is staffed so."""
-        page = self.page("--date", "2026-03-24", "--what-if", "load=100%", "--what-if", "handling=0s", "--what-if", "agents=-1", "--what-if", "handling=25s")
+        cases = [word for case in ("load=100%", "handling=0s", "agents=-1", "handling=25s") for word in ("--what-if", case)]
+        page = self.page("--date", "2026-03-24", *cases)
         _, own, load, same, fewer, longer = page.tables["cases"]
         for row in load, same:
             self.assertEqual((row[1], row[3], row[4]), (own[1], own[3], own[3]))
@@ -108,7 +110,8 @@ class Decisions(InFolder):
         later = self.file("l.csv", text_of(tuesday))
         planner("edit", tuesday, self.file("c.csv", "record,talk\n*,+25\n"), "--out", later)
         rows = {row["from"]: int(row["agents"]) for row in self.staff("--date", "2026-03-24")}
-        self.assertEqual((page.sections["The goal"], own[1]), ("80 of 100 callers are to be answered within 20 seconds.", f"{sum(rows.values()) / 2:g}"))
+        self.assertEqual(page.sections["The goal"], "80 of 100 callers are to be answered within 20 seconds.")
+        self.assertEqual(own[1], f"{sum(rows.values()) / 2:g}")
 
         def share(path, more):
             steps = []
@@ -137,13 +140,15 @@ class Decisions(InFolder):
 
     def test_its_words(self):
         """Clock times, minutes and people, and nothing that only we know."""
-        page = self.page("--roster", ROSTER, *WAITS, "--cost", "35/h", "--missing", "12 rows: no time", "--assume", "Nobody is ill.", "--patience", "4min")
+        more = "--missing", "12 rows: no time", "--assume", "Nobody is ill.", "--patience", "4min"
+        page = self.page("--roster", ROSTER, *WAITS, "--cost", "35/h", *more)
         text = text_in(next(elements(page.tree, "main")))
         self.assertNotRegex(text, r"(?i)\b(ticks?|queues?|nodes?|servers?|pools?|percentile|p90|occupancy|service level|interval)\b")
         for word in "Monday, 23 March 2026 to Saturday, 28 March 2026: 713 calls.", "08:30", "Nobody is ill.", "Callers who wait give up after 4min.":
             self.assertIn(word, text)
         self.assertEqual(page.sections["What was left out"], "12 rows: no time")
-        self.assertEqual(list(page.sections), ["The goal", "What was", "What is proposed", "Who is needed when", "What if", "What this assumes", "What was left out"])
+        heads = "The goal", "What was", "What is proposed", "Who is needed when", "What if", "What this assumes", "What was left out"
+        self.assertEqual(tuple(page.sections), heads)
         charts = [it for it in elements(page.tree, "svg")]
         self.assertEqual([it[1]["aria-label"] for it in charts][0], "Monday: people needed and in the roster by time of day")
         self.assertEqual(len(charts), 6)
@@ -175,7 +180,7 @@ class Decisions(InFolder):
         self.page("--roster", ROSTER, *WAITS, "--cost", "35 EUR/h", "--shrinkage", "30%")
         made = self.folder / "d.pdf"
         words = [CHROMIUM, "--headless=new", "--no-sandbox", "--disable-gpu", f"--user-data-dir={self.folder / 'user'}", f"--print-to-pdf={made}"]
-        subprocess.run([*words, pathlib.Path(self.folder, "d.html").as_uri()], check=True, stdout=subprocess.DEVNULL, stderr=subprocess.DEVNULL, timeout=60)
+        subprocess.run([*words, pathlib.Path(self.folder, "d.html").as_uri()], check=True, capture_output=True, timeout=60)
         self.assertEqual(len(re.findall(rb"/Type\s*/Page\b", made.read_bytes())), 1)
 
 
@@ -185,8 +190,8 @@ class Small(Test):
             self.assertEqual(cost_of(text), cost)
 
     def test_names_of_cases(self):
-        names = {"load=112%": "12 % more calls", "load=90%": "10 % fewer calls", "handling=-1min": "each call takes 1 minute less", "agents=+2": "2 people more at any time"}
-        for text, name in names.items():
+        names = {"load=112%": "12 % more calls", "load=90%": "10 % fewer calls", "handling=-1min": "each call takes 1 minute less"}
+        for text, name in {**names, "agents=+2": "2 people more at any time"}.items():
             self.assertEqual(_Case(text).name, name)
 
     def test_texts_are_no_markup(self):

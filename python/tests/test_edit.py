@@ -139,7 +139,8 @@ class Forms(Changing):
     def test_all_records_and_those_to_the_end(self):
         """`*` is every record that is left, those added before included; `2-` goes to the end."""
         trace = "source,time,d\na,0,10\na,5,20\na,9,30\n"
-        self.assertEqual(self.rows("record,d\n*,+1\n", trace, told="3 records (from 3): 3 changed, 0 added, 0 removed"), ["a,0,11\n", "a,5,21\n", "a,9,31\n"])
+        told = "3 records (from 3): 3 changed, 0 added, 0 removed"
+        self.assertEqual(self.rows("record,d\n*,+1\n", trace, told=told), ["a,0,11\n", "a,5,21\n", "a,9,31\n"])
         self.assertEqual(self.rows("record,d\n2-,*2\n", trace), ["a,0,10\n", "a,5,40\n", "a,9,60\n"])
         changes = "record,source,time,d,out\n+,b,7,40,\n2,,,,yes\n*,,+1,,\n3-,,,+1,\n"
         told = "3 records (from 3): 2 changed, 1 added, 1 removed"

@@ -29,7 +29,7 @@ def spreadsheet(*words):
     """Returns the bytes that a call writes to standard output."""
     code = "import sys; from mpsim.command import main; sys.exit(main(sys.argv[1:]))"
     settings = {**os.environ, "PYTHONPATH": str(pathlib.Path(mpsim.__file__).parents[1])}
-    return subprocess.run([sys.executable, "-c", code, *map(str, words)], stdout=subprocess.PIPE, stderr=subprocess.DEVNULL, check=True, env=settings).stdout
+    return subprocess.run([sys.executable, "-c", code, *map(str, words)], capture_output=True, check=True, env=settings).stdout
 
 
 class Validate(Test):
@@ -115,7 +115,8 @@ class Commands(InFolder):
         self.assertIn("may not be trusted", self.table(*three, *enough[:2])[1])
         self.assertIn("may not be trusted", self.table(*three, *enough[2:])[1])
         self.assertIn("the model may be trusted", self.table(*three, *enough[:2], "--trust-calls", 714)[1])
-        self.assertIn("no interval of 1 call or more differs by more than 100 points", self.table(*three, *enough[:2], "--trust-interval", 100, "--trust-calls", 1)[1])
+        said = self.table(*three, *enough[:2], "--trust-interval", 100, "--trust-calls", 1)[1]
+        self.assertIn("no interval of 1 call or more differs by more than 100 points", said)
         for option, text in ("--trust-overall", "-1"), ("--trust-interval", "x"), ("--trust-interval", "101"):
             self.refuses(f"{option} {text}: expected percentage points from 0 to 100, such as 2.5", *three, f"{option}={text}")
         self.refuses("--trust-calls 0: expected a number of calls, 1 or more", *three, "--trust-calls", 0)

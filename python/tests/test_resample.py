@@ -31,8 +31,8 @@ def tick_of(moment):
 
 
 def four_weeks():
-    """Twenty-eight days from Monday, 9 March 2026, each with calls at minutes of its own; clocks go forward on the third Sunday; no call on the second
-    Tuesday."""
+    """Twenty-eight days from Monday, 9 March 2026, each with calls at minutes of its own; clocks go forward on the third Sunday; no call on the
+    second Tuesday."""
     rows = []
     for day in range(28):
         for at in range(5 if day != 8 else 0):

@@ -104,7 +104,8 @@ class Pools(InFolder):
         words = "pool", model, trace, "--node", "desk", "--agents", 1
         self.tells(*words, error="mpplan: figures of several sources together (mail, phone) at desk; --every gives each\n")
         rows = list(csv.DictReader(io.StringIO(self.tells(*words, "--every", "1h"))))
-        self.assertEqual([(row["queue"], row["offered"], row["within"]) for row in rows[:3]], [("all", "2", "0.5"), ("mail", "1", "0.0"), ("phone", "1", "1.0")])
+        want = [("all", "2", "0.5"), ("mail", "1", "0.0"), ("phone", "1", "1.0")]
+        self.assertEqual([(row["queue"], row["offered"], row["within"]) for row in rows[:3]], want)
         self.tells("pool", model, self.file("t.csv", "source,time,d\nphone,0,50\n"), "--node", "desk", "--agents", 1)
 
     def test_the_model_keeps_its_first_lines(self):
@@ -112,7 +113,8 @@ class Pools(InFolder):
         lines = MODEL.splitlines()
         for end in "\n", "\r\n":
             model, trace = self.file("m.txt", end.join([*lines, ""])), self.file("t.csv", "source,time,d\nphone,0,50\n")
-            for words in ("--agents", 1), ("--agents", 3), ("--agents", 9, "--by", "agents"), ("--agents", "0:00=2"), ("--agents", 1, "--patience", "5s"):
+            plain = ("--agents", 1), ("--agents", 3), ("--agents", 9, "--by", "agents")
+            for words in *plain, ("--agents", "0:00=2"), ("--agents", 1, "--patience", "5s"):
                 self.tells("pool", model, trace, "--node", "desk", *words, "--out-model", self.model)
                 self.assertEqual(text_of(self.model).splitlines()[1], lines[1])
                 self.assertEqual(settings_in(text_of(self.model)), (SECOND, "2026-03-02T00:00:00+01:00", "Europe/Berlin"))
@@ -164,7 +166,8 @@ class Pools(InFolder):
         together = "mpplan: figures of several sources together (mail, phone) at desk; {}\n"
         report = mpsim.run(self.model, self.out, jobs=True)
         self.assertEqual((report["desk"].lost, report["desk_gone"].out), (0, 2))
-        (row,) = csv.DictReader(io.StringIO(self.tells("service", self.model, self.out, "--node", "desk", error=told + together.format("--by source gives each"))))
+        said = told + together.format("--by source gives each")
+        (row,) = csv.DictReader(io.StringIO(self.tells("service", self.model, self.out, "--node", "desk", error=said)))
         self.assertEqual([row[name] for name in ("came", "departed", "lost", "within_20_of_all")], ["5", "3", "2", "0.6"])
         rows = self.tells("hours", self.model, self.out, "--node", "desk", error=told + together.format("--source NAME gives one")).splitlines()
         self.assertEqual([row.split(",")[:4] for row in rows[1:]], [["00:00", "4", "2", "2"], ["01:00", "1", "1", "0"]])
@@ -174,7 +177,8 @@ class Pools(InFolder):
         self.assertEqual([rows[2][name] for name in ("kind", "in", "out", "lost")], ["pool", "5", "3", "2"])
         visits = self.tells("table", self.model, self.out, "--of", "visits", "--node", "desk", error=told).splitlines()[1:]
         self.assertEqual(visits[:2], ["1,desk,0,0,50,left", "2,desk,10,,,lost"])
-        why = "desk has a roster, patience or priorities, so its waits are those of the whole trace; on 0 of 1 days they may depend on calls of another"
+        why = "desk has a roster, patience or priorities, so its waits are those of the whole trace"
+        why += "; on 0 of 1 days they may depend on calls of another"
         (row,) = csv.DictReader(io.StringIO(self.tells("days", self.model, self.out, "--node", "desk", error=f"{told}mpplan: {why}\n")))
         self.assertEqual([row[name] for name in ("kind", "in", "out", "lost")], ["pool", "5", "3", "2"])
 
@@ -199,7 +203,8 @@ class Pools(InFolder):
         self.assertTrue(5 < shared < 42, said)
 
     def test_pieces_that_share_agents(self):
-        """A call is there at the first arrival of a piece, or comes before the last of its calls begins; one that ends then, or comes later, isn't."""
+        """A call is there at the first arrival of a piece, or comes before the last of its calls begins; one that ends then, or comes later, isn't
+        counted."""
         model = "model 2\nsource a\nsource b\ndelay desk_queue desk_wait from a b\ntrunk desk 2 d from desk_queue\n"
         head = ["source", "time", "d", "desk_wait"]
         for others, shared in [

@@ -175,7 +175,8 @@ class ByTheCalendar(InFolder):
         trace, bare = self.file("t.csv", "source,time\na,0\na,9\n"), self.file("m.txt", "model 1\nsource a\n")
         why = "expected a number of ticks; for a time, give --model, or --tick with --start and --zone"
         self.refuses(f"--shift 7d: {why}", "scale", trace, "--by", 2, "--shift", "7d")
-        self.refuses(f"{bare}: the model doesn't say what a tick is: give --tick and --start", "scale", trace, "--by", 2, "--shift", 5, "--model", bare)
+        words = "scale", trace, "--by", 2, "--shift", 5, "--model", bare
+        self.refuses(f"{bare}: the model doesn't say what a tick is: give --tick and --start", *words)
         self.refuses("--shift -3: expected a positive number of ticks, such as those of a day or a week", "scale", trace, "--by", 2, "--shift=-3")
         own = "--tick", "1s", "--start", self.START, "--zone", "Europe/Berlin"
         why = "within the trace there is no other time whole shifts away from 0, but 2 records need one"

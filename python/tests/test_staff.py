@@ -180,7 +180,8 @@ class Command(InFolder):
         self.assertEqual([line.strip("| ").split(" | ")[0:2] for line in lines[2:]], [[row["weekday"], row["from"]] for row in rows])
         self.assertEqual(set(lines[1]), set("|-"))
         german = self.tells("staff", *words, "--csv-style", "excel-de").removeprefix("\ufeff").splitlines()
-        self.assertEqual([line.replace(";", "~").replace(",", ".").replace("~", ",") for line in german[1:]], [",".join(row.values()) for row in rows])
+        plain = [line.replace(",", ".").replace(";", ",") for line in german[1:]]
+        self.assertEqual(plain, [",".join(row.values()) for row in rows])
 
     def test_each_source(self):
         """The rows of all sources are those without --by; each source has its own calls, and its agents are those of all."""
@@ -204,7 +205,8 @@ class Command(InFolder):
         for name in "ab":
             mine = [(float(row["calls"]), float(row["handling_time"])) for row in rows if row["queue"] == name]
             self.assertEqual(sum(count for count, _ in mine), sum(source == name for _, source, _ in calls))
-            self.assertAlmostEqual(sum(count * mean for count, mean in mine), sum(d for _, source, d in calls if source == name), delta=0.05 * len(calls))
+            work = sum(d for _, source, d in calls if source == name)
+            self.assertAlmostEqual(sum(count * mean for count, mean in mine), work, delta=0.05 * len(calls))
             self.assertEqual({(row["agents"], row["rostered"], row["erlang_c"]) for row in rows if row["queue"] == name}, {("", "", "")})
 
     def test_when_clocks_change(self):

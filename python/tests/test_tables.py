@@ -49,7 +49,8 @@ class Service(InFolder):
         told = rows_of(self.tells("service", JOBS, error=TOGETHER.format("greet, expert, desk, wrap")))
         self.assertEqual([item[0] for item in told[1:]], ["greet", "expert", "desk", "wrap"])
         self.assertEqual(told[0][-2:], ["within_20_of_all", "within_20_of_departed"])
-        told = rows_of(self.tells("service", JOBS, "--node", "desk", "--within", 4, "--within", 3, "--percentile", 99.9, error=TOGETHER.format("desk")))
+        words = "--node", "desk", "--within", 4, "--within", 3, "--percentile", 99.9
+        told = rows_of(self.tells("service", JOBS, *words, error=TOGETHER.format("desk")))
         self.assertEqual((told[0][6], told[1][6:]), ("p99.9", ["8", "8"] + 4 * ["0.428571"]))
 
     def test_each_source(self):

@@ -52,7 +52,8 @@ def words(parser):
     says = "a case beside the proposal: load=110%%, handling=20s, agents=-1; may be repeated; default: those and agents=+1"
     parser.add_argument("--what-if", action="append", default=[], metavar="CASE", help=says)
     parser.add_argument("--assume", action="append", default=[], metavar="TEXT", help="a further assumption for the page; may be repeated")
-    parser.add_argument("--missing", action="append", default=[], metavar="TEXT", help="what the trace lacks, e.g. '12 rows: no time'; may be repeated")
+    says = "what the trace lacks, e.g. '12 rows: no time'; may be repeated"
+    parser.add_argument("--missing", action="append", default=[], metavar="TEXT", help=says)
     calendar_words(parser)
 
 

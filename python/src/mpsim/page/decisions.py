@@ -42,9 +42,9 @@ class Case(NamedTuple):
 
 
 class Decision(NamedTuple):
-    """What the page says: its title, the period (str) and what its hours are counted per ("week" or "day"); the goal (a share, and seconds); the past,
-    if it was recorded; the proposal and the other cases (Case); a Chart per kind of day; the price of an hour and its unit (float and str, or None);
-    the share of paid time in which people aren't available; the assumptions, and what was left out (lists of str)."""
+    """What the page says: its title, the period (str) and what its hours are counted per ("week" or "day"); the goal (a share, and seconds); the
+    past, if it was recorded; the proposal and the other cases (Case); a Chart per kind of day; the price of an hour and its unit (float and str, or
+    None); the share of paid time in which people aren't available; the assumptions, and what was left out (lists of str)."""
 
     title: str
     period: str
@@ -135,14 +135,16 @@ def _hours(value: float) -> str:
 def _proposal(it: Decision) -> str:
     text = f"{_hours(it.proposal.hours)} hours of answering per {it.per}"
     if it.shrinkage:
-        text += f", which is {_hours(_paid(it, it.proposal.hours))} paid hours, since {percent(it.shrinkage)} of paid time goes to breaks and absences"
+        paid = _hours(_paid(it, it.proposal.hours))
+        text += f", which is {paid} paid hours, since {percent(it.shrinkage)} of paid time goes to breaks and absences"
     if it.cost is not None:
         text += f"; this costs {_money(it, it.proposal.hours)} per {it.per}"
     return escape(f"{text}. With it {of_100(it.proposal.share)} of these callers are answered in time.")
 
 
 def _cases(it: Decision) -> str:
-    heads = ["", f"hours per {it.per}", *([f"cost per {it.per}", "difference"] if it.cost else ["difference"]), "answered in time", "if staffed as proposed"]
+    money_heads = [f"cost per {it.per}", "difference"] if it.cost else ["difference"]
+    heads = ["", f"hours per {it.per}", *money_heads, "answered in time", "if staffed as proposed"]
     rows = []
     for case in (it.proposal, *it.cases):
         more = case.hours - it.proposal.hours

@@ -8,6 +8,7 @@ from .parts import part, percent, sheet, spoken
 
 # The lower bounds of the second to the fifth step of a service level.
 LEVELS = 0.5, 0.7, 0.8, 0.9
+WORK = "share of the whole time, nights included, that agents work"
 
 
 class Cell(NamedTuple):
@@ -47,7 +48,7 @@ def heat_map(cells: Sequence[Cell], title: str, within: str, goal: Optional[floa
         {"name": f"served within {within}", "texts": [_share(it.within) for it in cells], "steps": [_level(it.within) for it in cells]},
         _waits("mean wait", [it.mean_wait for it in cells]),
         _waits("90 of 100 callers waited at most", [it.p90 for it in cells]),
-        {"name": "share of the whole time, nights included, that agents work", "texts": [percent(it.util) for it in cells], "steps": [_fifth(it.util, 1) for it in cells]},
+        {"name": WORK, "texts": [percent(it.util) for it in cells], "steps": [_fifth(it.util, 1) for it in cells]},
     ]
     says = [_said(it, within) for it in cells]
     head = "".join(f'<th scope="col">{it}</th>' for it in agents)
@@ -90,4 +91,5 @@ def _said(cell: Cell, within: str) -> str:
     if cell.within is None or cell.mean_wait is None or cell.p90 is None:
         return f"{front}: no calls"
     waits = f"mean wait {spoken(cell.mean_wait)}, 90 of 100 waited at most {spoken(cell.p90)}"
-    return f"{front}: {cell.calls:,} calls, {percent(cell.within)} served within {within}, {waits}, agents work {percent(cell.util)} of the whole time"
+    served = f"{cell.calls:,} calls, {percent(cell.within)} served within {within}"
+    return f"{front}: {served}, {waits}, agents work {percent(cell.util)} of the whole time"

@@ -33,7 +33,8 @@ function showPictures() {
 
 function showCompared() {
   const labels = data.runs.map(it => it.label), values = labels.map((_, run) => figureOf(run, state.node)(state.figure));
-  by('curve').replaceChildren(curveOf(data.runs.map(it => it.parts), labels, values, state.run, `${state.figure} at ${state.node}, by run`, run => choose({ run })));
+  const parts = data.runs.map(it => it.parts), says = `${state.figure} at ${state.node}, by run`;
+  by('curve').replaceChildren(curveOf(parts, labels, values, state.run, says, run => choose({ run })));
   by('at').textContent = state.node;
   const table = by('compared'), names = ['run', `${state.figure} − first`, ...data.columns];
   const head = name => html('th', { scope: 'col', 'aria-sort': 'none' }, html('button', { type: 'button' }, name));

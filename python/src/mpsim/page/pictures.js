@@ -119,8 +119,8 @@ function numberOverTime(series, span, calendar) {
     html('figcaption', {}, `The mean and the maximum in each interval of ${shown(width)} ticks. Lost jobs don't count.`));
 }
 
-// The share by wait, of those that departed; and a field for a time, with the shares of arrivals and of departures served within it. It begins with the
-// time that the page was made for, if there is one.
+// The share by wait, of those that departed; and a field for a time, with the shares of arrivals and of departures served within it. It begins with
+// the time that the page was made for, if there is one.
 function byWait(waits, figure, within) {
   const { came, wait, count } = waits, departed = count[count.length - 1], high = Number(wait[wait.length - 1]) || 1;
   const p = picture('waits', 'Share of those that departed, by wait', { low: 0, high, name: 'wait, ticks', text: shown },
@@ -163,8 +163,8 @@ function axisOf(parts) {
   return Math.max(...kinds) > 1 || parts[0].length === 1 && kinds[0] ? kinds.indexOf(Math.max(...kinds)) : -1;
 }
 
-// A figure of a node in several runs, over their labels if these are numbers, else side by side. Of labels with several parts each curve has those that
-// differ in its axis only.
+// A figure of a node in several runs, over their labels if these are numbers, else side by side. Of labels with several parts each curve has those
+// that differ in its axis only.
 const STROKES = ['', '7 4', '2 4', '10 3 2 3', '5 2 1 2 1 2'];
 function curveOf(parts, labels, values, chosen, says, choose) {
   const place = axisOf(parts), isPlain = place >= 0;
@@ -180,7 +180,8 @@ function curveOf(parts, labels, values, chosen, says, choose) {
     const path = mine.map((at, index) => `${index ? 'L' : 'M'}${p.across(xs[at])} ${p.up(numbers[at])}`).join('');
     const stroke = STROKES[number % STROKES.length];
     p.root.append(svg('path', { class: 'share', d: path, 'data-curve': name, ...(stroke ? { 'stroke-dasharray': stroke } : {}) }));
-    if (name && mine.length) p.root.append(svg('text', { class: 'curve', x: p.across(xs[last]) - 8, y: p.up(numbers[last]) - 9, 'text-anchor': 'end' }, name));
+    const beside = { class: 'curve', 'text-anchor': 'end' };
+    if (name && mine.length) p.root.append(svg('text', { ...beside, x: p.across(xs[last]) - 8, y: p.up(numbers[last]) - 9 }, name));
   });
   for (const at of order) {
     const dot = svg('circle', { class: at === chosen ? 'dot marked' : 'dot', cx: p.across(xs[at]), cy: p.up(numbers[at]), r: at === chosen ? 7 : 5,

@@ -13,8 +13,8 @@ if TYPE_CHECKING:
 
 
 class Calls(NamedTuple):
-    """The calls of a decision: their arrivals and services (sequences of int, ticks), their patience (sequence, or None), and the names of their queues
-    (sequence of str, or None if there is one)."""
+    """The calls of a decision: their arrivals and services (sequences of int, ticks), their patience (sequence, or None), and the names of their
+    queues (sequence of str, or None if there is one)."""
 
     arrivals: Sequence[int]
     services: Sequence[int]
@@ -38,8 +38,8 @@ class Choice(NamedTuple):
 
 
 class Result(NamedTuple):
-    """What some numbers of agents give: the hours of work (float) per week, or per day if only one kind of day is asked for; and the share of the calls
-    that is served within the time of the goal (float; None without calls)."""
+    """What some numbers of agents give: the hours of work (float) per week, or per day if only one kind of day is asked for; and the share of the
+    calls that is served within the time of the goal (float; None without calls)."""
 
     hours: float
     share: Optional[float]

@@ -60,8 +60,8 @@ def load_text(load: Fraction) -> str:
 
 
 def with_longer(trace: Trace, column: str, more: int) -> Trace:
-    """Returns a trace whose values in a column are longer (or shorter) by this many ticks, at least 0. Raises ValueError for an unknown column, and for
-    a value above the limit.
+    """Returns a trace whose values in a column are longer (or shorter) by this many ticks, at least 0. Raises ValueError for an unknown column, and
+    for a value above the limit.
 
     >>> with_longer(Trace("t.csv", ["source", "time", "talk"], [["door", "0", "9"], ["door", "1", "2"]]), "talk", -5).numbers("talk")
     [4, 0]
@@ -96,9 +96,9 @@ def grid(
     percents: Sequence[float] = PERCENTS,
     tell: Callable[[int], None] = lambda done: None,
 ) -> Iterator[list]:
-    """Yields the header and the rows (lists) of a table of pools in place of a server, a row per load and number of agents: the load, as text, and what
-    `mpsim.tables.pools.staffing` returns. Each load is another trace, and each cell is pooled and run again. `tell` is called with the number of cells
-    done. Raises what `Queue` does, and ValueError for too many records.
+    """Yields the header and the rows (lists) of a table of pools in place of a server, a row per load and number of agents: the load, as text, and
+    what `mpsim.tables.pools.staffing` returns. Each load is another trace, and each cell is pooled and run again. `tell` is called with the number of
+    cells done. Raises what `Queue` does, and ValueError for too many records.
 
     >>> trace = Trace("t.csv", ["source", "time", "talk"], [["door", "0", "9"], ["door", "2", "4"], ["door", "20", "4"]])
     >>> model = "model 1\\nsource door\\nserver desk talk from door\\n"

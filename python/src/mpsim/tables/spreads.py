@@ -27,9 +27,9 @@ def spreads(
     percents: Sequence[float] = PERCENTS,
     tell: Callable[[int], None] = lambda done: None,
 ) -> Iterator[list]:
-    """Yields the header and the rows (lists, as in HEADS) of a table with a row per node, number of agents and figure: the figure in the trace itself,
-    and percentiles of it over this many resampled traces with this seed. With numbers of agents, the one node is a server that pools replace, as
-    `mpplan pool` does; pools in the model are pooled again for each trace. `tell` is called with the number of runs done. Raises what `mpsim.run`
+    """Yields the header and the rows (lists, as in HEADS) of a table with a row per node, number of agents and figure: the figure in the trace
+    itself, and percentiles of it over this many resampled traces with this seed. With numbers of agents, the one node is a server that pools replace,
+    as `mpplan pool` does; pools in the model are pooled again for each trace. `tell` is called with the number of runs done. Raises what `mpsim.run`
     does, and ValueError for a pool with a roster, patience or priorities.
 
     >>> from mpsim.times.calendar import Calendar

@@ -59,8 +59,9 @@ def _why_no_number(text, may_step):
 def _why_doubtful(sign, whole, part, percent):
     """Returns why digits (str) before and after a mark, with a sign and perhaps a percent sign, could mean two numbers, and how to write each
     unambiguously."""
-    fraction = f"{whole}.{part}".rstrip("0").rstrip(".")
-    return f"could mean {fraction} or {whole}{part}: write {sign}{fraction}{'0' * (part[-1] != '0')}{percent or ''} or {sign}{whole}{part}{percent or ''}"
+    fraction, end = f"{whole}.{part}".rstrip("0").rstrip("."), percent or ""
+    clear = f"{sign}{fraction}{'0' * (part[-1] != '0')}{end}"
+    return f"could mean {fraction} or {whole}{part}: write {clear} or {sign}{whole}{part}{end}"
 
 
 def stepped(old: int, sign: str, by: str, is_percent: bool = False) -> int:

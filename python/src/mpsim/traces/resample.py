@@ -52,8 +52,8 @@ class Days:
         return [draw.choice(self.groups[name]) for name in self.names]
 
     def resampled(self, seed: int, number: int) -> Trace:
-        """Returns the trace of this number (int), with this seed: the records of the drawn days, in order of time, at their times of day. A record that
-        would come before time 0 comes at time 0."""
+        """Returns the trace of this number (int), with this seed: the records of the drawn days, in order of time, at their times of day. A record
+        that would come before time 0 comes at time 0."""
         made: List[Tuple[int, int, int]] = []
         for place, source in enumerate(self.drawn(seed, number)):
             later = (self.numbers[place] - self.numbers[source]) * DAY
