@@ -100,9 +100,9 @@ class Decisions(InFolder):
 
     def test_what_ifs(self):
         """The same calls give the proposal again; one person fewer, and longer calls, what the pool gives that is staffed so."""
-        cases = [word for case in ("load=100%", "handling=0s", "agents=-1", "handling=25s") for word in ("--what-if", case)]
+        cases = [word for case in ("load=100%", "handling=0s", "agents=-1", "handling=25s", "agents=+1") for word in ("--what-if", case)]
         page = self.page("--date", "2026-03-24", *cases)
-        _, own, load, same, fewer, longer = page.tables["cases"]
+        _, own, load, same, fewer, longer, more = page.tables["cases"]
         for row in load, same:
             self.assertEqual((row[1], row[3], row[4]), (own[1], own[3], own[3]))
         lines = text_of(RECORDED).splitlines()
@@ -125,6 +125,7 @@ class Decisions(InFolder):
 
         self.assertEqual(fewer[3], f"{100 * share(tuesday, -1):.1f} %")
         self.assertEqual(fewer[1], f"{sum(it - 1 for it in rows.values() if it) / 2:g}")
+        self.assertEqual(more[1], f"{sum(it + 1 for it in rows.values() if it) / 2:g}")
         self.assertEqual(longer[4], f"{100 * share(later, 0):.1f} %")
         need = sum(int(row["agents"]) for row in self.staff("--date", "2026-03-24", trace=later)) / 2
         self.assertEqual(longer[1], f"{need:g}")

@@ -9,7 +9,7 @@ from datetime import datetime, timedelta
 from zoneinfo import ZoneInfo
 
 from commands import InFolder, planner
-from ground import Test
+from ground import Test, text_of
 
 from mpsim.times.calendar import Calendar
 from mpsim.times.texts import SECOND
@@ -128,9 +128,12 @@ class Command(InFolder):
         self.assertEqual([row["trace"] for row in csv.DictReader(io.StringIO(text))], ["trace-1", "trace-2", "trace-3"])
 
     def test_a_pool_of_the_model_is_pooled_again(self):
+        """Also for calls that wait over midnight: on another day nobody may be there before them."""
+        late = [[86400 * day + at, talk] for day, at, talk in [(0, 86300, 900), (0, 86350, 900), (1, 30, 60), (1, 86350, 900), (2, 20, 60), (2, 30, 9)]]
+        self.file("t.csv", text_of(self.trace) + "".join(f"calls,{time},{talk}\n" for time, talk in late))
         pooled, model = self.folder / "p.csv", self.folder / "p.txt"
         self.tells("pool", self.model, self.trace, "--node", "desk", "--agents", 2, "--out", pooled, "--out-model", model)
-        words = "--count", 15, "--seed", 3, "--node", "desk"
+        words = "--count", 15, "--seed", 3, "--node", "desk", "--within", "any"
         plain = self.tells("resample", self.trace, "--model", self.model, *words, "--agents", 2)
         found = self.tells("resample", pooled, "--model", model, *words)
         self.assertEqual(found.replace("desk,,", "desk,2,"), plain)

@@ -169,7 +169,7 @@ class ByTheCalendar(InFolder):
         plain = [time for time, _ in copies(self.times, ["a"] * len(self.times), 2, 1, WEEK)]
         self.assertEqual(self.made("--shift", WEEK)[0], plain)
         self.assertEqual(self.made("--shift", "7d", "--tick", "1s")[0], plain)
-        self.assertEqual(self.made("--shift", "3h", "--model", model)[0], [it for it, _ in copies(self.times, ["a"] * 840, 2, 1, 10800)])
+        self.assertEqual(self.made("--shift", "30h", "--model", model)[0], [it for it, _ in copies(self.times, ["a"] * 840, 2, 1, 108000)])
 
     def test_what_is_rejected(self):
         trace, bare = self.file("t.csv", "source,time\na,0\na,9\n"), self.file("m.txt", "model 1\nsource a\n")
