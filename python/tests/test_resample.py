@@ -129,7 +129,8 @@ class Command(InFolder):
 
     def test_a_pool_of_the_model_is_pooled_again(self):
         """Also for calls that wait over midnight: on another day nobody may be there before them."""
-        late = [[86400 * day + at, talk] for day, at, talk in [(0, 86300, 900), (0, 86350, 900), (1, 30, 60), (1, 86350, 900), (2, 20, 60), (2, 30, 9)]]
+        calls = (0, 86300, 900), (0, 86350, 900), (1, 30, 60), (1, 86350, 900), (2, 20, 60), (2, 30, 9)
+        late = [[86400 * day + at, talk] for day, at, talk in calls]
         self.file("t.csv", text_of(self.trace) + "".join(f"calls,{time},{talk}\n" for time, talk in late))
         pooled, model = self.folder / "p.csv", self.folder / "p.txt"
         self.tells("pool", self.model, self.trace, "--node", "desk", "--agents", 2, "--out", pooled, "--out-model", model)

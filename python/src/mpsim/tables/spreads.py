@@ -50,11 +50,13 @@ def spreads(
     """
     if special := rostered_pools(model):
         raise ValueError(f"{special[0]} is a pool with a roster, patience or priorities: run mpplan pool for each trace")
+    # Found by the trace itself: with the waits of other days a trunk group may lose calls.
+    known = [] if agents else model_pools(model.encode(errors="surrogateescape"), days.trace)
     seen: Dict[Tuple[str, Optional[int]], List[list]] = {}
     for number in range(count + 1):
         tell(number)
         trace = days.resampled(seed, number) if number else days.trace
-        for key, row in _figures(model, trace, nodes, agents, within, percents):
+        for key, row in _figures(model, recomputed(trace, known), nodes, agents, within, percents):
             seen.setdefault(key, []).append(row)
     yield list(HEADS)
     for (node, many), (own, *others) in seen.items():
@@ -71,8 +73,6 @@ def _figures(model, trace, nodes, agents, within, percents):
         for many in agents:
             yield (nodes[0], many), figures_of(None, queue.visits(many).wait, within, percents)
         return
-    text = model.encode(errors="surrogateescape")
-    trace = recomputed(trace, model_pools(model, trace))
-    report = run(text, trace.lines(), jobs=True)
+    report = run(model.encode(errors="surrogateescape"), trace.lines(), jobs=True)
     for visits in visits_to(report, places_of(report, nodes)):
         yield (visits.node, None), figures_of(visits, visits.wait, within, percents)
