@@ -1,9 +1,10 @@
 """Finds the pools in a model and recomputes their agents and waits for part of a trace that `mpplan pool` made."""
 
+from __future__ import annotations
+
 import contextlib
-import re
 from bisect import bisect_left, bisect_right
-from typing import TYPE_CHECKING, List, NamedTuple, Sequence
+from typing import TYPE_CHECKING, NamedTuple
 
 from ..errors import BoundError, ModelError, TraceError, VisitsError
 from ..inputs import model_input
@@ -14,7 +15,12 @@ from .pools import agents_of, gone_name, queue_name
 from .queues import calls_at, columns_of
 
 if TYPE_CHECKING:
+    from collections.abc import Iterable, Iterator, Mapping, Sequence
+
+    from ..model import ModelNode
     from ..report import Report
+    from ..shapes import ModelInput
+    from ..traces.trace import Trace
 
 
 class ModelPool(NamedTuple):
@@ -27,7 +33,7 @@ class ModelPool(NamedTuple):
     front: str
 
 
-def model_pools(model, trace):
+def model_pools(model: ModelInput, trace: Trace) -> list[ModelPool]:
     """Returns the pools (list of ModelPool) in a model whose lines are those that `mpplan pool` writes, upstream pools first.
 
     A trunk group that loses a call of the trace (Trace) isn't a pool, since the trace was made for another number of agents; if the trace is
@@ -53,7 +59,7 @@ def model_pools(model, trace):
     found = [it for it in found if it[0] not in rostered]
     for name in rostered:
         if above := [it[0] for it in found if it[0] in in_front(nodes, [queue_name(name)])]:
-            raise ValueError(f"{name} is {_SPECIAL}, downstream of the pool {above[0]}: run mpplan pool for each part of the trace")
+            raise ValueError(_rules_error(name, f"run mpplan pool for each part, since it is downstream of the pool {above[0]}"))
     if groups := [name for name, *_, end in found if name == end]:
         with contextlib.suppress(ModelError, TraceError, BoundError, VisitsError):
             report = run(front(text, groups), trace.lines())
@@ -61,30 +67,36 @@ def model_pools(model, trace):
     return [ModelPool(name, agents, demand, front(text, [end])) for name, agents, demand, end in found if not lost.get(name)]
 
 
-_SPECIAL = "a pool with a roster, patience or priorities"
+def _has_more_rules(text: str, name: str) -> bool:
+    """Returns whether a pool in a model has a roster, patience or priorities, so that its waits don't follow from its number of agents."""
+    return ROSTERED.format(node=name) in text.splitlines() or any(node.name == gone_name(name) for node in nodes_of(text))
 
 
-def rostered_pools(text: str) -> List[str]:
+def _rules_error(name: str, then: str) -> str:
+    return f"{name} is a pool with a roster, patience or priorities: its waits hold only for the whole trace; {then}"
+
+
+def rostered_pools(text: str) -> list[str]:
     """Returns the pools (list of str) of a model's text that have a roster, patience or priorities.
 
-    >>> rostered_pools("model 2\\n# desk is a pool with a roster, patience or priorities: its waits hold only for this trace\\nsource door\\n")
+    >>> from mpsim.agents.waits import rostered_pools
+    >>> front = "model 2\\n# desk is a pool with a roster, patience or priorities: its waits hold only for this trace\\nsource door\\n"
+    >>> rostered_pools(front + "delay desk_queue desk_wait from door\\ntrunk desk 1 talk from desk_queue\\n")
     ['desk']
     """
-    pattern = re.escape(ROSTERED).replace(re.escape("{node}"), r"(\w+)")
-    marked = re.findall(rf"^{pattern}\r?$", text, re.M)
-    nodes = {}
     with contextlib.suppress(ValueError):
         nodes = {node.name: node for node in nodes_of(text)}
-    gone = [name for name in nodes if gone_name(name) in nodes and queue_name(name) in nodes]
-    return list(dict.fromkeys([*marked, *gone]))
+        return [name for name, *_ in _named(nodes) if _has_more_rules(text, name)]
+    return []
 
 
-def carried(report: "Report", pool: str, pieces: Sequence[Sequence[int]]) -> int:
+def carried(report: Report, pool: str, pieces: Sequence[Sequence[int]]) -> int:
     """Returns how many of some pieces of a trace (sequences of int, the records of each, from 0) share the agents of a pool with another piece, in a
     report with visits of the whole trace: a call from elsewhere is waiting or served between the first arrival and the last beginning of a call of
     the piece. The waits of all other pieces are those that each would have alone, if free agents are alike or their intervals begin with the piece.
 
     >>> import mpsim
+    >>> from mpsim.agents.waits import carried
     >>> model = "model 2\\nsource door\\ndelay desk_queue desk_wait from door\\ntrunk desk 1 talk from desk_queue\\n"
     >>> rows = [("source", "time", "talk", "desk_wait"), ("door", 0, 9, 0), ("door", 2, 4, 7), ("door", 20, 4, 0)]
     >>> report = mpsim.run(model, rows, jobs=True)
@@ -98,7 +110,9 @@ def carried(report: "Report", pool: str, pieces: Sequence[Sequence[int]]) -> int
         calls += [(arrive, depart, arrive, job) for job, arrive, depart in _columns(report, gone_name(pool))]
     calls.sort()
     piece_of = {record + 1: number for number, records in enumerate(pieces) for record in records}
-    arrivals, latest, mine = [call[0] for call in calls], [], {}
+    arrivals = [call[0] for call in calls]
+    latest: list[int] = []
+    mine: dict[int, tuple[int, int]] = {}
     for arrive, depart, begin, job in calls:
         latest.append(max(depart, latest[-1] if latest else 0))
         if job in piece_of:
@@ -112,29 +126,30 @@ def carried(report: "Report", pool: str, pieces: Sequence[Sequence[int]]) -> int
     return shared
 
 
-def _columns(report, node):
-    visits = report.visits[node]
+def _columns(report: Report, node: str) -> Iterator[tuple[int, int, int]]:
+    visits = (report.visits or {})[node]
     return zip(visits.job, visits.arrive, visits.depart)
 
 
-def _named(nodes):
+def _named(nodes: Mapping[str, ModelNode]) -> Iterator[tuple[str, int, str, str]]:
     """Yields the name, the number of agents, the service time and a serving node of each pool among `nodes` (dict of ModelNode by name). The serving
     node is the trunk group of the pool's name, or the first agent."""
     for node in nodes.values():
         name = node.name.removesuffix(queue_name(""))
         if node.kind == "delay" and name in nodes and nodes[name].kind == "trunk":
-            agents, demand = nodes[name].arguments.split()
-            end, lines = name, trunk_lines(name, int(agents), demand, inputs_of(node))
+            number, demand = nodes[name].arguments.split()
+            agents, end = int(number), name
+            lines = trunk_lines(name, agents, demand, inputs_of(node))
         elif node.kind == "split" and (servers := agents_of(nodes, name)):
             agents, demand, end = len(servers), nodes[servers[0]].arguments, servers[0]
             lines = agent_lines(name, agents, demand, inputs_of(node), is_read=False)
         else:
             continue
         if all(nodes.get(made.name) == made for made in nodes_of("\n".join(lines))):
-            yield name, int(agents), demand, end
+            yield name, agents, demand, end
 
 
-def pools_in(text, trace):
+def pools_in(text: str, trace: Trace) -> list[ModelPool]:
     """Returns the pools (list of ModelPool) in the lines of a model (str) whose agents and waits are columns of a trace (Trace), upstream pools
     first, whatever number of agents the trace was made for."""
     with contextlib.suppress(ValueError):
@@ -145,10 +160,10 @@ def pools_in(text, trace):
     return []
 
 
-def varied(texts, trace):
+def varied(texts: Iterable[str], trace: Trace) -> list[str]:
     """Returns the names of pools (list of str) that have different numbers of agents in these models (iterable of str), and whose agents and waits
-    are columns of a trace (Trace): the trace holds for one of the numbers at most. Raises ValueError if there are any and a model has a pool with a
-    roster, patience or priorities, whose waits can't be worked out again from a number.
+    are columns of a trace (Trace): the trace holds for one of the numbers at most. Raises ValueError if there are some, and a pool of these models has
+    a roster, patience or priorities, since its waits can't be worked out again.
 
     >>> from mpsim.agents.waits import varied
     >>> from mpsim.traces import Trace
@@ -157,18 +172,19 @@ def varied(texts, trace):
     >>> varied(models, trace), varied(models[:1], trace)
     (['desk'], [])
     """
-    numbers, special = {}, []
+    numbers: dict[str, set[int]] = {}
+    ruled: set[str] = set()
     for text in texts:
-        special += [name for name in rostered_pools(text) if f"{name}_wait" in trace.header]
         for pool in pools_in(text, trace):
             numbers.setdefault(pool.name, set()).add(pool.agents)
+            ruled |= {pool.name} if _has_more_rules(text, pool.name) else set()
     found = [name for name, counts in numbers.items() if len(counts) > 1]
-    if found and special:
-        raise ValueError(f"{special[0]} is {_SPECIAL}: its waits hold only for this trace; run mpplan pool for each number of agents")
+    if found and ruled:
+        raise ValueError(_rules_error(min(ruled), "run mpplan pool for each number of agents"))
     return found
 
 
-def recomputed(trace, pools):
+def recomputed(trace: Trace, pools: Iterable[ModelPool]) -> Trace:
     """Returns the trace (Trace) with the agents and waits at `pools` (list of ModelPool, from `model_pools`) recomputed from its own records, in a
     network that is empty at time 0. Raises what `mpsim.run` does, and ValueError if a job visits a pool more than once.
 

@@ -1,6 +1,9 @@
 """The command `mpplan pool`."""
 
+from __future__ import annotations
+
 import re
+from typing import TYPE_CHECKING
 
 from ..agents.pools import pooled
 from ..agents.queues import Queue
@@ -16,13 +19,20 @@ from .groups import asks_for_group, roster_words, rows_of_group
 from .messages import say
 from .options import figure_words, resolve_within, table_words
 
+if TYPE_CHECKING:
+    from argparse import ArgumentParser, Namespace
+    from collections.abc import Sequence
+
+    from ..shapes import Row
+
 EXAMPLE = """mpplan pool model.txt trace.csv --node desk --agents 8..15 --within 20
          mpplan pool model.txt trace.csv --node desk --agents 12 --out pooled.csv --out-model pooled.txt
          mpplan pool model.txt trace.csv --node desk --roster roster.csv --patience exp:240s --seed 7 --first service
          mpplan pool --report jobs.txt --node desk --within 20"""
 
 
-def words(parser):
+def words(parser: ArgumentParser) -> None:
+    """Declares the arguments of `mpplan pool`."""
     parser.add_argument("model", nargs="?", help="a model with a server in the place of the pool")
     parser.add_argument("trace", nargs="?", help="its trace")
     parser.add_argument("--node", required=True, metavar="NAME", help="the server to replace by the pool; with --report, the pool")
@@ -38,7 +48,7 @@ def words(parser):
     table_words(parser)
 
 
-def numbers_of(text):
+def numbers_of(text: str) -> range:
     """Returns the numbers (range) in `12` or `8..15`. Raises ValueError for another text."""
     found = re.fullmatch(r"([1-9]\d{0,5})(?:\.\.([1-9]\d{0,5}))?", text)
     if not found or int(found[2] or found[1]) < int(found[1]):
@@ -46,7 +56,8 @@ def numbers_of(text):
     return range(int(found[1]), int(found[2] or found[1]) + 1)
 
 
-def main(args):
+def main(args: Namespace) -> None:
+    """Runs `mpplan pool`."""
     mixed = None
     resolve_within(args, text_of(args.model) if args.model else None)
     within, percents = args.within or (20,), args.percentile or PERCENTS
@@ -61,7 +72,7 @@ def main(args):
         say(f"{mixed}; --every gives each")
 
 
-def _of_report(args, within, percents):
+def _of_report(args: Namespace, within: Sequence[int], percents: Sequence[float]) -> list[Row]:
     if args.model or args.agents or args.out or args.out_model:
         raise ValueError("--report reads a pool that has been run: give no model, trace, --agents, --out or --out-model with it")
     report = Report.read(args.report)
@@ -71,7 +82,7 @@ def _of_report(args, within, percents):
     return [["node", *heads(within, percents)], [args.node, *figures(visits.wait, within, percents)]]
 
 
-def _of_agents(args, within, percents):
+def _of_agents(args: Namespace, within: Sequence[int], percents: Sequence[float]) -> list[Row]:
     if not args.model or not args.trace or not args.agents:
         raise ValueError("give a model, a trace and --agents, or --report")
     agents = numbers_of(args.agents)

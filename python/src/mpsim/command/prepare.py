@@ -1,6 +1,9 @@
 """The options of `mpplan prepare`."""
 
+from __future__ import annotations
+
 import contextlib
+from typing import TYPE_CHECKING
 
 from ..exports.prepare import prepare
 from ..files import all_written, judge_outputs, written
@@ -11,18 +14,22 @@ from ..times.zones import TWICE
 from ..wording import counted
 from .messages import say
 
+if TYPE_CHECKING:
+    from argparse import ArgumentParser, Namespace
+    from collections.abc import Callable
+
 EXAMPLE = (
     "mpplan prepare calls.csv --time Zeit --source Abteilung --demand 'Dauer=talk:min' --zone Europe/Berlin --out trace.csv --first-lines model.txt"
 )
 
 
-def words(parser):
+def words(parser: ArgumentParser) -> None:
     """Declares the arguments of `mpplan prepare`."""
     for declare in _times, _columns, _rows, _file, _outputs:
         declare(parser.add_argument)
 
 
-def _times(add):
+def _times(add: Callable[..., object]) -> None:
     add("export", help="the export: a file, also packed (.gz, .bz2, .xz, .zip) or a spreadsheet (.xlsx), or - for standard input")
     add("--time", required=True, metavar="COLUMN", help="column with the time at which a job arrives")
     says = f"format of the times: a strptime format, iso, rfc, clock (h:mm:ss) or {', '.join(NUMBERS)}; default: detected"
@@ -32,13 +39,14 @@ def _times(add):
     says = "three columns with the year, month and day as numbers, if the time is in another column"
     add("--day", nargs=3, metavar=("YEAR", "MONTH", "DAY"), help=says)
     add("--zone", metavar="NAME", help="time zone of times without an offset, e.g. Europe/Berlin; without it every day has 24 hours")
-    add("--twice", choices=list(TWICE), help="which hour is meant when clocks are set back; order: the second from where times in the file go back")
+    twice = "which hour is meant when clocks are set back; order: the first until the times in the file go back, then the second"
+    add("--twice", choices=list(TWICE), help=twice)
     add("--tick", metavar="LENGTH", help="length of a tick, e.g. 1s, 100ms, 1ns or 1min; default: from the comments of --model, or 1s")
     begins = "time 0: hour (the last full hour before the first job, the default), day, first, a time of day such as 8:00, or an ISO 8601 time"
     add("--begin", default="hour", metavar="WHEN", help=begins)
 
 
-def _columns(add):
+def _columns(add: Callable[..., object]) -> None:
     add("--source", metavar="COLUMN", help="column with the source of a job, or one name for all jobs")
     units = f"UNIT is one of {', '.join(Lengths.NAMES)}, by default s"
     units += ", or data at a rate, e.g. bytes@10Gbps"
@@ -49,25 +57,25 @@ def _columns(add):
     says = "column with the time at which services of --end begin: one for all, or one per --end"
     add("--answered", action="append", default=[], metavar="COLUMN", help=says)
     add("--constant", action="append", default=[], metavar="NAME=LENGTH", help="a service time that all jobs have, e.g. wrap=90s")
-    codes = "column of words, written as numbers for a split; the numbers come from --model, or count from 0"
+    codes = "column of texts, written as numbers for a split; the numbers come from --model, or count from 0 in order of appearance"
     add("--code", action="append", default=[], metavar="COLUMN[=NAME]", help=codes)
     add("--empty", metavar="LENGTH", help="service time of an empty field; default: its row is left out")
     add("--rename", action="append", default=[], metavar="OLD=NEW", help="name in the trace (NEW) of a source in the export (OLD)")
 
 
-def _rows(add):
+def _rows(add: Callable[..., object]) -> None:
     says = "use only rows that meet this condition: =, != (text), <, <=, >, >= (numbers or h:mm:ss) or ~ (contains); may be repeated"
     add("--where", action="append", default=[], metavar="CONDITION", help=says)
     add("--from", dest="begins", metavar="TIME", help="use only jobs that arrive at this time or later: ISO 8601, e.g. 2026-03-02, or h:mm")
     add("--until", metavar="TIME", help="use only jobs that arrive before this time")
-    add("--far", action="store_true", help="keep records that lie further from the rest than the rest spans, and more than 30 days")
+    add("--far", action="store_true", help="keep records more than 30 days from the rest, and further than the rest spans")
     says = "what to do with rows that repeat an earlier row, field by field; default: keep, with a warning"
     add("--duplicates", choices=["drop", "keep"], help=says)
     says = "percentage of the rows that may be left out because they can't be read; default: 5%%"
     add("--left-out-most", default="5%", metavar="PERCENT", help=says)
 
 
-def _file(add):
+def _file(add: Callable[..., object]) -> None:
     add("--decimal", choices=[".", ","], help="decimal mark; default: detected")
     add("--delimiter", metavar="CHARACTER", help="character between fields, \\t for a tab; default: detected")
     says = "text encoding; default: detected (UTF-8, UTF-16 with a byte order mark, or Windows-1252, a superset of printable Latin-1)"
@@ -77,7 +85,7 @@ def _file(add):
     add("--header", metavar="NAMES", help="column names, separated by commas, for an export without a header")
 
 
-def _outputs(add):
+def _outputs(add: Callable[..., object]) -> None:
     judges = "a model: it sets the order of sources at equal times; rows of other sources are left out; its columns must be present"
     add("--model", metavar="FILE", help=judges)
     add("--left-out", metavar="FILE", help="write the rows that are left out, with their number and the reason")
@@ -86,7 +94,7 @@ def _outputs(add):
     add("--out", metavar="FILE", help="write the trace here; default: - (standard output)")
 
 
-def main(args):
+def main(args: Namespace) -> None:
     """Runs `mpplan prepare`."""
     options = {name: value for name, value in vars(args).items() if name not in ("command", "main", "export", "first_lines", "out_model", "out")}
     # Standard output, as without --out.
@@ -104,6 +112,6 @@ def main(args):
         if lines:
             lines.write(made.first_lines())
         if out_model:
-            out_model.write(made.model(model))
+            out_model.write(made.model(model or ""))
         with contextlib.nullcontext(out) if out else written() as file:
             file.writelines(made.lines())

@@ -1,5 +1,9 @@
 """Reports the waits that a telephone system recorded, with abandoned calls, in the form of the table of `mpplan pool --roster`."""
 
+from __future__ import annotations
+
+from typing import TYPE_CHECKING
+
 from ..agents.groups import Agent
 from ..agents.validation import recorded
 from ..files import text_of
@@ -10,10 +14,14 @@ from ..tables.sheets import write_table
 from .groups import queue_word, queues_of
 from .options import calendar_of, calendar_words, every_words, resolve_within, table_words, within_word
 
+if TYPE_CHECKING:
+    from argparse import ArgumentParser, Namespace
+
 EXAMPLE = "mpplan recorded calls.csv --model model.txt --wait wait --abandoned gone --within 20 >recorded.csv"
 
 
-def words(parser):
+def words(parser: ArgumentParser) -> None:
+    """Declares the arguments of `mpplan recorded`."""
     parser.add_argument("trace", help="a trace with the recorded waits as a column")
     recorded_words(parser)
     parser.add_argument("--source", action="append", default=[], metavar="NAME", help="only calls of this source; may be repeated")
@@ -23,20 +31,23 @@ def words(parser):
     table_words(parser)
 
 
-def recorded_words(parser):
+def recorded_words(parser: ArgumentParser) -> None:
+    """Declares the arguments that name the columns of recorded waits."""
     says = "column with the recorded wait in ticks, for an abandoned call until the caller left"
     parser.add_argument("--wait", required=True, metavar="COLUMN", help=says)
-    parser.add_argument("--abandoned", metavar="COLUMN", help="column that isn't 0 for a call that was abandoned; default: none was")
+    says = "column that is 0 for answered calls, and another number for abandoned ones; default: none was abandoned"
+    parser.add_argument("--abandoned", metavar="COLUMN", help=says)
     within_word(parser, "report the share answered within 20 ticks (the default),")
     every_words(parser)
 
 
-def within_of(args):
+def within_of(args: Namespace) -> int:
     """Returns the ticks (int) of --within, by default 20."""
-    return 20 if args.within is None else args.within
+    return 20 if args.within is None else int(args.within)
 
 
-def main(args):
+def main(args: Namespace) -> None:
+    """Runs `mpplan recorded`."""
     text = text_of(args.model) if args.model else None
     days = calendar_of(args, text)
     resolve_within(args, text)
@@ -48,8 +59,8 @@ def main(args):
         if name not in sources:
             raise ValueError(f"{args.trace}: no source {name!r}; it has {', '.join(dict.fromkeys(sources))}")
     kept = [at for at, source in enumerate(sources) if not args.source or source in args.source]
-    columns = [[column[at] for at in kept] for column in (queues, times, waits, gone)]
+    arrivals, modelled = [times[at] for at in kept], [int(not gone[at]) for at in kept]
     # Who answered isn't asked for: agent 1 stands for any.
-    calls = columns[0], columns[1], [0] * len(kept), [int(not it) for it in columns[3]], columns[2]
-    table = Table(days_of(days, max(columns[1], default=0), every), calls, [Agent([])], within_of(args))
+    calls = [queues[at] for at in kept], arrivals, [0] * len(kept), modelled, [waits[at] for at in kept]
+    table = Table(days_of(days, max(arrivals, default=0), every), calls, [Agent([])], within_of(args))
     write_table([HEADS[:-2], *(row[:-2] for row in table.rows(every, days.tick))], args.format, args.csv_style)

@@ -1,7 +1,10 @@
 """The command `mpplan scale`."""
 
+from __future__ import annotations
+
 import re
 from fractions import Fraction
+from typing import TYPE_CHECKING
 
 from ..files import judge_outputs, text_of, written
 from ..limits import GREATEST_TIME, RECORDS
@@ -13,11 +16,17 @@ from ..wording import counted
 from .messages import say
 from .options import calendar_of, calendar_words, calendar_words_in
 
+if TYPE_CHECKING:
+    from argparse import ArgumentParser, Namespace
+
+    from ..times.calendar import Calendar
+
 EXAMPLE = """mpplan scale trace.csv --by 5/4 --shift 604800 --out more.csv
          mpplan scale trace.csv --by +12% --shift 7d --model model.txt --out more.csv"""
 
 
-def words(parser):
+def words(parser: ArgumentParser) -> None:
+    """Declares the arguments of `mpplan scale`."""
     parser.add_argument("trace", help="a trace")
     parser.add_argument("--by", required=True, metavar="K/N", help="factor for the load: 2, 3/2, 1.12, 112%% or +12%%")
     ways = parser.add_mutually_exclusive_group()
@@ -32,10 +41,11 @@ def words(parser):
     calendar_words(parser)
 
 
-def ratio(text):
+def ratio(text: str) -> tuple[int, int]:
     """Returns the numbers (pair of int, without a common divisor unless the text has one) in `2`, `3/2`, `1.12`, `112%`, `+12%` or `-10%`. Raises
     ValueError for another text.
 
+    >>> from mpsim.command.scale import ratio
     >>> ratio("3/2"), ratio("1.12"), ratio("+12%")
     ((3, 2), (28, 25), (28, 25))
     """
@@ -75,7 +85,8 @@ def _shift_of(args):
     return shift, days if days and days.place.zone and shift * days.tick % DAY == 0 else None
 
 
-def main(args):
+def main(args: Namespace) -> None:
+    """Runs `mpplan scale`."""
     k, n = ratio(args.by)
     way = "times" if args.times else "shift" if args.shift is not None else "twins"
     if args.times and args.source:

@@ -1,7 +1,10 @@
 """The command `mpplan staff`."""
 
+from __future__ import annotations
+
 import re
 from fractions import Fraction
+from typing import TYPE_CHECKING
 
 from ..agents.queues import Queue
 from ..agents.rosters import patience_in
@@ -17,11 +20,19 @@ from .groups import queue_word, queues_of
 from .messages import say
 from .options import calendar_of, calendar_words, every_words, table_words
 
+if TYPE_CHECKING:
+    from argparse import ArgumentParser, Namespace
+    from collections.abc import Iterable, Sequence
+    from typing import TextIO
+
+    from ..shapes import Row
+
 EXAMPLE = """mpplan staff model.txt trace.csv --node desk --goal 80/20 --weekday monday
          mpplan staff model.txt trace.csv --node desk --goal 90/1min --every 15min --shrinkage 30% --max-occupancy 85% --format md"""
 
 
-def words(parser):
+def words(parser: ArgumentParser) -> None:
+    """Declares the arguments of `mpplan staff`."""
     parser.add_argument("model", help="a model with a server in the place of the agents")
     parser.add_argument("trace", help="its trace")
     parser.add_argument("--node", required=True, metavar="NAME", help="the server to replace by agents who share its queue")
@@ -42,7 +53,7 @@ def words(parser):
     table_words(parser)
 
 
-def percent(text):
+def percent(text: str) -> Fraction:
     """Returns the Fraction of a text such as `30%`, `30` or `12.5%`. Raises ValueError for an invalid text, and for more than 100 %."""
     found = re.fullmatch(r"(\d{1,3}(?:\.\d{1,6})?)\s*%?", text)
     if not found or Fraction(found[1]) > 100:
@@ -50,8 +61,8 @@ def percent(text):
     return Fraction(found[1]) / 100
 
 
-def goal_of(text, tick):
-    """Returns the share (Fraction) and the ticks (int) of a text such as `80/20` or `90/1min`, for a tick of this many microseconds. Raises
+def goal_of(text: str, tick: int) -> tuple[Fraction, int]:
+    """Returns the share (Fraction) and the ticks (int) of a text such as `80/20` or `90/1min`, for a tick of this many nanoseconds. Raises
     ValueError for an invalid text.
 
     >>> goal_of("80/20", 10**9)
@@ -63,7 +74,8 @@ def goal_of(text, tick):
     return percent(share), length(f"{time}s" if re.fullmatch(r"[\d.]+", time) else time) // tick
 
 
-def main(args):
+def main(args: Namespace) -> None:
+    """Runs `mpplan staff`."""
     text = text_of(args.model)
     days = calendar_of(args, text)
     every = every_of(args.every)

@@ -1,6 +1,9 @@
 """The command `mpplan validate`."""
 
+from __future__ import annotations
+
 import re
+from typing import TYPE_CHECKING
 
 from ..agents.queues import Queue
 from ..agents.validation import HEADS, Trust, compared, recorded, rows_of, verdict
@@ -14,10 +17,14 @@ from .messages import say
 from .options import calendar_of, calendar_words, resolve_within, table_words
 from .recorded import recorded_words, within_of
 
+if TYPE_CHECKING:
+    from argparse import ArgumentParser, Namespace
+
 EXAMPLE = "mpplan validate model.txt calls.csv --node desk --roster roster.csv --wait wait --abandoned gone >gaps.csv"
 
 
-def words(parser):
+def words(parser: ArgumentParser) -> None:
+    """Declares the arguments of `mpplan validate`."""
     parser.add_argument("model", help="a model with a server in the place of the agents")
     parser.add_argument("trace", help="its trace, with the recorded waits as a column")
     parser.add_argument("--node", required=True, metavar="NAME", help="the server to replace by the agents")
@@ -50,7 +57,8 @@ def _trust_of(args):
     return Trust(calls=args.trust_calls, **{name: given(option, points, text) for name, option, text in options if text is not None})
 
 
-def main(args):
+def main(args: Namespace) -> None:
+    """Runs `mpplan validate`."""
     trust = _trust_of(args)
     if bool(args.roster) == bool(args.agents):
         raise ValueError("give --roster or --agents")

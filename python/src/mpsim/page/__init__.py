@@ -1,9 +1,12 @@
 """Makes the page of a run, or of several side by side: one HTML file that loads nothing from the network; and the excerpt that a notebook shows."""
 
+from __future__ import annotations
+
 import json
 import os
 from html import escape
 from string import Template
+from typing import TYPE_CHECKING
 
 from ..agents.pools import beside_pools, pool_lines
 from ..files import written
@@ -14,29 +17,48 @@ from .pictures import NUMBERS, pictures_of
 from .parts import part, policy, shown_text
 from .tables import columns_of, exits_table, facts, legend, nodes_table
 
+if TYPE_CHECKING:
+    from collections.abc import Iterable, Sequence
+    from datetime import datetime
+    from fractions import Fraction
+
+    from ..lines import Node
+    from ..report import Report
+    from ..shapes import Path
+    from .tables import Column
+
 SCRIPTS = "figures.js", "pictures.js", "page.js"
 
 
-def _first_node(nodes):
+def _first_node(nodes: Sequence[Node]) -> str:
     """Returns the node to select first: the one with waits and the longest p90, else the busiest, or one with servers."""
     return max(nodes, key=lambda item: (item.p90 or 0, item.max or 0, item.lost, item.util or 0, item.util is not None)).name
 
 
-def _exact(value):
+def _exact(value: object) -> object:
     """Returns a figure for the script; as text if a double can't hold it."""
     if isinstance(value, list):
         return [_exact(item) for item in value]
     return str(value) if isinstance(value, int) and value >= 1 << 53 else value
 
 
-def _texts(label):
+def _texts(label: object) -> list[str]:
     """Returns the texts (list of str) of a label; those of a tuple are several."""
     return list(map(shown_text, label if isinstance(label, tuple) else [label]))
 
 
-def _data(reports, lines, labels, columns, tick, start, within):
-    """Returns the script's data: the figures and charts of the nodes of each run (`lines`, lists of Node), in the order of the columns. `labels` are
-    lists of texts."""
+def _data(
+    reports: Sequence[Report],
+    lines: Sequence[Sequence[Node]],
+    labels: Sequence[list[str]],
+    columns: Sequence[Column],
+    tick: float | Fraction | None,
+    start: datetime | None,
+    chosen: str,
+    within: int | None,
+) -> dict[str, object]:
+    """Returns the script's data: the figures and charts of the nodes of each run (`lines`, lists of Node), in the order of the columns, and the node
+    to select first. `labels` are lists of texts."""
     runs = []
     for label, report, mine in zip(labels, reports, lines):
         nodes = nodes_that_are_drawn(report)
@@ -59,7 +81,7 @@ def _data(reports, lines, labels, columns, tick, start, within):
     return {
         "columns": [column.name for column in columns],
         "runs": runs,
-        "node": _first_node(lines[0]),
+        "node": chosen,
         "within": within,
         "tick": None if tick is None else float(tick),
         "date": start and start.date().isoformat(),
@@ -67,11 +89,18 @@ def _data(reports, lines, labels, columns, tick, start, within):
     }
 
 
-def _options(names, chosen=None):
+def _options(names: Iterable[str], chosen: str | None = None) -> str:
     return "".join(f'<option{" selected" if name == chosen else ""}>{escape(name)}</option>' for name in names)
 
 
-def page(reports, labels=None, title=None, tick=None, start=None, within=None):
+def page(
+    reports: Iterable[Report],
+    labels: Iterable[object] | None = None,
+    title: str | None = None,
+    tick: float | Fraction | None = None,
+    start: datetime | None = None,
+    within: int | None = None,
+) -> str:
     """Returns the page (str) of a report, or of several side by side, under their labels (by default 1, 2 and so on). The network and the rows of the
     tables are those of the first; figures follow the selected run. A pool is one node: the figures under its name are those of the whole. If all
     labels are tuples of one length, such as agents and load, the number with the most values is the axis of the curves, and there is a curve for
@@ -83,25 +112,26 @@ def page(reports, labels=None, title=None, tick=None, start=None, within=None):
     """
     reports = list(reports)
     if not reports:
-        raise ValueError("a page needs a report: none was given, or every model was refused")
+        raise ValueError("a page needs a report: none was given, or every model was rejected")
     parts = list(map(_texts, labels or range(1, len(reports) + 1)))
-    labels = [", ".join(texts) for texts in parts]
+    names = [", ".join(texts) for texts in parts]
     first, is_several = reports[0], len(reports) > 1
     title = shown_text(title or (f"{len(reports)} runs" if is_several else "Run"))
     columns, lines = columns_of(reports, within), [beside_pools(report) for report in reports]
-    data = _data(reports, lines, parts, columns, tick, start, within)
+    chosen = _first_node(lines[0])
+    data = _data(reports, lines, parts, columns, tick, start, chosen, within)
     script = "(() => {\n'use strict';\n" + "".join(map(part, SCRIPTS)) + "})();\n"
-    svg = network(first, lines[0], data["node"])
+    svg = network(first, lines[0], chosen)
     return Template(part("page.html")).substitute(
         policy=escape(policy(script)),
         title=escape(title),
         style=style() + part("piece.css") + part("page.css"),
         facts=facts(first),
         pools="".join(f"\n<p>{escape(pool_line)}</p>" for pool_line in pool_lines(reports, lacks=True)),
-        runs=f'<label>Run <select id="run">{_options(labels)}</select></label>' if is_several else "",
+        runs=f'<label>Run <select id="run">{_options(names)}</select></label>' if is_several else "",
         network=Template(part("network.html")).substitute(legend=legend(), svg=svg) if svg else "",
         compared=part("compared.html") if is_several else "",
-        nodes=_options([line.name for line in lines[0]], data["node"]),
+        nodes=_options([line.name for line in lines[0]], chosen),
         tables=nodes_table(first, lines[0], columns),
         exits="" if is_several else exits_table(first),
         # Nothing in a text may end the element that contains it.
@@ -110,14 +140,22 @@ def page(reports, labels=None, title=None, tick=None, start=None, within=None):
     )
 
 
-def save(path, reports, labels=None, title=None, **options):
+def save(
+    path: Path,
+    reports: Iterable[Report],
+    labels: Iterable[object] | None = None,
+    title: str | None = None,
+    tick: float | Fraction | None = None,
+    start: datetime | None = None,
+    within: int | None = None,
+) -> None:
     """Writes a page, completely or not at all. Takes what `page` takes, and also raises OSError."""
-    text = page(reports, labels, title, **options)
+    text = page(reports, labels, title, tick, start, within)
     with written(os.fspath(path)) as file:
         file.write(text)
 
 
-def drawing(report):
+def drawing(report: Report) -> str:
     """Returns only the network (str), as an SVG file for documents, in light colours. Raises ValueError if the report's model isn't known."""
     svg = network(report, beside_pools(report), is_still=True)
     if not svg:
@@ -129,7 +167,7 @@ def drawing(report):
     return f'{head}><style>{rules}</style>{ground}<g class="mpsim">{body.removesuffix("</svg>")}</g></svg>\n'
 
 
-def piece(report):
+def piece(report: Report) -> str:
     """Returns what a notebook shows (str): the network and the tables, without a script."""
     lines = beside_pools(report)
     svg = network(report, lines, is_still=True)

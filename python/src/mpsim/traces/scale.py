@@ -1,13 +1,17 @@
 """Scales the load of a trace up or down."""
 
+from __future__ import annotations
+
 from collections import Counter
-from typing import TYPE_CHECKING, List, Optional, Sequence, Tuple
+from typing import TYPE_CHECKING
 
 from ..times.texts import DAY
 from ..wording import counted
 from .trace import Trace
 
 if TYPE_CHECKING:
+    from collections.abc import Collection, Sequence
+
     from ..times.calendar import Calendar
 
 TIMES = (
@@ -20,7 +24,7 @@ TWINS = (
 )
 
 
-def closer(times, k, n):
+def closer(times: Sequence[int], k: int, n: int) -> list[tuple[int, int]]:
     """Returns pairs (list) of a time and the index of its record, in order of arrival. Each time (int, ticks) is multiplied by n/k and rounded down.
 
     >>> from mpsim.traces.scale import closer
@@ -34,13 +38,15 @@ class Walls:
     """The times of a trace on the clock of a Calendar: nanoseconds since the wall-clock time of tick 0.
 
     >>> from mpsim.times.calendar import Calendar
+    >>> from mpsim.traces.scale import Walls
     >>> walls = Walls(Calendar(10**9, "2026-03-28T12:00:00+01:00", "Europe/Berlin"))
     >>> walls.of(82800) // 10**9, walls.tick(86400 * 10**9)
     (86400, 82800)
     """
 
-    def __init__(self, days: "Calendar") -> None:
-        self.days, self.base, self._whole = days, days.wall(0), {}
+    def __init__(self, days: Calendar) -> None:
+        self.days, self.base = days, days.wall(0)
+        self._whole: dict[int, int | None] = {}
 
     def of(self, tick: int) -> int:
         """Returns the time of a tick."""
@@ -57,8 +63,8 @@ class Walls:
 
 
 def copies(
-    times: Sequence[int], sources: Sequence[str], k: int, n: int, shift: int = 0, only: Sequence[str] = (), days: "Optional[Calendar]" = None
-) -> List[Tuple[int, int]]:
+    times: Sequence[int], sources: Sequence[str], k: int, n: int, shift: int = 0, only: Collection[str] = (), days: Calendar | None = None
+) -> list[tuple[int, int]]:
     """Returns pairs (list) of a time and the index of its record, in order of time, then of records: k for every n records, spread as evenly as
     possible within each source.
 
@@ -89,7 +95,7 @@ def copies(
     return sorted(made)
 
 
-def around(time: int, count: int, shift: int, first: int, last: int, told: Optional[Tuple[int, int]] = None) -> List[int]:
+def around(time: int, count: int, shift: int, first: int, last: int, told: tuple[int, int] | None = None) -> list[int]:
     """Returns the times (list of int) of this many copies of a record (int, including the record), each `shift` after the one before, starting at its
     `time` and wrapping round between `first` and `last` (int, ticks). If that gives too few times, they may lie up to an eighth of a shift outside,
     so that a record from an early or late minute also gets its other days. Raises ValueError if that isn't enough, with the shift and the time in
@@ -113,13 +119,16 @@ def around(time: int, count: int, shift: int, first: int, last: int, told: Optio
 
 
 def scaled(
-    trace: Trace, k: int, n: int, way: str, shift: Optional[int] = None, only: Sequence[str] = (), days: "Optional[Calendar]" = None
+    trace: Trace, k: int, n: int, way: str, shift: int | None = None, only: Collection[str] = (), days: Calendar | None = None
 ) -> Trace:
     """Returns the trace (Trace) with k/n of the load of another, in order of time; `way` is "times", "twins" or "shift". With `days`, a Calendar, a
     shift keeps the time of day.
 
-    >>> scaled(Trace("t.csv", ["source", "time"], [["a", "0"], ["a", "25"]]), 2, 1, "shift", 10).times()
-    [0, 5, 10, 25]
+    >>> from mpsim.traces import Trace
+    >>> from mpsim.traces.scale import scaled
+    >>> trace = Trace("t.csv", ["source", "time", "talk"], [["door", "0", "9"], ["door", "8", "4"]])
+    >>> scaled(trace, 2, 1, "times").rows
+    [['door', '0', '9'], ['door', '4', '4']]
     """
     times = trace.times()
     for name in only:
@@ -128,17 +137,17 @@ def scaled(
     if way == "times":
         made = closer(times, k, n)
     else:
-        made = copies(times, trace.sources(), k, n, shift if way == "shift" else 0, only, days)
+        made = copies(times, trace.sources(), k, n, (shift or 0) if way == "shift" else 0, only, days)
     return Trace(trace.path, trace.header, [[trace.rows[at][0], str(time), *trace.rows[at][2:]] for time, at in made])
 
 
-def count_of(trace, k, n, way, only):
+def count_of(trace: Trace, k: int, n: int, way: str, only: Collection[str]) -> int:
     """Returns the number of records that `scaled` would make, to reject too many before making any."""
     taken = 0 if way == "times" else sum(not only or source in only for source in trace.sources())
     return len(trace.rows) - taken + k * taken // n
 
 
-def means(k: int, n: int, way: str, shift: Optional[int] = None, only: Sequence[str] = (), days: "Optional[Calendar]" = None) -> str:
+def means(k: int, n: int, way: str, shift: int | None = None, only: Collection[str] = (), days: Calendar | None = None) -> str:
     """Returns a description (str) of what `scaled` does.
 
     >>> from mpsim.traces.scale import means
