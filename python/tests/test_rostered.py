@@ -225,7 +225,7 @@ class Pools(InFolder):
         self.table(*WEEK, "--agents", 2, "--patience", "60s")
         text = text_of(self.model)
         path = self.file("many.txt", text.replace("trunk desk 2", "trunk desk {agents}"))
-        why = "its waits hold only for this trace; run mpplan pool for each number of agents"
+        why = "its waits hold only for the whole trace; run mpplan pool for each number of agents"
         self.refuses(f"desk is a pool with a roster, patience or priorities: {why}", "sweep", path, self.out, "--set", "agents=2..4")
 
     def test_a_column_as_the_queue(self):

@@ -74,7 +74,7 @@ class _Passed(NamedTuple):
 
     busy: Dict[int, int]
     waiting: List[Waiting]
-    began: List[Tuple[int, int]]
+    began: List[Tuple[int, int, str]]
     worked: int
 
 
@@ -124,7 +124,7 @@ class Search:
         self.waits = [[] for _ in self.calls]
         self.hits = [0] * len(self.calls)
         # Per interval the waits of each queue.
-        self.queues = [{} for _ in self.calls]
+        self.queues: list[dict[str, list[int]]] = [{} for _ in self.calls]
         self.found = []
 
     def step(self) -> None:
@@ -148,7 +148,7 @@ class Search:
                 self.waits[at].append(wait)
                 self.hits[at] += wait <= self.goal.within
                 self.queues[at].setdefault(queue, []).append(wait)
-        each = {}
+        each: dict[str, tuple[int, int]] = {}
         for call in (call for _, calls in self.days for call in calls[number]):
             calls, service = each.get(call.queue, (0, 0))
             each[call.queue] = calls + 1, service + call.service
@@ -292,7 +292,7 @@ def rows_of(
             yield [name, queue, *front, None, None, *within, None, None]
 
 
-def _figures(calls, service, waits, count, tick, goal):
+def _figures(calls: int, service: int, waits: Sequence[int], count: int, tick: int, goal: Goal) -> tuple[Row, Row]:
     """Returns the figures of some calls (lists): the days, the calls per day and their handling time; the share within the goal's time, and the 90th
     percentile of the waits."""
     handling = round(service / calls * tick / SECOND, 1) if calls else None

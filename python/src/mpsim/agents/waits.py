@@ -9,6 +9,7 @@ from typing import TYPE_CHECKING, NamedTuple
 from ..errors import BoundError, ModelError, TraceError, VisitsError
 from ..inputs import model_input
 from ..model import nodes_of
+from ..node_visits import NodeVisits
 from ..runs import run
 from .networks import ROSTERED, agent_lines, front, in_front, inputs_of, trunk_lines
 from .pools import agents_of, gone_name, queue_name
@@ -127,7 +128,7 @@ def carried(report: Report, pool: str, pieces: Sequence[Sequence[int]]) -> int:
 
 
 def _columns(report: Report, node: str) -> Iterator[tuple[int, int, int]]:
-    visits = (report.visits or {})[node]
+    visits = report.visits[node] if report.visits else NodeVisits(node)
     return zip(visits.job, visits.arrive, visits.depart)
 
 

@@ -1,8 +1,11 @@
 """The command `mpplan decision`."""
 
+from __future__ import annotations
+
 import re
 from datetime import date
 from fractions import Fraction
+from typing import TYPE_CHECKING
 
 from ..agents.queues import Queue
 from ..agents.rosters import patience_in
@@ -25,13 +28,18 @@ from .messages import say
 from .options import calendar_of, calendar_words, every_words
 from .staff import goal_of, percent
 
+if TYPE_CHECKING:
+    from argparse import ArgumentParser, Namespace
+    from collections.abc import Callable, Iterator, Sequence
+
 EXAMPLE = """mpplan decision model.txt trace.csv --node desk --goal 80/20 --cost 35/h --out decision.html
          mpplan decision model.txt calls.csv --node desk --roster roster.csv --wait wait --abandoned gone --shrinkage 30% --out decision.html"""
 MONTHS = "January February March April May June July August September October November December".split()
 WHAT_IFS = "load=110%", "handling=20s", "agents=-1", "agents=+1"
 
 
-def words(parser):
+def words(parser: ArgumentParser) -> None:
+    """Declares the arguments."""
     parser.add_argument("model", help="a model with a server in the place of the agents")
     parser.add_argument("trace", help="its trace")
     parser.add_argument("--node", required=True, metavar="NAME", help="the server to replace by agents who share its queue")
@@ -57,7 +65,7 @@ def words(parser):
     calendar_words(parser)
 
 
-def cost_of(text):
+def cost_of(text: str) -> tuple[float, str]:
     """Returns the price of an hour (float) and its unit (str) of a text such as `35/h` or `35.50 EUR/h`. Raises ValueError for another text.
 
     >>> cost_of("35/h"), cost_of("35,50 EUR/h")
@@ -69,7 +77,7 @@ def cost_of(text):
     return float(found[1].replace(",", ".")), found[2].strip()
 
 
-def _day(name):
+def _day(name: str) -> str:
     """Returns the name of a Day for reading: Monday, 23 March 2026."""
     if not re.fullmatch(r"\d{4}-\d\d-\d\d", name):
         return name
@@ -80,12 +88,14 @@ def _day(name):
 class _Case:
     """A what-if: its text, and how it changes the calls or the agents."""
 
-    def __init__(self, text):
+    def __init__(self, text: str) -> None:
         name, mark, value = text.partition("=")
-        self.load, self.longer, self.agents, self.text = None, None, None, text
+        self.load: Fraction | None = None
+        self.longer: int | None = None
+        self.agents: int | None = None
         if name == "load" and mark:
             (self.load,) = given("--what-if load", loads_of, value) if "," not in value and ".." not in value else (None,)
-            change = 100 * (self.load or 1) - 100
+            change = 100 * (self.load or Fraction(1)) - 100
             self.name = f"{float(abs(change)):g} % {'more' if change >= 0 else 'fewer'} calls"
         elif name == "handling" and mark:
             self.longer = (-1 if value[:1] == "-" else 1) * given("--what-if handling", length, value.lstrip("+-"))
@@ -98,7 +108,7 @@ class _Case:
             raise ValueError(f"--what-if {text}: expected load=110%, handling=20s or agents=-1")
 
 
-def _calls(args, queue, trace, text, tick):
+def _calls(args: Namespace, queue: Queue, trace: Trace, text: str, tick: int) -> Calls:
     """Returns the Calls at a Queue, with the patience that the arguments ask for."""
     values = patience_in(args.patience, trace, tick, args.seed)[0] if args.patience else None
     every_queue = queues_of(args, trace, text)
@@ -106,33 +116,37 @@ def _calls(args, queue, trace, text, tick):
     return Calls(queue.arrivals, queue.demands, values and [values[job - 1] for job in queue.jobs], mine)
 
 
-def _past(args, trace, queue, decider, calls, tick):
+def _past(args: Namespace, trace: Trace, queue: Queue, decider: Decider, calls: Calls, tick: int) -> Past | None:
     if not args.wait:
         return None
     waits, gone = recorded(trace, args.wait, args.abandoned)
     jobs = [job - 1 for job, is_mine in zip(queue.jobs, decider.chosen(calls)) if is_mine]
     it = recorded_of([waits[at] for at in jobs], [gone[at] for at in jobs], decider.goal.within)
-    seconds = [None if value is None else value * tick / SECOND for value in (it.mean, it.p90)]
-    return Past(it.calls, it.gone, it.share, *seconds)
+    mean, p90 = (None if value is None else value * tick / SECOND for value in (it.mean, it.p90))
+    return Past(it.calls, it.gone, it.share, mean, p90)
 
 
-def _cases(args, text, trace, decider, calls, numbers, cases, calendar, tell):
+def _cases(
+    args: Namespace, text: str, trace: Trace, decider: Decider, calls: Calls, numbers: dict[str, list[int]], cases: Sequence[_Case], tell: Callable[[int], None]
+) -> Iterator[Case]:
     """Yields the Case of each what-if."""
+    calendar = decider.calendar
     for done, case in enumerate(cases):
         if case.agents:
             result = decider.result(decider.changed(numbers, case.agents), calls)
             yield Case(case.name, result.hours, result.share)
         else:
-            changed = calls.longer(int(case.longer // calendar.tick)) if case.longer is not None else None
-            if changed is None:
-                made = with_copies(trace, case.load, copying_of(trace, calendar))
+            if case.longer is not None:
+                changed = calls.longer(case.longer // calendar.tick)
+            else:
+                made = with_copies(trace, case.load or Fraction(1), copying_of(trace, calendar))
                 changed = _calls(args, Queue(args.model, made, args.node), made, text, calendar.tick)
             result = decider.result(decider.need(changed), changed)
             yield Case(f"{case.name}, and the goal is kept", result.hours, result.share, decider.result(numbers, changed).share)
         tell(done + 1)
 
 
-def _assumptions(args, decider, calls, shrinkage, days):
+def _assumptions(args: Namespace, decider: Decider, shrinkage: Fraction, days: int) -> Iterator[str]:
     yield "The calls are those that came, one by one, with the time that each took; other weeks bring other calls."
     yield "Whoever is free takes the next caller. A call that has begun is completed, even if the person's time is over."
     yield f"Callers who wait give up after {args.patience}." if args.patience else "Callers who wait don't give up."
@@ -145,17 +159,18 @@ def _assumptions(args, decider, calls, shrinkage, days):
     yield from args.assume
 
 
-def _left_out(args, trace, queue, chosen, node):
+def _left_out(args: Namespace, trace: Trace, queue: Queue, chosen: Sequence[bool]) -> Iterator[str]:
     if away := len(trace.rows) - len(queue.jobs):
-        yield f"{counted(away, 'record')} of {len(trace.rows):,}, which don't come to {node}."
-    if other := chosen.count(False):
+        yield f"{counted(away, 'record')} of {len(trace.rows):,}, which don't come to {args.node}."
+    if other := sum(not it for it in chosen):
         yield f"{counted(other, 'call')} on other days."
     yield from args.missing
     if not args.missing:
         yield "Whether rows were left out before these calls were counted isn't known here."
 
 
-def main(args):
+def main(args: Namespace) -> None:
+    """Runs `mpplan decision`."""
     judge_outputs([args.out], {"model": [args.model], "trace": [args.trace], "roster": [args.roster]})
     if args.agents and args.roster:
         raise ValueError("give --roster or --agents, not both")
@@ -179,7 +194,7 @@ def main(args):
     with Progress(len(cases) + 1, "cases") as progress:
         numbers = decider.need(calls)
         progress(1)
-        shown = list(_cases(args, text, trace, decider, calls, numbers, cases, calendar, lambda done: progress(done + 1)))
+        shown = list(_cases(args, text, trace, decider, calls, numbers, cases, lambda done: progress(done + 1)))
     there = None
     if args.roster or args.agents:
         agents, group = group_of(args, calendar, max(queue.arrivals), queues_of(args, trace, text))
@@ -189,7 +204,7 @@ def main(args):
     for name, (count, each) in decider.intervals(numbers, calls).items():
         times = [label(number, every) for number in range(len(each))]
         mean = [it.calls / count for it in each]
-        charts.append(Chart(_day(name), times, mean, [it.agents for it in each], there and there[name]))
+        charts.append(Chart(_day(name), times, mean, [it.agents for it in each], there[name] if there else None))
     proposal = decider.result(numbers, calls)
     period = _day(chosen_days[0].name) + (f" to {_day(chosen_days[-1].name)}" if len(chosen_days) > 1 else "")
     per = "week" if calendar.is_dated and not args.date and not args.weekday else "day"
@@ -204,8 +219,8 @@ def main(args):
         charts,
         cost,
         float(shrinkage),
-        list(_assumptions(args, decider, calls, shrinkage, min(len(mine) for _, mine in decider.groups(calls)))),
-        list(_left_out(args, trace, queue, chosen, args.node)),
+        list(_assumptions(args, decider, shrinkage, min(len(mine) for _, mine in decider.groups(calls)))),
+        list(_left_out(args, trace, queue, chosen)),
     )
     with written(args.out) as file:
         file.write(decision_page(page))

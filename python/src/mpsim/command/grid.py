@@ -1,6 +1,9 @@
 """The command `mpplan grid`."""
 
+from __future__ import annotations
+
 from fractions import Fraction
+from typing import TYPE_CHECKING, Any
 
 from ..files import judge_outputs, text_of, written
 from ..model import nodes_of
@@ -16,11 +19,19 @@ from .options import calendar_of, calendar_words, table_words
 from .pool import numbers_of
 from .staff import goal_of
 
+if TYPE_CHECKING:
+    from argparse import ArgumentParser, Namespace
+    from collections.abc import Iterator, Sequence
+
+    from ..shapes import Row
+    from ..times.calendar import Calendar
+
 EXAMPLE = """mpplan grid model.txt trace.csv --node desk --agents 3..9 --load 80%..130%..10% --page grid.html >grid.csv
          mpplan grid model.txt trace.csv --node desk --agents 3..9 --load 100%,112% --add handling=20s --goal 90/1min"""
 
 
-def words(parser):
+def words(parser: ArgumentParser) -> None:
+    """Declares the arguments."""
     parser.add_argument("model", help="a model with a server in the place of the agents")
     parser.add_argument("trace", help="its trace")
     parser.add_argument("--node", required=True, metavar="NAME", help="the server to replace by agents who share its queue")
@@ -38,7 +49,7 @@ def words(parser):
     table_words(parser)
 
 
-def _longer(args, trace, demand, tick):
+def _longer(args: Namespace, trace: Trace, demand: str, tick: int) -> Trace:
     """Returns a trace with the changes of --add, for a server with this service time."""
     for text in args.add:
         name, mark, time = text.partition("=")
@@ -52,7 +63,7 @@ def _longer(args, trace, demand, tick):
     return trace
 
 
-def copying_of(trace, days, shift=None):
+def copying_of(trace: Trace, days: Calendar, shift: str | None = None) -> Copying:
     """Returns the Copying by a length of time (str), by default a week, or a day for a trace of less than two weeks, for a Calendar."""
     times = trace.times()
     span = (max(times, default=0) - min(times, default=0)) * days.tick
@@ -62,15 +73,16 @@ def copying_of(trace, days, shift=None):
     return Copying("shift", nanos // days.tick, days if days.place.zone and nanos % DAY == 0 else None)
 
 
-def _cells(header, rows, tick, within):
+def _cells(header: Row, rows: Sequence[Row], tick: int, within: int) -> Iterator[Cell]:
     """Yields the cells of the heat map (Cell) of a table's rows."""
     for row in rows:
-        it = dict(zip(header, row))
-        seconds = [None if it[name] is None else it[name] * tick / SECOND for name in ("mean_wait", "p90")]
-        yield Cell(it["load"].replace("%", " %"), it["agents"], it["came"], it[f"within_{within}_of_all"], *seconds, float(it["util"]))
+        it: dict[object, Any] = dict(zip(header, row))
+        mean, p90 = (None if it[name] is None else it[name] * tick / SECOND for name in ("mean_wait", "p90"))
+        yield Cell(it["load"].replace("%", " %"), it["agents"], it["came"], it[f"within_{within}_of_all"], mean, p90, float(it["util"]))
 
 
-def main(args):
+def main(args: Namespace) -> None:
+    """Runs `mpplan grid`."""
     judge_outputs([args.page], {"model": [args.model], "trace": [args.trace]})
     text, trace = text_of(args.model), Trace.read(args.trace)
     days = calendar_of(args, text)

@@ -74,21 +74,21 @@ def ticks(text: str) -> int | Time:
     return value
 
 
-def within_word(parser, says):
+def within_word(parser: ArgumentParser, says: str) -> None:
     """Declares --within for one time."""
     parser.add_argument("--within", type=ticks, metavar="TIME", help=f"{says} this many ticks, or a time such as 20s")
 
 
-def tick_word(parser):
+def tick_word(parser: ArgumentParser) -> None:
     """Declares --tick for a command that needs it only for times."""
     parser.add_argument("--tick", metavar="LENGTH", help="length of a tick, e.g. 1s, for --within 20s; default: from the comments of the model")
 
 
-def resolve_within(args, text: Optional[str] = None) -> None:
+def resolve_within(args: Namespace, text: str | None = None) -> None:
     """Turns the times of --within into whole ticks that aren't longer, by --tick or by a model's text. Raises ValueError if neither gives the length
     of a tick."""
 
-    def resolved(value):
+    def resolved(value: int | Time | None) -> int | None:
         if not isinstance(value, Time):
             return value
         tick = given("--tick", tick_of, args.tick) if getattr(args, "tick", None) else settings_in(text or "")[0]

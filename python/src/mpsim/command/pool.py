@@ -58,7 +58,7 @@ def numbers_of(text: str) -> range:
 
 def main(args: Namespace) -> None:
     """Runs `mpplan pool`."""
-    mixed = None
+    mixed: str | None = None
     resolve_within(args, text_of(args.model) if args.model else None)
     within, percents = args.within or (20,), args.percentile or PERCENTS
     if asks_for_group(args):
@@ -82,7 +82,7 @@ def _of_report(args: Namespace, within: Sequence[int], percents: Sequence[float]
     return [["node", *heads(within, percents)], [args.node, *figures(visits.wait, within, percents)]]
 
 
-def _of_agents(args: Namespace, within: Sequence[int], percents: Sequence[float]) -> list[Row]:
+def _of_agents(args: Namespace, within: Sequence[int], percents: Sequence[float]) -> tuple[list[Row], str | None]:
     if not args.model or not args.trace or not args.agents:
         raise ValueError("give a model, a trace and --agents, or --report")
     agents = numbers_of(args.agents)

@@ -13,6 +13,7 @@ from .messages import say
 
 if TYPE_CHECKING:
     from argparse import Namespace
+    from collections.abc import Sequence
 
 
 def report_of(args: Namespace) -> Report:
@@ -49,7 +50,7 @@ def all_visits(report: Report) -> list[NodeVisits]:
     return visits_to(report, places_of(report))
 
 
-def print_mixed(report, visits, how):
+def print_mixed(report: Report, visits: Sequence[NodeVisits], how: str) -> None:
     """Prints which of some visits (list of NodeVisits) of a report are of several sources, and how to get the figures of each (str)."""
     sources = sources_in(report)
     if line := together({visit.node: [sources[job] for job in visit.job] for visit in visits}):

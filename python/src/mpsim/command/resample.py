@@ -1,6 +1,9 @@
 """The command `mpplan resample`."""
 
+from __future__ import annotations
+
 import os
+from typing import TYPE_CHECKING
 
 from ..files import text_of, written
 from ..progress import Progress
@@ -11,8 +14,11 @@ from ..traces.resample import Days
 from ..traces.trace import Trace, pool_warning
 from ..wording import counted
 from .messages import say
-from .options import Once, calendar_of, calendar_words, percentile_word, resolve_within, table_words, ticks
+from .options import Once, Time, calendar_of, calendar_words, percentile_word, resolve_within, table_words, ticks
 from .pool import numbers_of
+
+if TYPE_CHECKING:
+    from argparse import ArgumentParser, Namespace
 
 EXAMPLE = """mpplan resample trace.csv --model model.txt --unit day --within weekday --count 200 --seed 7 --out folder
          mpplan resample trace.csv --model model.txt --count 200 --seed 7 --node desk --agents 2..4 --within 20s >spread.csv"""
@@ -21,7 +27,8 @@ COUNT = 100_000
 GROUPS = "weekday", "any"
 
 
-def words(parser):
+def words(parser: ArgumentParser) -> None:
+    """Declares the arguments."""
     parser.add_argument("trace", help="a trace of several days")
     parser.add_argument("--model", metavar="FILE", help="a model whose comments give the tick, time 0 and the zone")
     parser.add_argument("--unit", choices=["day"], default="day", help="what is drawn: whole days by the calendar (the default)")
@@ -38,12 +45,12 @@ def words(parser):
     table_words(parser)
 
 
-def group_or_ticks(text):
+def group_or_ticks(text: str) -> str | int | Time:
     """Returns the value of --within: `weekday`, `any`, or what `ticks` returns."""
     return text if text in GROUPS else ticks(text)
 
 
-def _judge(args):
+def _judge(args: Namespace) -> None:
     if not 1 <= args.count <= COUNT:
         raise ValueError(f"--count {args.count}: expected a number from 1 to {COUNT:,}")
     if not args.out and not args.node:
@@ -54,7 +61,7 @@ def _judge(args):
         raise ValueError("--agents needs one --node")
 
 
-def _written(days, args):
+def _written(days: Days, args: Namespace) -> tuple[str, str]:
     """Writes the traces into the directory, and returns the paths of the first and the last."""
     os.makedirs(args.out, exist_ok=True)
     digits = len(str(args.count))
@@ -67,7 +74,8 @@ def _written(days, args):
     return paths[0], paths[-1]
 
 
-def main(args):
+def main(args: Namespace) -> None:
+    """Runs `mpplan resample`."""
     _judge(args)
     text = text_of(args.model) if args.model else None
     calendar = calendar_of(args, text)
@@ -88,7 +96,7 @@ def main(args):
         if warning := pool_warning(args.trace, trace.header):
             say(warning)
     if args.node:
-        agents = numbers_of(args.agents) if args.agents else ()
+        agents = numbers_of(args.agents) if args.agents else range(0)
         with Progress(args.count + 1, "runs") as progress:
-            rows = list(spreads(text, days, args.node, args.count, args.seed, agents, args.within or (20,), args.percentile or PERCENTS, progress))
+            rows = list(spreads(text or "", days, args.node, args.count, args.seed, agents, args.within or (20,), args.percentile or PERCENTS, progress))
         write_table(rows, args.format, args.csv_style)

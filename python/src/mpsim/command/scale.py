@@ -64,7 +64,7 @@ def ratio(text: str) -> tuple[int, int]:
     return number.numerator, number.denominator
 
 
-def _shift_of(args):
+def _shift_of(args: Namespace) -> tuple[int | None, Calendar | None]:
     """Returns the shift (int, ticks; None if none is given), and the Calendar by which copies keep their time of day (None if the shift isn't whole
     days, or no zone is known)."""
     text = text_of(args.model) if args.model else None

@@ -42,14 +42,14 @@ def words(parser: ArgumentParser) -> None:
     table_words(parser)
 
 
-def points(text):
+def points(text: str) -> float:
     """Returns the share (float) of a text such as `2.5`, which is in percentage points. Raises ValueError for another text."""
     if not re.fullmatch(r"\d{1,3}(?:\.\d{1,6})?", text) or float(text) > 100:
         raise ValueError("expected percentage points from 0 to 100, such as 2.5")
     return float(text) / 100
 
 
-def _trust_of(args):
+def _trust_of(args: Namespace) -> Trust:
     """Returns the Trust that the arguments ask for."""
     if args.trust_calls < 1:
         raise ValueError(f"--trust-calls {args.trust_calls}: expected a number of calls, 1 or more")

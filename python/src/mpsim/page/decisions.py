@@ -1,5 +1,7 @@
 """Makes the page of a decision on staffing, for a reader who has never heard of a queue: minutes and clock times, one printed page."""
 
+from __future__ import annotations
+
 from html import escape
 from typing import List, NamedTuple, Optional, Sequence, Tuple
 
@@ -171,8 +173,13 @@ def _charts(charts: Sequence[Chart]) -> str:
 
 def _chart(chart: Chart, first: int, last: int, most: float) -> str:
     wide, high = (WIDE - LEFT) / (last - first), HIGH - BOTTOM - TOP
-    up = lambda value: TOP + high * (1 - value / most)
-    across = lambda at: LEFT + wide * (at - first)
+
+    def up(value: float) -> float:
+        return TOP + high * (1 - value / most)
+
+    def across(at: int) -> float:
+        return LEFT + wide * (at - first)
+
     bars, step = [], max(1, (last - first) // 6)
     for at in range(first, last):
         has = f", the roster has {_people(chart.there[at])}" if chart.there else ""

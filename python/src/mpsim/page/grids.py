@@ -1,14 +1,24 @@
 """Makes the heat map of a grid of agents and loads."""
 
+from __future__ import annotations
+
 import json
 from html import escape
-from typing import List, NamedTuple, Optional, Sequence
+from typing import List, NamedTuple, Optional, Sequence, TypedDict
 
 from .parts import part, percent, sheet, spoken
 
 # The lower bounds of the second to the fifth step of a service level.
 LEVELS = 0.5, 0.7, 0.8, 0.9
 WORK = "share of the whole time, nights included, that agents work"
+
+
+class Figure(TypedDict):
+    """A figure of all cells: its name, and the text and the step (1 to 5) of each cell."""
+
+    name: str
+    texts: List[str]
+    steps: List[int]
 
 
 class Cell(NamedTuple):
@@ -44,7 +54,7 @@ def heat_map(cells: Sequence[Cell], title: str, within: str, goal: Optional[floa
     """
     loads, agents = list(dict.fromkeys(it.load for it in cells)), list(dict.fromkeys(it.agents for it in cells))
     reached = [goal is not None and it.within is not None and it.within >= goal for it in cells]
-    figures = [
+    figures: list[Figure] = [
         {"name": f"served within {within}", "texts": [_share(it.within) for it in cells], "steps": [_level(it.within) for it in cells]},
         _waits("mean wait", [it.mean_wait for it in cells]),
         _waits("90 of 100 callers waited at most", [it.p90 for it in cells]),
@@ -76,12 +86,12 @@ def _share(share: Optional[float]) -> str:
     return "–" if share is None else percent(share)
 
 
-def _waits(name: str, values: List[Optional[float]]) -> dict:
+def _waits(name: str, values: List[Optional[float]]) -> Figure:
     most = max((it for it in values if it is not None), default=0)
     return {"name": name, "texts": ["–" if it is None else spoken(it) for it in values], "steps": [_fifth(it, most) for it in values]}
 
 
-def _cell(figure: dict, reached: List[bool], at: int) -> str:
+def _cell(figure: Figure, reached: List[bool], at: int) -> str:
     text = figure["texts"][at] + (" ✓" if reached[at] else "")
     return f'<td class="load{figure["steps"][at]}{" reached" if reached[at] else ""}">{text}</td>'
 

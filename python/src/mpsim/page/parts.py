@@ -1,5 +1,7 @@
 """The parts that all pages share: their files, the browser's policy, and the frame of a page with one table or chart after another."""
 
+from __future__ import annotations
+
 import base64
 import hashlib
 import os
@@ -66,7 +68,7 @@ def in_words(seconds: float) -> str:
     >>> in_words(1), in_words(20), in_words(75), in_words(7260)
     ('1 second', '20 seconds', '1 minute 15 seconds', '2 hours 1 minute')
     """
-    words = []
+    words: list[str] = []
     for count, unit in zip(*[iter(spoken(seconds).split())] * 2):
         word = {"s": "second", "min": "minute", "h": "hour"}[unit]
         if count != "0" or not words and unit == "s":

@@ -1,5 +1,7 @@
 """Works out what a decision on staffing needs: the agents that reach a goal, those that a roster has, and what changes if the calls do."""
 
+from __future__ import annotations
+
 from typing import TYPE_CHECKING, Callable, Dict, List, NamedTuple, Optional, Sequence, Tuple
 
 from ..agents.groups import Agent, Group
@@ -9,7 +11,10 @@ from ..times.intervals import Day, days_of
 from ..times.texts import HOUR
 
 if TYPE_CHECKING:
+    from ..agents.staffing import Waiting
     from ..times.calendar import Calendar
+
+    DayCalls = Tuple[Day, List[List[Waiting]]]
 
 
 class Calls(NamedTuple):
@@ -64,7 +69,7 @@ class Decider:
         """Returns the days of some calls, chosen or not."""
         return days_of(self.calendar, max(calls.arrivals, default=0), self.every)
 
-    def groups(self, calls: Calls) -> List[Tuple[str, list]]:
+    def groups(self, calls: Calls) -> List[Tuple[str, Sequence[DayCalls]]]:
         """Returns the groups of chosen days that get the same numbers: pairs of a name and what `least` takes."""
         every_day = self.days(calls)
         pairs = zip(every_day, calls_of(self.every, every_day, calls.arrivals, calls.services, calls.patience))
@@ -97,7 +102,7 @@ class Decider:
 
     def hours(self, numbers: Dict[str, List[int]]) -> float:
         """Returns the hours of work in one day of each group."""
-        return sum(map(sum, numbers.values())) * self.every / HOUR
+        return sum(sum(mine) for mine in numbers.values()) * self.every / HOUR
 
     def there(self, agents: Sequence[Agent], calls: Calls) -> Dict[str, List[float]]:
         """Returns the mean number of agents of a roster in each interval (list of float), by the names of groups of days."""
@@ -118,7 +123,7 @@ class Decider:
         """Returns the Result of a roster (a Group of agents) for some calls."""
         who, waits = group.assigned(calls.arrivals, calls.services, calls.queues, calls.patience)
         kept = [at for at, is_mine in enumerate(self.chosen(calls)) if is_mine]
-        hours = sum(map(sum, self.there(agents, calls).values())) * self.every / HOUR
+        hours = sum(sum(mine) for mine in self.there(agents, calls).values()) * self.every / HOUR
         return Result(hours, _share([waits[at] for at in kept if who[at]], len(kept), self.goal.within))
 
     def chosen(self, calls: Calls) -> List[bool]:

@@ -1,5 +1,7 @@
 """Makes a table of pools for each of several loads and numbers of agents."""
 
+from __future__ import annotations
+
 import re
 from fractions import Fraction
 from typing import TYPE_CHECKING, Callable, Iterator, List, NamedTuple, Optional, Sequence
@@ -13,6 +15,7 @@ from .pools import staffing
 from .service import PERCENTS, heads
 
 if TYPE_CHECKING:
+    from ..shapes import ModelInput, Row
     from ..times.calendar import Calendar
 
 # The most cells of a grid.
@@ -86,7 +89,7 @@ def with_copies(trace: Trace, load: Fraction, copying: Copying) -> Trace:
 
 
 def grid(
-    model: object,
+    model: ModelInput,
     trace: Trace,
     node: str,
     agents: Sequence[int],
@@ -95,7 +98,7 @@ def grid(
     within: Sequence[int] = (20,),
     percents: Sequence[float] = PERCENTS,
     tell: Callable[[int], None] = lambda done: None,
-) -> Iterator[list]:
+) -> Iterator[Row]:
     """Yields the header and the rows (lists) of a table of pools in place of a server, a row per load and number of agents: the load, as text, and
     what `mpsim.tables.pools.staffing` returns. Each load is another trace, and each cell is pooled and run again. `tell` is called with the number of
     cells done. Raises what `Queue` does, and ValueError for too many records.

@@ -67,5 +67,5 @@ def service(
     for visit in visits:
         yield [visit.node, *([] if sources is None else ["all"]), *figures_of(visit, visit.wait, within, percents)]
         for name in () if sources is None else sorted({sources[job] for job in visit.job}):
-            mine = of_source(visit, sources, [name])
+            mine = of_source(visit, sources or {}, [name])
             yield [visit.node, name, *figures_of(mine, mine.wait, within, percents)]

@@ -6,13 +6,10 @@ from typing import TYPE_CHECKING
 
 from ..agents.pools import names_of, pooled, pools, queue_name, visits_at
 from ..lines import PASSED
-from ..node_visits import FIELDS, NodeVisits
+from ..node_visits import FIELDS, NodeVisits, Visits
 
 if TYPE_CHECKING:
-    from ..report import Report
-
-if TYPE_CHECKING:
-    from collections.abc import Collection, Iterable
+    from collections.abc import Collection, Iterable, Sequence
 
     from ..report import Report
 
@@ -52,7 +49,7 @@ def visits_to(report: Report, names: Iterable[str]) -> list[NodeVisits]:
     return [it for name in names for it in ([pooled(report, name)] if name in known else _of_delays(report, visits_at(report, [name])))]
 
 
-def sources_in(report: "Report") -> Dict[int, str]:
+def sources_in(report: Report) -> dict[int, str]:
     """Returns the source (str) of each job of a report with visits, by its record (int, from 1).
 
     >>> import mpsim
@@ -60,10 +57,11 @@ def sources_in(report: "Report") -> Dict[int, str]:
     >>> sources_in(report)
     {1: 'phone', 2: 'mail'}
     """
-    return {job: node.name for node in report.nodes if node.kind == "source" for job in report.visits[node.name].job}
+    visits = report.visits or Visits()
+    return {job: node.name for node in report.nodes if node.kind == "source" and node.name in visits for job in visits[node.name].job}
 
 
-def of_source(visits: NodeVisits, sources: Dict[int, str], names: Sequence[str]) -> NodeVisits:
+def of_source(visits: NodeVisits, sources: dict[int, str], names: Sequence[str]) -> NodeVisits:
     """Returns those of some visits whose jobs come from sources of these names; `sources` is what `sources_in` returns."""
     kept = [at for at, job in enumerate(visits.job) if sources[job] in names]
     found = type(visits)(visits.node)
@@ -73,7 +71,7 @@ def of_source(visits: NodeVisits, sources: Dict[int, str], names: Sequence[str])
     return found
 
 
-def together(names: Dict[str, Iterable[str]]) -> Optional[str]:
+def together(names: dict[str, Iterable[str]]) -> str | None:
     """Returns a line (str) that says at which nodes the figures are those of several sources, from the sources of the jobs at each node; None if each
     has one.
 

@@ -1,5 +1,7 @@
 """Draws other traces from the days of one: each day is replaced by one that could have come in its place."""
 
+from __future__ import annotations
+
 import random
 from bisect import bisect_right
 from typing import TYPE_CHECKING, Dict, List, Tuple

@@ -79,7 +79,7 @@ def copies(
     [(0, 0), (5, 2), (10, 0), (10, 1), (20, 1), (25, 2)]
     """
     walls = Walls(days) if days and shift else None
-    clock, step = ([walls.of(time) for time in times], shift * days.tick) if walls else (times, shift)
+    clock, step = ([walls.of(time) for time in times], shift * walls.days.tick) if walls else (times, shift)
     ends = min(clock, default=0), max(clock, default=0)
     seen, before, made = {}, 0, []
     for source, count in Counter(source for source in sources if not only or source in only).items():
