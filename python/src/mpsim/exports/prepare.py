@@ -5,8 +5,7 @@ from __future__ import annotations
 import os
 from array import array
 from itertools import islice
-from types import SimpleNamespace
-from typing import TYPE_CHECKING
+from typing import TYPE_CHECKING, NamedTuple
 
 from ..names import is_like, name_for
 from ..times.calendar import Calendar, length_text, settings_in, tick_of
@@ -37,6 +36,54 @@ if TYPE_CHECKING:
 
 # A field with more characters is rejected: an unclosed quote makes one field of the rest.
 FIELD = 1 << 17
+
+
+class _Words(NamedTuple):
+    """The arguments of `prepare`."""
+
+    export: Path | bytes | bytearray
+    time: str
+    format: str | None
+    date: str | None
+    date_format: str | None
+    day: Sequence[str] | None
+    zone: str | None
+    twice: str | None
+    tick: str | None
+    begin: str
+    source: str | None
+    demand: Iterable[str]
+    end: Sequence[str]
+    answered: str | Iterable[str]
+    constant: Iterable[str]
+    code: Iterable[str]
+    empty: str | None
+    rename: Iterable[str]
+    decimal: str | None
+    delimiter: str | None
+    encoding: str | None
+    skip: int
+    header: str | None
+    model: str | None
+    left_out: TextIO | None
+    where: Iterable[str]
+    begins: str | None
+    until: str | None
+    far: bool
+    duplicates: str | None
+    left_out_most: str
+    sheet: str | None
+    fixed: str | None
+    wait: str | Iterable[str]
+    abandoned: Sequence[str]
+    unit: str | None
+    steps: str | None
+    event: str | None
+    arrive_event: Sequence[str]
+    begin_event: Sequence[str]
+    end_event: Sequence[str]
+    abandon_event: Sequence[str]
+    route: str | None
 
 
 def prepare(
@@ -75,7 +122,7 @@ def prepare(
     sheet: str | None = None,
     fixed: str | None = None,
     wait: str | Iterable[str] = (),
-    abandoned: Iterable[str] = (),
+    abandoned: Sequence[str] = (),
     unit: str | None = None,
     steps: str | None = None,
     event: str | None = None,
@@ -95,7 +142,7 @@ def prepare(
     >>> list(prepare(export, "When", source="Who", demand=["Long=talk:min"]).rows())
     [('desk', 5, 30), ('desk', 17, 90)]
     """
-    [(_, made)] = _made(None, SimpleNamespace(**locals()))
+    [(_, made)] = _made(None, _Words(**locals()))
     return made
 
 
@@ -113,10 +160,11 @@ def prepare_parts(export: Path | bytes | bytearray, time: str, by: str, **option
     defaults = prepare.__kwdefaults__
     for name in options.keys() - defaults.keys():
         raise TypeError(f"prepare_parts() got an unexpected argument {name!r}")
-    return _made(by, SimpleNamespace(export=export, time=time, **{**defaults, **options}))
+    words: dict[str, object] = {**defaults, **options, "export": export, "time": time}
+    return _made(by, _Words._make(map(words.__getitem__, _Words._fields)))
 
 
-def _made(by: str | None, words: SimpleNamespace) -> Iterator[tuple[str, Prepared]]:
+def _made(by: str | None, words: _Words) -> Iterator[tuple[str, Prepared]]:
     """Yields the name and the trace of each part, or the whole trace if `by` is None. `words` has the arguments of `prepare`."""
     per, place = _tick(words.tick, words.model), Zone(words.zone, words.twice)
     name = "the export" if isinstance(words.export, (bytes, bytearray)) else os.fspath(words.export)
@@ -131,14 +179,15 @@ def _made(by: str | None, words: SimpleNamespace) -> Iterator[tuple[str, Prepare
             rows.read()
             unnamed = plan.judge_renames()
             rows.judge_left(most)
-            repeats, read = _judge_repeats(rows, words.duplicates), rows
+            repeats, read = _judge_repeats(rows, words.duplicates), [rows]
             if plan.log:
-                rows = Units(plan, rows)
+                rows = Units(plan, plan.log, rows)
                 rows.judge_left(most)
+                read.append(rows)
             if not words.far:
                 judge_far(plan, rows)
             made = _finished(plan, rows, words.begin, repeats, words.duplicates)
-            for some in [rows] if rows is read else [read, rows]:
+            for some in read:
                 _note_left(some, made)
             made.warned += unnamed
             yield "", made
@@ -148,7 +197,7 @@ def _made(by: str | None, words: SimpleNamespace) -> Iterator[tuple[str, Prepare
         raise ValueError(f"{name}: times are before the year 1 or after the year 9999: is --format right?") from None
 
 
-def _in_parts(plan: Plan, by: str, most: float, words: SimpleNamespace) -> Iterator[tuple[str, Prepared]]:
+def _in_parts(plan: Plan, by: str, most: float, words: _Words) -> Iterator[tuple[str, Prepared]]:
     """Yields the name and the trace of each part of an export."""
     if plan.log:
         raise ValueError("--split-by can't be used with --unit: choose units by their arrivals with --from and --until")
@@ -165,11 +214,11 @@ def _in_parts(plan: Plan, by: str, most: float, words: SimpleNamespace) -> Itera
             del part, made
 
 
-def _planned(table: Table, place: Zone, per: int, words: SimpleNamespace) -> Plan:
+def _planned(table: Table, place: Zone, per: int, words: _Words) -> Plan:
     """Returns the Plan for a table."""
     plan = Plan(table, place, per, words.format, words.decimal, words.model)
     plan.where(words.where)
-    answered, wait = ([item] if isinstance(item, str) else item for item in (words.answered, words.wait))
+    answered, wait = ([item] if isinstance(item, str) else list(item) for item in (words.answered, words.wait))
     plan.times(words.time, words.date, words.date_format, words.day, answered)
     plan.values(words.demand, words.end, words.constant, words.code, words.empty)
     plan.waits(wait, words.abandoned)
@@ -180,7 +229,7 @@ def _planned(table: Table, place: Zone, per: int, words: SimpleNamespace) -> Pla
     return plan
 
 
-def _table(stream: Stream, words: SimpleNamespace) -> Table:
+def _table(stream: Stream, words: _Words) -> Table:
     """Returns the table that a file contains (Export or Workbook)."""
     if not stream.is_workbook:
         if words.sheet is not None:
@@ -217,7 +266,7 @@ def percent(text: str) -> float:
 
 def _finished(plan: Plan, rows: Rows, begin: str, repeats: str | None, duplicates: str | None) -> Prepared:
     """Returns the trace made from the rows read. `repeats` is a note on rows that repeat an earlier one, or None."""
-    made = Prepared(["source", "time", *(column.name for column in plan.columns)], _order(plan, rows.sources), plan.per, plan.place.name)
+    made = Prepared(["source", "time", *(column.name for column in rows.columns)], _order(plan, rows.sources), plan.per, plan.place.name)
     made.told += [*plan.notes, *([repeats] if duplicates and repeats else [])]
     made.warned += [*plan.warned, *([repeats] if repeats and not duplicates else [])]
     at = ticks(plan, rows.stamps, begin, made)
@@ -285,11 +334,11 @@ def _judge_zero(plan: Plan, made: Prepared) -> None:
 
 
 def _note_values(plan: Plan, rows: Rows, made: Prepared) -> None:
-    gone = sum(values.count(1) for it, values in zip(plan.columns, rows.values) if isinstance(it, Abandoned))
+    gone = sum(values.count(1) for it, values in zip(rows.columns, rows.values) if isinstance(it, Abandoned))
     made.told += [f"{counted(gone, 'job')} that gave up"] if gone else []
     served = plan.records.served
     made.warned += [f"{counted(served, 'service')} above 0 of jobs that gave up: taken as 0"] if served else []
-    for it, values in zip(plan.columns, rows.values):
+    for it, values in zip(rows.columns, rows.values):
         if isinstance(it, (Demand, Sum, End, Expression)) and (zeros := values.count(0) - gone):
             name = plan.export.header[it.column]
             keeps = "" if gone else f", --abandoned '{name}<=0' keeps them as jobs that gave up"
