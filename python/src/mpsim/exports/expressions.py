@@ -76,5 +76,5 @@ class Expression:
         self.rounded += total % self.tick > 0
         return int(ticks)
 
-    def many(self, columns):
+    def many(self, columns, begun):
         raise Unread("one by one")

@@ -3,6 +3,7 @@
 import os
 from array import array
 from itertools import islice
+from operator import eq, gt
 
 from ..names import is_like, name_for
 from ..times.calendar import Calendar, length_text, settings_in, tick_of
@@ -227,10 +228,11 @@ def _sort(made, rows, ticks):
     rank = {it: at for at, it in enumerate(made.names)}
     keys = [time * 64 + rank[it] for time, it in zip(ticks, rows.sources)]
     order = range(len(keys))
-    if any(map(int.__gt__, rows.stamps, islice(rows.stamps, 1, None))):
+    if any(map(gt, rows.stamps, islice(rows.stamps, 1, None))):
         order = sorted(order, key=rows.stamps.__getitem__)
-    order = sorted(order, key=keys.__getitem__)
-    if all(map(int.__eq__, order, range(len(keys)))):
+    if not isinstance(order, range) or any(map(gt, keys, islice(keys, 1, None))):
+        order = sorted(order, key=keys.__getitem__)
+    if isinstance(order, range) or all(map(eq, order, range(len(keys)))):
         made.sources, made.times, made.values = rows.sources, ticks, rows.values
         return
     made.told.append("records are sorted by time, and at equal times by the order of the sources")

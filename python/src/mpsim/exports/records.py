@@ -1,6 +1,7 @@
 """Turns rows of an export into records of a trace."""
 
 import re
+from operator import gt
 
 from ..limits import SOURCES
 from ..names import name_for
@@ -93,6 +94,14 @@ class Times:
         return moment if moment >= than else self.zone.utc(midnight + DAY + value, self._seen, than)
 
 
+    def many_later(self, columns, than):
+        """Returns the moments (list of int) of rows, given as columns, at or after other ones. Raises Unread if one needs individual treatment."""
+        found = self.how.many(columns[self.column])
+        if any(map(gt, than, found)):
+            raise Unread("one by one")
+        return found
+
+
 class TooManySources(ValueError):
     """An export has more sources than a model may have."""
 
@@ -144,7 +153,7 @@ class Records:
     def many(self, rows):
         """Returns records as columns (sources, moments, and each of the values) for rows that need no individual treatment. Raises ValueError if one
         may; nothing visible has changed then."""
-        if self.time.dates or self.answered or self.ended or set(map(len, rows)) != {self.width}:
+        if self.time.dates or self.ended or set(map(len, rows)) != {self.width}:
             raise Unread("one by one")
         if not all(condition.holds(row) for condition in self.conditions for row in rows):
             raise Unread("one by one")
@@ -153,7 +162,8 @@ class Records:
         first, last = min(stamps), max(stamps)
         if not -MOST < first <= last < MOST or not self._is_within(first) or not self._is_within(last):
             raise Unread("one by one")
-        values = [value.many(columns) for value in self.values]
+        begun = [stamps, *(item.many_later(columns, stamps) for item in self.answered)]
+        values = [value.many(columns, begun) for value in self.values]
         named = [self.only] * len(rows) if self.source is None else list(map(self._named.__getitem__, columns[self.source]))
         for at in self._codes:
             values[at] = list(map(self.values[at].code, rows))

@@ -1,6 +1,7 @@
 """A trace made from an export, and the first lines of its model."""
 
 from array import array
+from itertools import chain
 
 from ..times.calendar import first_lines, with_settings
 from .codes import line_of, with_codes, word_of
@@ -36,9 +37,10 @@ class Prepared:
         """Yields the text of the trace in pieces."""
         yield (header := ",".join(self.header) + "\n")
         size = len(header)
+        form = ",".join(["%s", *["%d"] * (len(self.header) - 1)]) + "\n"
         for at in range(0, len(self), CHUNK):
-            numbers = [map(str, value[at : at + CHUNK]) for value in (self.times, *self.values)]
-            text = "\n".join(map(",".join, zip(self.sources[at : at + CHUNK], *numbers))) + "\n"
+            columns = [column[at : at + CHUNK] for column in (self.sources, self.times, *self.values)]
+            text = form * len(columns[0]) % tuple(chain.from_iterable(zip(*columns)))
             size += len(text)
             if size > BYTES:
                 raise ValueError(f"the trace is longer than {BYTES:,} bytes, the limit of mpsim: shorten the export")

@@ -1,5 +1,7 @@
 """The columns of a trace after the time: service times, and words as numbers."""
 
+from operator import sub
+
 from ..limits import GREATEST_VALUE
 from ..times.texts import HOUR, Asks, Unread
 
@@ -18,7 +20,7 @@ class Demand:
         text = row[self.column]
         return self.empty if self.empty is not None and not text.strip() else self.how.ticks[text]
 
-    def many(self, columns):
+    def many(self, columns, begun):
         return list(map(self.how.ticks.__getitem__, columns[self.column]))
 
     @property
@@ -46,8 +48,8 @@ class Sum:
             raise Unread("above 2^36 ticks")
         return total
 
-    def many(self, columns):
-        totals = list(map(sum, zip(*(part.many(columns) for part in self.parts))))
+    def many(self, columns, begun):
+        totals = list(map(sum, zip(*(part.many(columns, begun) for part in self.parts))))
         if max(totals) > GREATEST_VALUE:
             raise Unread("one by one")
         return totals
@@ -93,8 +95,15 @@ class End:
             lengths = f"{self._ticks(least)} or {self._ticks(end - begin)} ticks"
             raise Asks(f"the service is {lengths} long, since an hour occurs twice: give --twice order, for rows in order of --time or of --end")
 
-    def many(self, columns):
-        raise Unread("one by one")
+    def many(self, columns, begun):
+        if self.empty is not None:
+            raise Unread("one by one")
+        lengths = list(map(sub, self.times.many_later(columns, begun[self.begin]), begun[self.begin]))
+        is_doubtful = self.times.zone.twice in ("first", "second") and max(lengths) >= REPEATED
+        if is_doubtful or max(lengths) >= GREATEST_VALUE * self.tick:
+            raise Unread("one by one")
+        double, half = 2 * self.tick, self.tick
+        return [(2 * length + half) // double for length in lengths]
 
 
 class Constant:
@@ -107,7 +116,7 @@ class Constant:
     def of(self, row, begun):
         return self.ticks
 
-    def many(self, columns):
+    def many(self, columns, begun):
         return [self.ticks] * len(columns[0])
 
 
@@ -123,7 +132,7 @@ class Code:
         # Words of rows that are left out get no number: `code` is called only for rows that stay.
         return 0
 
-    def many(self, columns):
+    def many(self, columns, begun):
         return []
 
     def code(self, row):
