@@ -10,9 +10,10 @@ _mpplan() {
     case ${COMP_WORDS[1]} in
         prepare)
             options='--time --format --date --date-format --day --zone --twice --tick --begin --source --demand --end --answered --constant
-                --code --empty --rename --where --from --until --far --duplicates --left-out-most --decimal --delimiter --encoding --skip
-                --sheet --header --model --left-out --first-lines --out-model --out --help'
-            repeated=' --demand --end --answered --constant --code --rename --where '
+                --code --wait --abandoned --empty --rename --unit --steps --event --arrive-event --begin-event --end-event --abandon-event
+                --route --where --from --until --far --duplicates --left-out-most --decimal --delimiter --fixed --encoding --skip --sheet
+                --header --split-by --model --left-out --first-lines --out-model --out --help'
+            repeated=' --demand --end --answered --constant --code --wait --abandoned --rename --arrive-event --begin-event --end-event --abandon-event --where '
             ;;
         scale)
             options='--by --shift --times --twins --source --out --help'
@@ -79,6 +80,7 @@ _mpplan() {
         prepare.--twice) choices='first second order' ;;
         prepare.--duplicates) choices='drop keep' ;;
         prepare.--decimal) choices='. ,' ;;
+        prepare.--split-by) choices='month week day' ;;
         pool.--choose) choices='longest-idle first' ;;
         pool.--by) choices='trunk agents' ;;
         pool.--format) choices='csv json md xlsx' ;;
@@ -103,11 +105,13 @@ _mpplan() {
         sojourns.--format) choices='csv json md xlsx' ;;
         sojourns.--csv-style) choices='plain excel-de' ;;
         sweep.--csv-style) choices='plain excel-de' ;;
-        *.--abandoned | *.--agents | *.--answered | *.--begin | *.--by | *.--close | *.--code | *.--constant | *.--date | *.--date-format | \
-            *.--day | *.--delimiter | *.--demand | *.--empty | *.--encoding | *.--end | *.--every | *.--first | *.--format | *.--from | \
-            *.--goal | *.--header | *.--labels | *.--left-out-most | *.--max-occupancy | *.--node | *.--open | *.--patience | *.--percentile \
-            | *.--pool | *.--rename | *.--seed | *.--set | *.--shard | *.--sheet | *.--shift | *.--shrinkage | *.--skip | *.--source | \
-            *.--start | *.--then | *.--tick | *.--time | *.--title | *.--until | *.--wait | *.--where | *.--within | *.--zone) return ;;
+        *.--abandon-event | *.--abandoned | *.--agents | *.--answered | *.--arrive-event | *.--begin | *.--begin-event | *.--by | *.--close \
+            | *.--code | *.--constant | *.--date | *.--date-format | *.--day | *.--delimiter | *.--demand | *.--empty | *.--encoding | \
+            *.--end | *.--end-event | *.--event | *.--every | *.--first | *.--fixed | *.--format | *.--from | *.--goal | *.--header | \
+            *.--labels | *.--left-out-most | *.--max-occupancy | *.--node | *.--open | *.--patience | *.--percentile | *.--pool | *.--rename \
+            | *.--route | *.--seed | *.--set | *.--shard | *.--sheet | *.--shift | *.--shrinkage | *.--skip | *.--source | *.--start | \
+            *.--steps | *.--then | *.--tick | *.--time | *.--title | *.--unit | *.--until | *.--wait | *.--where | *.--within | *.--zone) \
+            return ;;
     esac
     if [[ $choices ]]; then
         COMPREPLY=($(compgen -W "$choices" -- "$word"))

@@ -10,13 +10,15 @@ from ..times.formats import looks_like_clocks
 from ..times.texts import CLOCK, DAY, HOUR, SECOND, clock, given, iso
 from ..wording import counted
 
-# Records are far from the rest if the gap is longer than the rest spans, and than this.
+# Some records are far from the rest if the gap is longer than the rest spans, and than this.
 FAR = 30 * DAY
+# Any number of records is far from the rest after such a gap, in which no system was silent.
+AGES = 3653 * DAY
 
 
 def ticks(plan, stamps, begin, made):
     """Returns the times of the trace (array), in ticks from time 0."""
-    readers = [reader.how for reader in plan.readers()]
+    readers = [reader.how for reader in plan.readers]
     if any(reader.has_none for reader in readers) and any(reader.has_offsets for reader in readers) and not plan.place.name:
         raise ValueError("some times have an offset from UTC and others have none: give --zone for those")
     if any(len(reader.halves) > 1 for reader in readers):
@@ -76,24 +78,65 @@ def _zero(plan, begin, first, is_utc):
 
 
 def judge_far(plan, rows):
-    """Raises ValueError if the first or the last records (up to 5 percent) lie further from the rest than the rest spans: such a time is usually an
-    empty date of the system that wrote the export."""
+    """Raises ValueError if the first or the last records (up to 5 percent) lie further from the rest than the rest spans, or any number of them ten
+    years: such a time is usually an empty date of the system that wrote the export."""
     stamps = rows.stamps
-    if not plan.has_day or plan.is_ticks or len(stamps) < 3 or max(stamps) - min(stamps) <= FAR:
+    if not plan.has_day or plan.is_ticks or max(stamps) - min(stamps) <= FAR:
         return
     ordered, few = sorted(stamps), max(len(stamps) // 20, 1)
     begin, end = _far(ordered, few), -_far([-item for item in reversed(ordered)], few)
+    if begin == ordered[0] and end == ordered[-1]:
+        begin, end = _ages(ordered)
     is_early = begin > ordered[0]
     if not is_early and end == ordered[-1]:
         return
     far = [at for at, stamp in enumerate(stamps) if (stamp < begin if is_early else stamp > end)]
     gap = begin - max(stamps[at] for at in far) if is_early else min(stamps[at] for at in far) - end
-    which = f"{'the first' if is_early else 'the last'} {len(far):,} records lie" if len(far) > 1 else "its record lies"
+    at = min(far, key=stamps.__getitem__) if is_early else max(far, key=stamps.__getitem__)
+    raise _far_error(plan, rows.row_of(at), stamps[at], len(far), gap, is_early, (begin, end))
+
+
+def _far_error(plan, row, stamp, count, gap, is_early, rest):
+    """Returns the ValueError for a row with this moment: `count` records, it among them, lie before (`is_early`) or after the rest, whose first and
+    last moments are a pair, with this gap in nanoseconds."""
+    begin, end = rest
+    which = f"{'the first' if is_early else 'the last'} {count:,} records lie" if count > 1 else "its record lies"
     where = f"{which} {counted(gap // DAY, 'day')} {'before' if is_early else 'after'} the rest, which span {counted((end - begin) // DAY, 'day')}"
     bound = f"--from {_day(plan, begin)}" if is_early else f"--until {_day(plan, end + DAY)}"
-    at = min(far, key=stamps.__getitem__) if is_early else max(far, key=stamps.__getitem__)
-    shown = plan.place.shown(stamps[at])
-    raise ValueError(f"row {rows.row_of(at)}: {shown}: {where}: leave out such rows with {bound}, or keep them with --far")
+    return ValueError(f"row {row}: {plan.place.shown(stamp)}: {where}: leave out such rows with {bound}, or keep them with --far")
+
+
+def judge_far_spans(plan, spans):
+    """Does what judge_far does for records in groups, in order of time: their first moment and its row, their last moment and its row, and their
+    number (tuples of int). A gap within a group doesn't count."""
+    few = max(sum(span[4] for span in spans) // 20, 1)
+    cuts = _cuts(spans, few), _cuts([(-span[2], span[3], -span[0], span[1], span[4]) for span in reversed(spans)], few)
+    for is_early, cut in zip((True, False), cuts):
+        begin, end = (cuts[0], len(spans) - cuts[1])
+        if cut and is_early:
+            row, stamp, gap = spans[0][1], spans[0][0], spans[cut][0] - spans[cut - 1][2]
+            raise _far_error(plan, row, stamp, sum(span[4] for span in spans[:cut]), gap, True, (spans[begin][0], spans[end - 1][2]))
+        if cut:
+            row, stamp, gap = spans[-1][3], spans[-1][2], spans[-cut][0] - spans[-cut - 1][2]
+            raise _far_error(plan, row, stamp, sum(span[4] for span in spans[-cut:]), gap, False, (spans[begin][0], spans[end - 1][2]))
+
+
+def _cuts(spans, few):
+    """Returns how many of the first groups of records are far before the rest: those with at most `few` records, or less than half after which there
+    is a gap of ten years."""
+    total, last, some = sum(span[4] for span in spans), spans[-1][2], 0
+    for span in reversed(spans):
+        some += span[4]
+        if some > few:
+            last = span[2]
+            break
+    count, found = 0, 0
+    for at in range(1, len(spans)):
+        count += spans[at - 1][4]
+        gap = spans[at][0] - spans[at - 1][2]
+        if count <= few and gap > max(last - spans[at][0], FAR) or 2 * count <= total and gap > AGES:
+            found = at
+    return found
 
 
 def _far(ordered, few):
@@ -104,6 +147,14 @@ def _far(ordered, few):
         if ordered[at] - ordered[at - 1] > max(last - ordered[at], FAR):
             return ordered[at]
     return ordered[0]
+
+
+def _ages(ordered):
+    """Returns the first and the last of these moments (in rising order) between which there is no gap of ten years: of the moments before and after
+    such a gap the more numerous, or the later."""
+    cuts = [0, *(at for at in range(1, len(ordered)) if ordered[at] - ordered[at - 1] > AGES), len(ordered)]
+    begin, end = max(zip(cuts, cuts[1:]), key=lambda cut: (cut[1] - cut[0], cut[1]))
+    return ordered[begin], ordered[end - 1]
 
 
 def _day(plan, value):

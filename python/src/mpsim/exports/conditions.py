@@ -49,9 +49,9 @@ class Condition:
         return Fraction(*self._read.length(text))
 
 
-def parsed(word, export, mark):
-    """Returns the Condition that a text such as `Direction=inbound` gives for an Export; `mark` returns the decimal mark of the numbers of a column.
-    Raises ValueError."""
+def parsed(word, export, mark, option="--where"):
+    """Returns the Condition that a text such as `Direction=inbound`, the value of an option, gives for an Export; `mark` returns the decimal mark of
+    the numbers of a column. Raises ValueError."""
     for name in sorted(filter(None, export.header), key=len, reverse=True):
         found = re.match(rf"\s*({'|'.join(map(re.escape, Condition.SIGNS))})", word[len(name) :])
         if word.startswith(name) and found:
@@ -59,6 +59,6 @@ def parsed(word, export, mark):
             try:
                 return Condition(column, found[1], word[len(name) + found.end() :], mark(column) if found[1] in _ORDERS else None)
             except (Unread, ValueError) as error:
-                raise ValueError(f"--where {word}: {error}") from None
+                raise ValueError(f"{option} {word}: {error}") from None
     signs = ", ".join(Condition.SIGNS)
-    raise ValueError(f"--where {word}: expected COLUMN, one of {signs}, and a value; the columns are {listed(export.header)}")
+    raise ValueError(f"{option} {word}: expected COLUMN, one of {signs}, and a value; the columns are {listed(export.header)}")

@@ -1,11 +1,13 @@
 """Turns rows of an export into records of a trace."""
 
+import contextlib
 import re
 from operator import gt
 
 from ..limits import SOURCES
 from ..names import name_for
 from ..times.texts import DAY, Asks, Cache, Unread, day_of
+from .values import Demand
 
 # Moments are stored as 64-bit integers, which reach from 1684 to 2255.
 MOST = 9 * 10**18
@@ -123,13 +125,14 @@ class Records:
     an `End` (list of Times), `values` the columns of the trace. `source` is a column, or `only` the name that all records get; `renamed` has given
     names, and `known` the allowed ones (None for any). Rows that don't meet all `conditions` (list of Condition), and those that arrive before
     `begins` or not before `ends` (moments or None), are excluded. `ended` (Times or None) are ends of services if the rows are in their order, which
-    says which hour is meant if it occurs twice."""
+    says which hour is meant if it occurs twice. Jobs that meet all conditions of `gone` (list of Condition), if there are any, gave up;
+    `served` counts services of theirs above 0, which are taken as 0."""
 
     def __init__(self, width, time, answered, values, source=None, only=None, renamed=None, known=None):
         self.width, self.time, self.answered, self.values = width, time, answered, values
         self.source, self.only, self.known = source, only, known
         self.renamed, self.names, self.conditions, self.begins, self.ends = renamed or {}, {}, [], None, None
-        self.ended = None
+        self.ended, self.gone, self.served = None, [], 0
         self._taken, self._used = set(self.renamed.values()), set()
         self._named, self._numbers = Cache(self._name_of), {}
         self._codes = [at for at, it in enumerate(values) if it.code]
@@ -151,12 +154,11 @@ class Records:
         return made
 
     def many(self, rows):
-        """Returns records as columns (sources, moments, and each of the values) for rows that need no individual treatment. Raises ValueError if one
-        may; nothing visible has changed then."""
-        if self.time.dates or self.ended or set(map(len, rows)) != {self.width}:
+        """Returns records as columns (sources, moments, and each of the values) for rows that meet the conditions and need no individual treatment.
+        Raises ValueError if one may; nothing visible has changed then."""
+        if self.time.dates or self.ended or self.gone:
             raise Unread("one by one")
-        if not all(condition.holds(row) for condition in self.conditions for row in rows):
-            raise Unread("one by one")
+        self.judge_widths(rows)
         columns = list(zip(*rows))
         stamps = self.time.how.many(columns[self.time.column])
         first, last = min(stamps), max(stamps)
@@ -168,6 +170,18 @@ class Records:
         for at in self._codes:
             values[at] = list(map(self.values[at].code, rows))
         return [named, stamps, *values]
+
+    def judge_widths(self, rows):
+        """Raises ValueError unless all rows have as many fields as the header."""
+        if set(map(len, rows)) != {self.width}:
+            raise Unread("one by one")
+
+    def _unserved(self, value, row):
+        """Returns the service of a job that gave up, and counts it if the export has another."""
+        if isinstance(value, Demand) and row[value.column].strip():
+            with contextlib.suppress(ValueError):
+                self.served += value.how.ticks[row[value.column]] > 0
+        return 0
 
     def _is_within(self, stamp):
         return (self.begins is None or stamp >= self.begins) and (self.ends is None or stamp < self.ends)
@@ -193,8 +207,13 @@ class Records:
                 raise Unread("out of the range of times")
             if not self._is_within(stamp):
                 raise Unwanted
-            begun = [stamp]
-            for item in self.answered:
+            begun, gone = [stamp], False
+            for condition in self.gone:
+                at = condition.column
+                gone = condition.holds(row)
+                if not gone:
+                    break
+            for item in [] if gone else self.answered:
                 at = item.column
                 begun.append(item.later(row, stamp))
                 if begun[-1] < stamp:
@@ -202,7 +221,7 @@ class Records:
             made = [None, stamp]
             for value in self.values:
                 at = value.column
-                made.append(value.of(row, begun))
+                made.append(self._unserved(value, row) if gone and value.is_service else value.of(row, begun))
             at = self.source
             made[0] = self.only if at is None else self._named[row[at]]
         except Unread as error:

@@ -7,12 +7,13 @@ from ..wording import listed, quoted
 
 
 class Table:
-    """What exports of all forms have: a `header` (list of str), `rows()`, a `sample` of them, and `notes` (lists of str)."""
+    """What exports of all forms have: a `header` (list of str), `rows()`, a `sample` of them, and `notes` (lists of str). `has_header` says whether
+    the names are the file's own."""
 
     def __init__(self, skip, header, notes):
         if skip < 0:
             raise ValueError(f"--skip {skip}: expected a number of lines, 0 or more")
-        self.notes, self._skip, self._has_header = list(notes), skip, header is None
+        self.notes, self._skip, self.has_header = list(notes), skip, header is None
 
     def _named(self, first, header):
         """Returns the names of the columns: those given, separated by commas, or those in the first row."""

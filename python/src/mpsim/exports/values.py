@@ -1,16 +1,40 @@
-"""The columns of a trace after the time: service times, and words as numbers."""
+"""The columns of a trace after the time: service times and waits, and words as numbers. The services (`is_service`) of a job that gave up are 0."""
 
+from __future__ import annotations
+
+from collections.abc import Sequence
 from operator import sub
+from typing import Optional, Union
 
 from ..limits import GREATEST_VALUE
 from ..times.texts import HOUR, Asks, Unread
+from ..times.zones import Zone
+from .conditions import Condition
 
 # Clocks are set back by half an hour or more: a shorter service is the shortest there may be.
 REPEATED = HOUR // 2
+# The columns that jobs which gave up need: how long each waited, and whether it gave up.
+WAIT, ABANDONED = "wait", "abandoned"
+
+
+def other_length(zone: Zone, begin: int, end: int) -> Optional[int]:
+    """Returns the nanoseconds (int) between two moments if they would be fewer with one of them in the other of two hours that the clock of a Zone
+    shows alike; None if they wouldn't, or if the order of the rows says which hour it is.
+
+    >>> from mpsim.times.zones import Zone
+    >>> other_length(Zone("Europe/Berlin", "first"), 1792889700 * 10**9, 1792894080 * 10**9) // 10**9
+    780
+    """
+    if not zone.name or end - begin < REPEATED or zone.twice not in ("first", "second"):
+        return None
+    least = min(last - first for first in zone.both(begin) for last in zone.both(end) if first <= last)
+    return least if least < end - begin else None
 
 
 class Demand:
     """A column of service times (Lengths); `empty` is the number of ticks for an empty field, or None to leave the row out."""
+
+    is_service = True
 
     def __init__(self, name, column, how, empty=None):
         self.name, self.column, self.how, self.empty = name, column, how, empty
@@ -31,6 +55,8 @@ class Demand:
 
 class Sum:
     """Service times (`parts`, a list of Demand, End or Expression) with one name, which are rounded to ticks and added up."""
+
+    is_service = True
 
     def __init__(self, parts):
         self.parts, self.name, self.column = parts, parts[0].name, parts[0].column
@@ -63,6 +89,8 @@ class End:
     """The time from the beginning of a service to its end in a column (Times), rounded to ticks. `begin` (int) selects the beginning: 0 is the
     arrival, 1 and up those of `Records.answered`."""
 
+    is_service = True
+
     def __init__(self, name, times, tick, empty=None, begin=0):
         self.name, self.column, self.times, self.tick, self.empty, self.begin = name, times.column, times, tick, empty, begin
         self.code = None
@@ -74,8 +102,10 @@ class End:
         end = self.times.later(row, begin)
         if end < begin:
             raise Unread("before the service begins")
-        if self.times.zone.name and end - begin >= REPEATED:
-            self._judge(begin, end)
+        least = other_length(self.times.zone, begin, end)
+        if least is not None:
+            lengths = f"{self._ticks(least)} or {self._ticks(end - begin)} ticks"
+            raise Asks(f"the service is {lengths} long, since an hour occurs twice: give --twice order, for rows in order of --time or of --end")
         return self._ticks(end - begin)
 
     def _ticks(self, length):
@@ -83,17 +113,6 @@ class End:
         if ticks > GREATEST_VALUE:
             raise Unread("above 2^36 ticks")
         return ticks
-
-    def _judge(self, begin, end):
-        """Raises Asks if the service would be shorter with its beginning or its end in the other of two hours that a clock shows alike."""
-        zone = self.times.zone
-        if zone.twice not in ("first", "second"):
-            return
-        begins, ends = zone.both(begin), zone.both(end)
-        least = min(last - first for first in begins for last in ends if first <= last)
-        if least < end - begin:
-            lengths = f"{self._ticks(least)} or {self._ticks(end - begin)} ticks"
-            raise Asks(f"the service is {lengths} long, since an hour occurs twice: give --twice order, for rows in order of --time or of --end")
 
     def many(self, columns, begun):
         if self.empty is not None:
@@ -106,8 +125,46 @@ class End:
         return [(2 * length + half) // double for length in lengths]
 
 
+class Wait:
+    """How long a job waited, in the first of some columns (`parts`, a list of Demand or End) that isn't empty."""
+
+    is_service = False
+
+    def __init__(self, name: str, parts: list[Union[Demand, End]]) -> None:
+        self.name, self.parts, self.column = name, parts, parts[0].column
+        self.code = None
+
+    def of(self, row: Sequence[str], begun: Sequence[int]) -> int:
+        part = next((part for part in self.parts if row[part.column].strip()), self.parts[0])
+        try:
+            return part.of(row, begun)
+        except (Unread, Asks) as error:
+            error.column = part.column
+            raise
+
+    def many(self, columns: Sequence[Sequence[str]], begun: Sequence[Sequence[int]]) -> list[int]:
+        raise Unread("one by one")
+
+
+class Abandoned:
+    """Whether a job gave up, which it did if it meets all conditions (list of Condition), as 1 or 0."""
+
+    is_service, column, code = False, None, None
+
+    def __init__(self, name: str, conditions: list[Condition]) -> None:
+        self.name, self.conditions = name, conditions
+
+    def of(self, row: Sequence[str], begun: Sequence[int]) -> int:
+        return int(all(condition.holds(row) for condition in self.conditions))
+
+    def many(self, columns: Sequence[Sequence[str]], begun: Sequence[Sequence[int]]) -> list[int]:
+        raise Unread("one by one")
+
+
 class Constant:
     """The same ticks for all records."""
+
+    is_service = True
 
     def __init__(self, name, ticks):
         self.name, self.column, self.ticks = name, None, ticks
@@ -123,6 +180,8 @@ class Constant:
 class Code:
     """A column of words as numbers. Words in `known` (dict or None) have theirs; others are numbered in order of their first record, from 0 or from
     the greatest known number plus 1."""
+
+    is_service = False
 
     def __init__(self, name, column, known=None):
         self.name, self.column, self.known, self.codes = name, column, known, dict(known or {})

@@ -52,9 +52,9 @@ class Workbook(Table):
 
     def rows(self):
         rows, width = self._all(), len(self.header)
-        if self._has_header:
+        if self.has_header:
             next(rows, None)
-        return _Counted(_fitted(row, width) for row in rows), self._skip + 1 + self._has_header
+        return _Counted(_fitted(row, width) for row in rows), self._skip + 1 + self.has_header
 
 
 @contextlib.contextmanager
