@@ -116,7 +116,7 @@ def _made(by, words):
     name = "the export" if isinstance(words.export, (bytes, bytearray)) else os.fspath(words.export)
     try:
         with fields_up_to(FIELD), Stream(words.export) as stream:
-            plan = _planned(_table(stream, words), place, per, words)
+            plan = _planned(table_in(stream, words), place, per, words)
             most = given("--left-out-most", percent, words.left_out_most)
             if by is not None:
                 yield from _in_parts(plan, by, most, words)
@@ -174,7 +174,7 @@ def _planned(table, place, per, words):
     return plan
 
 
-def _table(stream, words):
+def table_in(stream, words):
     """Returns the table that a file contains (Export or Workbook)."""
     if not stream.is_workbook:
         if words.sheet is not None:
