@@ -49,7 +49,7 @@ def tables(numbers):
         return
     yield f"The least of {numbers['runs']} runs in seconds, and the greatest peak of memory, in form 2, with the script's settings of memory."
     took, others, steal = (numbers[item] for item in ("took", "others", "steal"))
-    yield f"The series took {took:.0f} s, in which other work had {others:.1f} s of the processors, and `steal` {steal:.1f} s."
+    yield f"The series took {took:.0f} s. Meanwhile other work took {others:.1f} s of processor time, and `steal` was {steal:.1f} s."
     if numbers["rows"]:
         yield from ["", *table(numbers["rows"], ["Run", "Rows"], lambda name, at: [STYLES[name].name, f"{at:,}"])]
     if numbers["nodes"]:

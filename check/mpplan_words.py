@@ -82,7 +82,7 @@ class Word:
     values are `files` (bool)."""
 
     def __init__(self, action):
-        self.option, self.help = bool(action.option_strings), " ".join((action.help or "").split())
+        self.option, self.help = bool(action.option_strings), " ".join((action.help or "").split()).replace("%%", "%")
         self.name = action.option_strings[-1] if self.option else action.metavar or action.dest
         self.count = 1 if action.nargs is None else action.nargs
         # A long list of choices has a name, and is in the help text.

@@ -24,7 +24,7 @@ NAMED = re.compile(r"((?:`[\w-]+`(?:,| and| of)\s+)*`[\w-]+`)\s+\(`(crates/[\w./
 DEFINES = {".antt": r" *(?:(?:(?:abbrev|unfoldable|pub|record|data) )+{0} [:({{]|{0} :)", ".rt": r" *(?:pub )?(?:ensures|enum|fn|struct|trait) {0}\b"}
 # The other code blocks with texts of the examples or a program's output: the command that shows each.
 SHOWN = {
-    ("README.md", "Example"): ["cat callcentre/model.txt", "cat callcentre/trace.csv", "cat callcentre/report.txt"],
+    ("README.md", "Example"): ["cat callcentre/model.txt", "cat callcentre/trace.csv"],
     ("docs/MODEL.md", "The model by example"): ["cat callcentre/model.txt"],
     ("docs/MODEL.md", "The trace"): ["cat callcentre/trace.csv"],
     ("docs/EDITS.md", "Move one arrival"): ["cat edits/late-caller/edits.txt"],
@@ -161,6 +161,14 @@ class Documents(Check):
                     self.holds(f"{page}: {link}#{anchor} isn't there", anchor in names)
             for name in re.findall(r"`((?:\.ci|check|tools|bench|docs|examples|completions)/[\w./*-]+)[` ]", text):
                 self.holds(f"{page}: {name} isn't there", any(ROOT.glob(name)))
+
+    def test_citation(self):
+        """CITATION.cff gives the version of VERSION, and the date on which CHANGELOG.md says that it was released."""
+        lines = (ROOT / "CITATION.cff").read_text().splitlines()
+        version = (ROOT / "VERSION").read_text().strip()
+        self.holds(f"CITATION.cff lacks version {version}", f"version: {version}" in lines)
+        date = re.search(rf"^## {re.escape(version)} \((\d{{4}}-\d\d-\d\d)\)$", (ROOT / "CHANGELOG.md").read_text(), flags=re.MULTILINE)[1]
+        self.holds(f"CITATION.cff lacks the date {date}", f"date-released: {date}" in lines)
 
     def test_names_of_definitions(self):
         """Each name with a file on docs/DEFINITIONS.md is defined in that file, and no file is named without a name."""

@@ -13,7 +13,10 @@ VERSION = (ROOT / "VERSION").read_text().strip()
 ARCHIVE, PACKAGE = f"mpsim-{VERSION}-linux-x86_64.tar.gz", f"mpsim_{VERSION}_amd64.deb"
 TREE = ARCHIVE.removesuffix(".tar.gz")
 # What a release is made from.
-SOURCES = ["README.md", "CHANGELOG.md", "CONTRIBUTING.md", "VERSION", "build.py", "crates.txt", "completions", "docs", "examples", "mpplan", "python", "tools"]
+SOURCES = [
+    *("README.md", "CHANGELOG.md", "CITATION.cff", "CONTRIBUTING.md", "VERSION", "build.py", "crates.txt"),
+    *("completions", "docs", "examples", "mpplan", "python", "tools"),
+]
 # Nothing of this process, and no toolchain.
 NOTHING = ["env", "-i", "PATH=/usr/bin:/bin"]
 
@@ -140,7 +143,8 @@ class Release(Check):
             self.holds(f"{name}.1: {page.splitlines()[0]}", re.match(rf'\.TH {name.upper()} 1 "\w+ \d+" "mpsim {re.escape(VERSION)}" ', page))
             self.same(f"{name}.1 but for its head", page.split("\n", 1)[1], (ROOT / "docs" / f"{name}.1").read_text().split("\n", 1)[1])
         documents = tree / "share" / "doc" / "mpsim"
-        for name in "README.md", "CHANGELOG.md", "CONTRIBUTING.md", "VERSION", "docs/MODEL.md", "docs/validation.svg", "examples/callcentre/model.txt":
+        pages = "README.md", "CHANGELOG.md", "CITATION.cff", "CONTRIBUTING.md", "VERSION", "docs/MODEL.md", "docs/validation.svg"
+        for name in *pages, "examples/callcentre/model.txt":
             self.same(name, (documents / name).read_bytes(), (ROOT / name).read_bytes())
         for file in (ROOT / "completions").iterdir():
             there = file.name if file.name.startswith("_") else file.name.removesuffix(".bash")

@@ -1,5 +1,5 @@
 # Runs the program `name` of the clone `root` with the arguments of the script at the root that sources this file, from any directory and through links.
-# While there is no program, tools/unproved.py runs the sources, neither proved nor optimised. --prove before all other arguments proves and builds first;
+# While there is no program, tools/unproved.py compiles and runs the sources, neither proved nor optimised. --prove before all others proves and builds first;
 # without further arguments that is all. If a program exists and nothing has changed since the last check, it runs at once; otherwise build.py compares
 # it with its sources, and proves and builds it if they differ. RT names the toolchain's command, if rt is not on the PATH.
 program=$root/crates/$name/out/$name package=$root/python/src/mpsim version=$root/VERSION

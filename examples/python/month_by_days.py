@@ -1,6 +1,6 @@
 #!/usr/bin/env python3
-"""A month of calls, each day a run of its own that begins at 8 o'clock, so that nights and weekends don't spoil what a day tells. The calls are drawn
-here, more of them on Mondays; those of a log would come by `mpplan prepare`."""
+"""Runs each day of a month of calls separately, from 8 o'clock, so that nights and weekends don't count. The calls are drawn here, more of them on
+Mondays; `mpplan prepare` makes a trace from recorded ones."""
 
 import random
 

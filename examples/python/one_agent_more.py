@@ -1,5 +1,5 @@
 #!/usr/bin/env python3
-"""One agent more at a desk with one queue: what it changes for who calls, in a week of calls."""
+"""Shows what another agent at a desk with one queue changes for the callers of a week."""
 
 import pathlib
 

@@ -1,5 +1,5 @@
 #!/usr/bin/env python3
-"""How many agents for 95 % of the calls of a week within 20 s? The share for each number of agents, as a curve of text."""
+"""Finds how many agents answer 95 % of the calls of a week within 20 s, and draws the share for each number of agents as text."""
 
 import pathlib
 

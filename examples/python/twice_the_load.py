@@ -1,5 +1,6 @@
 #!/usr/bin/env python3
-"""Twice the calls in the same week, for two agents and for three. Each call has a copy a day later at the same time, the last day's on the first."""
+"""Doubles the calls of a week, for two agents and for three. Each call gets a copy a day later at the same time; copies of the last day's calls
+come on the first."""
 
 import pathlib
 

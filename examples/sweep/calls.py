@@ -1,8 +1,8 @@
 #!/usr/bin/env python3
-"""Draws the trace of a day of calls, which is trace.csv: they come at random, at a rate that goes by the hour, and each is talked about for an
-exponential time. Times are in seconds behind the opening.
+"""Draws trace.csv, a day of calls that come at random, at a rate that depends on the hour, and last an exponential time. Times are in seconds after
+the opening.
 
-    ./calls.py [SEED] >trace.csv        seed 1, unless told
+    ./calls.py [SEED] >trace.csv        default: seed 1
 """
 
 import random

@@ -1,11 +1,11 @@
 #!/usr/bin/env python3
-"""A trunk group beside Erlang's loss formula.
+"""Compares a trunk group with Erlang's loss formula.
 
 Draws a trace of calls that come at random (a Poisson process) and hold a line for an exponential time, runs mpsim on
-it with the model of this folder, and prints the share of calls that were lost beside the share that the formula says.
+it with the model of this folder, and prints the share of lost calls and what the formula gives.
 
-    ./erlang.py [CALLS [SEED]]        100000 calls and seed 1, unless told
-    ./erlang.py --trace CALLS SEED    prints the trace alone
+    ./erlang.py [CALLS [SEED]]        default: 100000 calls and seed 1
+    ./erlang.py --trace CALLS SEED    prints only the trace
 """
 
 import math
@@ -21,7 +21,7 @@ CLONE = HERE.parent.parent / "mpsim"
 MPSIM = CLONE if CLONE.exists() else "mpsim"  # that of a release is on the path
 HOLD = 180_000.0  # the mean time for which a call holds a line, in ticks of a millisecond
 LOAD = 25.0  # how many lines the calls would hold on average if none were lost, in erlangs
-PARTS = 50  # the spread is told by the shares of so many parts of the trace
+PARTS = 50  # number of parts of the trace, whose shares give the spread
 
 
 def drawn(calls, seed):
@@ -62,8 +62,8 @@ def main(words):
         ).stdout
     lost = [line.endswith(" lost") for line in report.splitlines() if re.match(r"job \d+ lines ", line)]
     share = sum(lost) / calls
-    # Neighbouring calls fare alike, so the spread isn't that of calls drawn one by one: it is told by parts of the trace,
-    # each long beside the time for which a call holds its line.
+    # Neighbouring calls fare alike, so the spread isn't that of independent calls: it comes from parts of the trace,
+    # each much longer than the time for which a call holds its line.
     ends = [calls * part // PARTS for part in range(PARTS + 1)]
     shares = [sum(lost[start:end]) / (end - start) for start, end in zip(ends, ends[1:])]
     spread = math.sqrt(sum((part - share) ** 2 for part in shares) / (PARTS - 1) / PARTS)

@@ -1,8 +1,8 @@
 #!/usr/bin/env python3
-"""Draws the trace of a week of calls, which is trace.csv: from Monday to Saturday they come at random from 8 to 18 o'clock, at a rate that goes by the
-hour, and each is talked about for an exponential time. Times are in seconds behind the midnight before Monday.
+"""Draws trace.csv, a week of calls that come at random, from Monday to Saturday, from 8 to 18 o'clock, at a rate that depends on the hour. They last
+an exponential time. Times are in seconds after the midnight before Monday.
 
-    ./calls.py [SEED] >trace.csv        seed 1, unless told
+    ./calls.py [SEED] >trace.csv        default: seed 1
 """
 
 import random

@@ -84,6 +84,11 @@ class Columns(Test):
         for bad in "#0", "#5", "#x":
             with self.assertRaisesRegex(ValueError, f"no column '{bad}'"):
                 prepare(rows, bad)
+        twice = table("2026-03-02 08:00,a,5", "2026-03-02 08:01,b,0", header="when,q,q")
+        made = prepare(twice, "when", source="#2", constant=["d=1s"], where=["#3>0"])
+        self.assertEqual(list(made.rows()), [("a", 0, 1)])
+        with self.assertRaisesRegex(ValueError, "no column '#4'"):
+            prepare(table("2026-03-02 08:00,a", header="when,q"), "when", source="#4")
         # A column of that name comes first.
         self.assertEqual(list(prepare(table("8:00,8:05", header="#2,b"), "#2", begin="8:00").times), [0])
 

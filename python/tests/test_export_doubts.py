@@ -182,6 +182,9 @@ class HoursThatOccurTwice(Test):
         for twice in "first", "second":
             rows = "@1:50,@1:51,@1:59,0", "@2:10,@2:11,@2:20,0", "@4:00,@4:01,@6:00,0", "@1:00,@1:01,@4:00,0"
             self.assertEqual(self.sums(*rows, twice=twice).values[0].tolist(), [239, 8, 9, 119])
+        for twice in "first", "second", "order":
+            self.assertEqual(self.sums("@2:00,@2:05,@2:45,0", twice=twice).values[0].tolist(), [40])
+        self.assertEqual(self.sums("@2:30,@2:35,@3:10,0", twice="second").values[0].tolist(), [35])
         self.assertEqual(self.sums("@2:00,@2:50,@2:10,0", "@2:50,@2:55,@2:05,0", "@2:50,@2:05,@2:15,0").values[0].tolist(), [20, 10, 10])
 
     def test_a_sum_with_rows_in_order_of_their_ends(self):

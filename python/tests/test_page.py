@@ -245,7 +245,7 @@ class Text(Test):
         self.assertEqual(told, {"default-src": "'none'", **want, "base-uri": "'none'", "form-action": "'none'"})
 
     def test_no_report(self):
-        with self.assertRaisesRegex(ValueError, "every model was refused"):
+        with self.assertRaisesRegex(ValueError, "every model was rejected"):
             mpsim.sweep([], {1: "model 1\n", 2: "model 1\n"}).save("never")
         self.assertFalse(pathlib.Path("never").exists())
 

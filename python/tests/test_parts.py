@@ -65,6 +65,18 @@ class Parts(InFolder):
         utc = dict(prepare_parts(b"when\n1772496000\n1772488800\n", "when", "day", format="unix", zone="America/New_York"))
         self.assertEqual(list(utc), ["2026-03-02"])
 
+    def test_records_that_wait_in_memory(self):
+        seen, put_down = [], parts.Parts._put_down
+
+        def counted(it):
+            seen.append(len(it.stamps))
+            put_down(it)
+
+        few, put = mock.patch.object(parts, "WAITING", 100), mock.patch.object(parts.Parts, "_put_down", counted)
+        with few, put, mock.patch("mpsim.exports.rows.CHUNK", 64):
+            made = list(prepare_parts(table(*calls(700), header=HEADER), "when", "month", **OPTIONS))
+        self.assertEqual((max(seen) < 164, len(seen) > 5, sum(seen)), (True, True, sum(len(it) for _, it in made)))
+
     def test_times_far_from_the_rest(self):
         """They would be a part of their own."""
         rows = calls(100)

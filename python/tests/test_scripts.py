@@ -1,4 +1,4 @@
-"""The scripts of examples/python write what is stored beside them; and the figures that docs/PLANNER.md gives for approximations of a pool."""
+"""The scripts of examples/python write what is stored beside them; and the figures that docs/MODEL.md gives for approximations of a pool."""
 
 import os
 import re
@@ -31,7 +31,7 @@ class Near(Test):
     def test_figures_of_the_page(self):
         """One fast server by the formula of M/M/1; a server for each of C, with calls in turn, by that of a queue that gets every C-th of random
         calls; each compared with Erlang's."""
-        rows = re.findall(r"^\| (\d+), (0\.\d+) \| ([\d.]+) \| ([\d.]+) \|$", text_of(ROOT, "docs", "PLANNER.md"), flags=re.MULTILINE)
+        rows = re.findall(r"^\| (\d+), (0\.\d+) \| ([\d.]+) \| ([\d.]+) \|$", text_of(ROOT, "docs", "MODEL.md"), flags=re.MULTILINE)
         self.assertEqual(len(rows), 3)
         for agents, each, *told in rows:
             agents, each = int(agents), float(each)

@@ -276,13 +276,13 @@ class Compare(InFolder):
         self.assertEqual(planner("compare", REPORT, "--figure", "p95")[0], 2)
         self.refuses("no report has a node 'x'; they have phone, web, greet, menu, expert, desk, wrap", "compare", REPORT, "--node", "x")
         refused = self.file("s.txt", "scenario 1 status 3\nmpsim: model line 1: expected model 1 or model 2\n")
-        self.refuses(f"{refused}: every scenario was refused", "compare", refused)
+        self.refuses(f"{refused}: every scenario was rejected", "compare", refused)
         # A refused one is left out, and a line says so: differences are from the first of the others.
         others = re.sub(r"^scenario (\d+)", lambda found: f"scenario {int(found[1]) + 1}", text_of(SWEEP), flags=re.M)
         some = self.file("some.txt", text_of(refused) + others)
         status, out, err = planner("compare", some, "--csv")
         self.assertEqual((status, out.split("\n")[0].split(",")[:2]), (0, ["node", "2"]))
-        self.assertEqual(err, "mpplan: 1 is left out, because it was refused: mpsim: model line 1: expected model 1 or model 2\n")
+        self.assertEqual(err, "mpplan: 1 is left out, because it was rejected: mpsim: model line 1: expected model 1 or model 2\n")
 
 
 class Run(InFolder):

@@ -1,7 +1,10 @@
 """The options of `mpplan prepare`."""
 
+from __future__ import annotations
+
 import contextlib
 import os
+from typing import TYPE_CHECKING
 
 from ..exports.parts import KINDS
 from ..exports.prepare import prepare, prepare_parts
@@ -14,18 +17,25 @@ from ..wording import counted
 from .messages import say
 from .recipes import Recipe, apply_recipe
 
+if TYPE_CHECKING:
+    from argparse import ArgumentParser, Namespace
+    from collections.abc import Callable, Iterable
+    from typing import TextIO
+
+    from ..exports.result import Prepared
+
 EXAMPLE = (
     "mpplan prepare calls.csv --time Zeit --source Abteilung --demand 'Dauer=talk:min' --zone Europe/Berlin --out trace.csv --first-lines model.txt"
 )
 
 
-def words(parser):
+def words(parser: ArgumentParser) -> None:
     """Declares the arguments of `mpplan prepare`."""
     for declare in _times, _columns, _events, _rows, _recipe, file_words, _outputs:
         declare(parser.add_argument)
 
 
-def _times(add):
+def _times(add: Callable[..., object]) -> None:
     add("export", help="the export: a file, also packed (.gz, .bz2, .xz, .zip) or a spreadsheet (.xlsx), or - for standard input")
     add("--time", required=True, metavar="COLUMN", help="column with the time at which a job arrives")
     says = f"format of the times: a strptime format, iso, rfc, clock (h:mm:ss) or {', '.join(NUMBERS)}; default: detected"
@@ -35,13 +45,14 @@ def _times(add):
     says = "three columns with the year, month and day as numbers, if the time is in another column"
     add("--day", nargs=3, metavar=("YEAR", "MONTH", "DAY"), help=says)
     add("--zone", metavar="NAME", help="time zone of times without an offset, e.g. Europe/Berlin; without it every day has 24 hours")
-    add("--twice", choices=list(TWICE), help="which hour is meant when clocks are set back; order: the second from where times in the file go back")
+    twice = "which hour is meant when clocks are set back; order: the first until the times in the file go back, then the second"
+    add("--twice", choices=list(TWICE), help=twice)
     add("--tick", metavar="LENGTH", help="length of a tick, e.g. 1s, 100ms, 1ns or 1min; default: from the comments of --model, or 1s")
     begins = "time 0: hour (the last full hour before the first job, the default), day, first, a time of day such as 8:00, or an ISO 8601 time"
     add("--begin", metavar="WHEN", help=begins)
 
 
-def _columns(add):
+def _columns(add: Callable[..., object]) -> None:
     add("--source", metavar="COLUMN", help="column with the source of a job, or one name for all jobs")
     units = f"UNIT is one of {', '.join(Lengths.NAMES)}, by default s"
     units += ", or data at a rate, e.g. bytes@10Gbps"
@@ -52,7 +63,7 @@ def _columns(add):
     says = "column with the time at which services of --end begin: one for all, or one per --end"
     add("--answered", action="append", metavar="COLUMN", help=says)
     add("--constant", action="append", metavar="NAME=LENGTH", help="a service time that all jobs have, e.g. wrap=90s")
-    codes = "column of words, written as numbers for a split; the numbers come from --model, or count from 0"
+    codes = "column of texts, written as numbers for a split; the numbers come from --model, or count from 0 in order of appearance"
     add("--code", action="append", metavar="COLUMN[=NAME]", help=codes)
     says = "column with the wait of a job, or the time at which it ended; the first that isn't empty, if repeated"
     add("--wait", action="append", metavar="COLUMN[=NAME][:UNIT]", help=says)
@@ -62,7 +73,7 @@ def _columns(add):
     add("--rename", action="append", metavar="OLD=NEW", help="name in the trace (NEW) of a source in the export (OLD)")
 
 
-def _events(add):
+def _events(add: Callable[..., object]) -> None:
     add("--unit", metavar="COLUMN", help="an event log: rows with one value in this column are one job")
     says = "column with the station of an event, for --unit: the services of each station become a column of the trace"
     add("--steps", metavar="COLUMN", help=says)
@@ -77,24 +88,24 @@ def _events(add):
     add("--route", metavar="NAME", help="name of a column with the order in which a job passes its stations, as numbers for a split")
 
 
-def _rows(add):
+def _rows(add: Callable[..., object]) -> None:
     says = "use only rows that meet this condition: =, != (text), <, <=, >, >= (numbers or h:mm:ss) or ~ (contains); may be repeated"
     add("--where", action="append", metavar="CONDITION", help=says)
     add("--from", dest="begins", metavar="TIME", help="use only jobs that arrive at this time or later: ISO 8601, e.g. 2026-03-02, or h:mm")
     add("--until", metavar="TIME", help="use only jobs that arrive before this time")
-    add("--far", action="store_true", default=None, help="keep records that lie further from the rest than the rest spans, and more than 30 days")
+    add("--far", action="store_true", default=None, help="keep records more than 30 days from the rest, and further than the rest spans")
     says = "what to do with rows that repeat an earlier row, field by field; default: keep, with a warning"
     add("--duplicates", choices=["drop", "keep"], help=says)
     says = "percentage of the rows that may be left out because they can't be read; default: 5%%"
     add("--left-out-most", metavar="PERCENT", help=says)
 
 
-def _recipe(add):
+def _recipe(add: Callable[..., object]) -> None:
     says = "take options from this TOML file, e.g. one that mpplan inspect wrote; those given here override them"
     add("--recipe", action=Recipe, metavar="FILE", help=says)
 
 
-def file_words(add):
+def file_words(add: Callable[..., object]) -> None:
     """Declares the arguments that say how to read an export's file."""
     add("--decimal", choices=[".", ","], help="decimal mark; default: detected")
     add("--delimiter", metavar="CHARACTER", help="character between fields, \\t for a tab; default: detected")
@@ -106,7 +117,7 @@ def file_words(add):
     add("--header", metavar="NAMES", help="column names, separated by commas, for an export without a header")
 
 
-def _outputs(add):
+def _outputs(add: Callable[..., object]) -> None:
     says = "write one trace per month, week or day, to FILE-2026-03.csv and so on for --out FILE.csv"
     add("--split-by", choices=list(KINDS), help=says)
     judges = "a model: it sets the order of sources at equal times; rows of other sources are left out; its columns must be present"
@@ -117,7 +128,7 @@ def _outputs(add):
     add("--out", metavar="FILE", help="write the trace here; default: - (standard output)")
 
 
-def main(args):
+def main(args: Namespace) -> None:
     """Runs `mpplan prepare`."""
     apply_recipe(args)
     own = "command", "main", "recipe", "first_lines", "out_model", "out", "split_by"
@@ -144,26 +155,28 @@ def main(args):
             _write(made, model, lines, out_model, file)
 
 
-def _notes(args, made):
+def _notes(args: Namespace, made: Prepared) -> list[str]:
     """Returns the lines about a trace."""
     unlike = [] if args.out_model else [f"{item} (--out-model writes a model for this trace)" for item in made.unlike]
     return [*made.told, *(f"warning: {item}" for item in [*made.warned, *unlike])]
 
 
-def _size(made):
+def _size(made: Prepared) -> str:
     return f"{counted(len(made), 'record')}, {counted(len(made.names), 'source')}"
 
 
-def _write(made, model, lines, out_model, out):
+def _write(made: Prepared, model: str | None, lines: TextIO | None, out_model: TextIO | None, out: TextIO) -> None:
     """Writes a trace, and the first lines and the copy of the model that go with it, to files (None for those that aren't wanted)."""
     if lines:
         lines.write(made.first_lines())
     if out_model:
-        out_model.write(made.model(model))
+        out_model.write(made.model(model or ""))
     out.writelines(made.lines())
 
 
-def _write_parts(args, model, parts, inputs):
+def _write_parts(
+    args: Namespace, model: str | None, parts: Iterable[tuple[str, Prepared]], inputs: dict[str, list[str | None]]
+) -> None:
     """Writes the trace of each part to a file of its own, whose name has that of the part before its suffix. A line that was printed for an earlier
     part isn't repeated."""
     said = set()
@@ -180,7 +193,7 @@ def _write_parts(args, model, parts, inputs):
         del made
 
 
-def _named(path, part):
+def _named(path: str, part: str) -> str:
     """Returns the name of a part's file.
 
     >>> _named("traces/calls.csv", "2026-03")

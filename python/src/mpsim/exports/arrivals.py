@@ -1,8 +1,11 @@
 """Chooses time 0 of a trace and turns the moments of its records into ticks."""
 
+from __future__ import annotations
+
 from array import array
 from itertools import islice, repeat
 from operator import mod
+from typing import TYPE_CHECKING
 
 from ..limits import GREATEST_TIME
 from ..times.calendar import length_text
@@ -10,13 +13,20 @@ from ..times.formats import looks_like_clocks
 from ..times.texts import CLOCK, DAY, HOUR, SECOND, clock, given, iso
 from ..wording import counted
 
+if TYPE_CHECKING:
+    from collections.abc import Sequence
+
+    from .plan import Plan
+    from .result import Prepared
+    from .rows import Rows
+
 # Some records are far from the rest if the gap is longer than the rest spans, and than this.
 FAR = 30 * DAY
 # Any number of records is far from the rest after such a gap, in which no system was silent.
 AGES = 3653 * DAY
 
 
-def ticks(plan, stamps, begin, made):
+def ticks(plan: Plan, stamps: array[int], begin: str, made: Prepared) -> array[int]:
     """Returns the times of the trace (array), in ticks from time 0."""
     readers = [reader.how for reader in plan.readers]
     if any(reader.has_none for reader in readers) and any(reader.has_offsets for reader in readers) and not plan.place.name:
@@ -52,13 +62,13 @@ def ticks(plan, stamps, begin, made):
     return found
 
 
-def _judged(ticks):
+def _judged(ticks: array[int]) -> array[int]:
     if max(ticks) > GREATEST_TIME:
         raise ValueError(f"the time {max(ticks)} is above 2^60 ticks, the limit of a trace")
     return ticks
 
 
-def _zero(plan, begin, first, is_utc):
+def _zero(plan: Plan, begin: str, first: int, is_utc: bool) -> int:
     """Returns the moment of time 0, given the first time; `is_utc` says whether some times have an offset from UTC."""
     place = plan.place
     if begin == "first":
@@ -77,7 +87,7 @@ def _zero(plan, begin, first, is_utc):
     return given("--begin", lambda _: place.utc(wall), begin) if offset is None else wall - offset
 
 
-def judge_far(plan, rows):
+def judge_far(plan: Plan, rows: Rows) -> None:
     """Raises ValueError if the first or the last records (up to 5 percent) lie further from the rest than the rest spans, or any number of them ten
     years: such a time is usually an empty date of the system that wrote the export."""
     stamps = rows.stamps
@@ -139,7 +149,7 @@ def _cuts(spans, few):
     return found
 
 
-def _far(ordered, few):
+def _far(ordered: Sequence[int], few: int) -> int:
     """Returns the first of these moments (in rising order) that isn't far before the rest; at most `few` are far. The last `few` may be far too, so
     the rest is measured without them."""
     last = ordered[-1 - few]
@@ -149,7 +159,7 @@ def _far(ordered, few):
     return ordered[0]
 
 
-def _ages(ordered):
+def _ages(ordered: Sequence[int]) -> tuple[int, int]:
     """Returns the first and the last of these moments (in rising order) between which there is no gap of ten years: of the moments before and after
     such a gap the more numerous, or the later."""
     cuts = [0, *(at for at in range(1, len(ordered)) if ordered[at] - ordered[at - 1] > AGES), len(ordered)]
@@ -157,5 +167,5 @@ def _ages(ordered):
     return ordered[begin], ordered[end - 1]
 
 
-def _day(plan, value):
+def _day(plan: Plan, value: int) -> str:
     return plan.place.shown(value)[:10]

@@ -33,6 +33,7 @@ class Column(NamedTuple):
     """A column of a trace that is made of events, by its name."""
 
     name: str
+    is_service: bool = False
 
 
 class Log:
@@ -49,7 +50,7 @@ class Log:
 
     def columns(self) -> list[object]:
         """Returns columns to read with each row: the unit, the station, and what the event does."""
-        return [self.units, Constant("steps", 0) if self.steps is None else self.stations, _Kind(self)]
+        return [self.units, Constant("steps", 0) if self.steps is None else self.stations, Kind(self)]
 
     def is_met(self, row: Sequence[str]) -> bool:
         """Returns whether a row is an event that counts."""
@@ -83,10 +84,10 @@ class _Text(Code):
         return []
 
 
-class _Kind:
+class Kind:
     """What the event of a row does, as a column of numbers."""
 
-    name, code, is_service = "event", None, False
+    name, is_service = "event", False
 
     def __init__(self, log: Log) -> None:
         self._log, self.column = log, log.event
@@ -222,7 +223,8 @@ class Units(Rows):
 
     def _leave_unit(self, event: int, why: str) -> None:
         number, name = self._events.row_of(event), self._names[self._units[event]]
-        self.left.setdefault(why, [0, f"row {number}, unit {quoted(name)}"])[0] += 1
+        count, where = self.left.get(why, (0, f"row {number}, unit {quoted(name)}"))
+        self.left[why] = count + 1, where
         if self._writer:
             row = [""] * len(self.plan.export.header)
             row[self._log.unit] = name
@@ -334,7 +336,7 @@ def _first(item: Sequence[int]) -> int:
 
 
 def _is_service(it: object) -> bool:
-    return not isinstance(it, (Code, Constant, _Kind))
+    return not isinstance(it, (Code, Constant, Kind))
 
 
 def _route(visits: list[tuple[int, int]]) -> list[tuple[int, int]]:

@@ -4,12 +4,10 @@ from __future__ import annotations
 
 import os
 from array import array
-from collections.abc import Iterator
-from inspect import signature
 from itertools import islice
 from operator import eq, gt
 from types import SimpleNamespace
-from typing import Union
+from typing import TYPE_CHECKING
 
 from ..names import is_like, name_for
 from ..times.calendar import Calendar, length_text, settings_in, tick_of
@@ -30,56 +28,64 @@ from .streams import Stream
 from .values import Abandoned, Code, Demand, End, Sum
 from .workbook import Workbook
 
+if TYPE_CHECKING:
+    from collections.abc import Collection, Iterable, Iterator, Sequence
+    from typing import TextIO
+
+    from ..shapes import Path
+    from .records import Records
+    from .table import Table
+
 # A field with more characters is rejected: an unclosed quote makes one field of the rest.
 FIELD = 1 << 17
 
 
 def prepare(
-    export,
-    time,
+    export: Path | bytes | bytearray,
+    time: str,
     *,
-    format=None,
-    date=None,
-    date_format=None,
-    day=None,
-    zone=None,
-    twice=None,
-    tick=None,
-    begin="hour",
-    source=None,
-    demand=(),
-    end=(),
-    answered=(),
-    constant=(),
-    code=(),
-    empty=None,
-    rename=(),
-    decimal=None,
-    delimiter=None,
-    encoding=None,
-    skip=0,
-    header=None,
-    model=None,
-    left_out=None,
-    where=(),
-    begins=None,
-    until=None,
-    far=False,
-    duplicates=None,
-    left_out_most="5%",
-    sheet=None,
-    fixed=None,
-    wait=(),
-    abandoned=(),
-    unit=None,
-    steps=None,
-    event=None,
-    arrive_event=(),
-    begin_event=(),
-    end_event=(),
-    abandon_event=(),
-    route=None,
-):
+    format: str | None = None,
+    date: str | None = None,
+    date_format: str | None = None,
+    day: Sequence[str] | None = None,
+    zone: str | None = None,
+    twice: str | None = None,
+    tick: str | None = None,
+    begin: str = "hour",
+    source: str | None = None,
+    demand: Iterable[str] = (),
+    end: Sequence[str] = (),
+    answered: str | Iterable[str] = (),
+    constant: Iterable[str] = (),
+    code: Iterable[str] = (),
+    empty: str | None = None,
+    rename: Iterable[str] = (),
+    decimal: str | None = None,
+    delimiter: str | None = None,
+    encoding: str | None = None,
+    skip: int = 0,
+    header: str | None = None,
+    model: str | None = None,
+    left_out: TextIO | None = None,
+    where: Iterable[str] = (),
+    begins: str | None = None,
+    until: str | None = None,
+    far: bool = False,
+    duplicates: str | None = None,
+    left_out_most: str = "5%",
+    sheet: str | None = None,
+    fixed: str | None = None,
+    wait: str | Iterable[str] = (),
+    abandoned: Iterable[str] = (),
+    unit: str | None = None,
+    steps: str | None = None,
+    event: str | None = None,
+    arrive_event: Sequence[str] = (),
+    begin_event: Sequence[str] = (),
+    end_event: Sequence[str] = (),
+    abandon_event: Sequence[str] = (),
+    route: str | None = None,
+) -> Prepared:
     """Returns the trace (Prepared) made from an export, which is a path or bytes.
 
     The other arguments are the options of `mpplan prepare`, as texts, except that `begins` is --from, `day` is a list of three, `model` is the text
@@ -94,7 +100,7 @@ def prepare(
     return made
 
 
-def prepare_parts(export: Union[bytes, str, os.PathLike[str]], time: str, by: str, **options: object) -> Iterator[tuple[str, Prepared]]:
+def prepare_parts(export: Path | bytes | bytearray, time: str, by: str, **options: object) -> Iterator[tuple[str, Prepared]]:
     """Yields the traces of the parts of an export, in order of time: the name of each part, such as 2026-03, and its trace (Prepared).
 
     `by` is "month", "week" (from Monday, named 2026-W10) or "day"; the other arguments are those of `prepare`, and so are the errors. The export is
@@ -105,12 +111,13 @@ def prepare_parts(export: Union[bytes, str, os.PathLike[str]], time: str, by: st
     >>> [(name, list(made.rows())) for name, made in prepare_parts(export, "When", "month", demand=["Long=talk"])]
     [('2026-03', [('jobs', 0, 60)]), ('2026-04', [('jobs', 5, 90)])]
     """
-    bound = signature(prepare).bind(export, time, **options)
-    bound.apply_defaults()
-    return _made(by, SimpleNamespace(**bound.arguments))
+    defaults = prepare.__kwdefaults__
+    for name in options.keys() - defaults.keys():
+        raise TypeError(f"prepare_parts() got an unexpected argument {name!r}")
+    return _made(by, SimpleNamespace(export=export, time=time, **{**defaults, **options}))
 
 
-def _made(by, words):
+def _made(by: str | None, words: SimpleNamespace) -> Iterator[tuple[str, Prepared]]:
     """Yields the name and the trace of each part, or the whole trace if `by` is None. `words` has the arguments of `prepare`."""
     per, place = _tick(words.tick, words.model), Zone(words.zone, words.twice)
     name = "the export" if isinstance(words.export, (bytes, bytearray)) else os.fspath(words.export)
@@ -142,7 +149,7 @@ def _made(by, words):
         raise ValueError(f"{name}: times are before the year 1 or after the year 9999: is --format right?") from None
 
 
-def _in_parts(plan, by, most, words):
+def _in_parts(plan: Plan, by: str, most: float, words: SimpleNamespace) -> Iterator[tuple[str, Prepared]]:
     """Yields the name and the trace of each part of an export."""
     if plan.log:
         raise ValueError("--split-by can't be used with --unit: choose units by their arrivals with --from and --until")
@@ -159,7 +166,7 @@ def _in_parts(plan, by, most, words):
             del part, made
 
 
-def _planned(table, place, per, words):
+def _planned(table: Table, place: Zone, per: int, words: SimpleNamespace) -> Plan:
     """Returns the Plan for a table."""
     plan = Plan(table, place, per, words.format, words.decimal, words.model)
     plan.where(words.where)
@@ -174,7 +181,7 @@ def _planned(table, place, per, words):
     return plan
 
 
-def table_in(stream, words):
+def table_in(stream: Stream, words: SimpleNamespace) -> Table:
     """Returns the table that a file contains (Export or Workbook)."""
     if not stream.is_workbook:
         if words.sheet is not None:
@@ -189,16 +196,16 @@ def table_in(stream, words):
     return Workbook(stream, words.sheet, words.skip, words.header)
 
 
-def _tick(tick, model):
+def _tick(tick: str | None, model: str | None) -> int:
     """Returns the nanoseconds of a tick: the one given, else the model's, else a second."""
     known, _, _ = settings_in(model or "")
     per = given("--tick", tick_of, tick) if tick else known or SECOND
-    if known not in (None, per):
+    if known is not None and known != per:
         raise ValueError(f"--tick {tick}: in the model a tick is {length_text(known)}")
     return per
 
 
-def percent(text):
+def percent(text: str) -> float:
     """Returns the number (float) of a percentage such as `5%` or `2.5`. Raises ValueError."""
     try:
         value = float(text.strip().removesuffix("%"))
@@ -209,7 +216,7 @@ def percent(text):
     return value
 
 
-def _finished(plan, rows, begin, repeats, duplicates):
+def _finished(plan: Plan, rows: Rows, begin: str, repeats: str | None, duplicates: str | None) -> Prepared:
     """Returns the trace made from the rows read. `repeats` is a note on rows that repeat an earlier one, or None."""
     made = Prepared(["source", "time", *(column.name for column in plan.columns)], _order(plan, rows.sources), plan.per, plan.place.name)
     made.told += [*plan.notes, *([repeats] if duplicates and repeats else [])]
@@ -229,7 +236,7 @@ def _finished(plan, rows, begin, repeats, duplicates):
     return made
 
 
-def _note_left(rows, made):
+def _note_left(rows: Rows, made: Prepared) -> None:
     """Notes the rows or the units that are left out."""
     if rows.left:
         left, count = rows.reasons(), sum(count for count, _ in rows.left.values())
@@ -239,7 +246,7 @@ def _note_left(rows, made):
         made.told += rows.hints()
 
 
-def _judge_repeats(rows, duplicates):
+def _judge_repeats(rows: Rows, duplicates: str | None) -> str | None:
     """Returns a note (str or None) on rows that repeat an earlier one, and removes them if `duplicates` is "drop"."""
     found = rows.repeated()
     if not found:
@@ -248,17 +255,17 @@ def _judge_repeats(rows, duplicates):
     if duplicates == "drop":
         rows.drop(found)
     what = f"{counted(len(found), 'row')} that repeat{'s' if len(found) == 1 else ''} an earlier row, field by field (the first is row {first})"
-    return what + {"drop": ": dropped", "keep": ": kept"}.get(duplicates, ": kept; --duplicates drop leaves them out")
+    return what + {"drop": ": dropped", "keep": ": kept"}.get(duplicates or "", ": kept; --duplicates drop leaves them out")
 
 
-def _order(plan, used):
+def _order(plan: Plan, used: Iterable[str]) -> list[str]:
     """Returns the sources in the order of the model, or else of the export."""
     found, known = set(used), plan.records.known
     order = (plan.records.names.values() or used) if known is None else known
     return [item for item in dict.fromkeys(order) if item in found]
 
 
-def _alike(records, names):
+def _alike(records: Records, names: Collection[str]) -> Iterator[str]:
     """Yields warnings about sources whose names differ only by a number, which another export may swap."""
     for old, new in records.names.items():
         plain = name_for(old)
@@ -267,7 +274,7 @@ def _alike(records, names):
             yield f"source {old!r} is called {new}, since {other}: name both with --rename"
 
 
-def _judge_zero(plan, made):
+def _judge_zero(plan: Plan, made: Prepared) -> None:
     """Notes if the model gives another time 0 than that of the trace."""
     _, start, zone = settings_in(plan.model or "")
     if plan.is_ticks or not start:
@@ -278,7 +285,7 @@ def _judge_zero(plan, made):
         made.unlike.append(f"time 0 is {first}, but in the model, which hours, days and pages use, it is {second}")
 
 
-def _note_values(plan, rows, made):
+def _note_values(plan: Plan, rows: Rows, made: Prepared) -> None:
     gone = sum(values.count(1) for it, values in zip(plan.columns, rows.values) if isinstance(it, Abandoned))
     made.told += [f"{counted(gone, 'job')} that gave up"] if gone else []
     served = plan.records.served
@@ -303,12 +310,12 @@ def _note_values(plan, rows, made):
                 made.warned.append(f"{it.name}: {counted(over, 'service')} longer than 12 hours")
 
 
-def _codes_text(codes):
+def _codes_text(codes: Iterable[tuple[str, int]]) -> str:
     """Lists the first few words and their numbers."""
     return ", ".join(f"{number} is {word!r}" for word, number in islice(codes, LINES))
 
 
-def _code_warnings(column):
+def _code_warnings(column: Code) -> Iterator[str]:
     """Yields warnings about a column of words (Code)."""
     new = [item for item in column.codes.items() if column.known is not None and item[0] not in column.known]
     if new:
@@ -318,11 +325,11 @@ def _code_warnings(column):
         yield f"{column.name} has {count:,} values, but a split by remainder has at most 8 outputs"
 
 
-def _sort(made, rows, ticks):
+def _sort(made: Prepared, rows: Rows, ticks: array[int]) -> None:
     """Sorts the records by tick, then by source, then by time; equal ones keep the order of the export."""
     rank = {it: at for at, it in enumerate(made.names)}
     keys = [time * 64 + rank[it] for time, it in zip(ticks, rows.sources)]
-    order = range(len(keys))
+    order: Sequence[int] = range(len(keys))
     if any(map(gt, rows.stamps, islice(rows.stamps, 1, None))):
         order = sorted(order, key=rows.stamps.__getitem__)
     if not isinstance(order, range) or any(map(gt, keys, islice(keys, 1, None))):

@@ -1,13 +1,24 @@
 """Turns rows of an export into records of a trace."""
 
+from __future__ import annotations
+
 import contextlib
 import re
 from operator import gt
+from typing import TYPE_CHECKING
 
 from ..limits import SOURCES
 from ..names import name_for
 from ..times.texts import DAY, Asks, Cache, Unread, day_of
-from .values import Demand
+from .values import Code, Demand
+
+if TYPE_CHECKING:
+    from collections.abc import Mapping, Sequence
+
+    from ..times.moments import Moments
+    from ..times.zones import Zone
+    from .conditions import Condition
+    from .plan import Column
 
 # Moments are stored as 64-bit integers, which reach from 1684 to 2255.
 MOST = 9 * 10**18
@@ -16,14 +27,14 @@ MOST = 9 * 10**18
 class Dates:
     """A column of dates: its index (`column`) and `how` to read it (Moments)."""
 
-    def __init__(self, column, how):
+    def __init__(self, column: int, how: Moments) -> None:
         self.column, self.how = column, how
 
-    def midnight(self, row):
+    def midnight(self, row: Sequence[str]) -> int:
         """Returns the wall-clock midnight of a row's day (int, nanoseconds since 1970). Raises Unread or Asks, with the `column`."""
         try:
             return self.how.dates[row[self.column]]
-        except ValueError as error:
+        except (Unread, Asks) as error:
             error.column = self.column
             raise
 
@@ -36,15 +47,15 @@ class Numbers:
     60
     """
 
-    def __init__(self, columns):
+    def __init__(self, columns: Sequence[int]) -> None:
         self.columns, self._midnights = tuple(columns), Cache(self._work)
 
-    def midnight(self, row):
+    def midnight(self, row: Sequence[str]) -> int:
         """Does what Dates.midnight does."""
         year, month, day = self.columns
         return self._midnights[row[year], row[month], row[day]]
 
-    def _work(self, texts):
+    def _work(self, texts: tuple[str, str, str]) -> int:
         year = self._number(0, texts, r"[1-9]\d{3}", "not a year of four digits")
         month = self._number(1, texts, r"0?[1-9]|1[0-2]", "not a month from 1 to 12")
         day = self._number(2, texts, r"0?[1-9]|[12]\d|3[01]", "not a day from 1 to 31")
@@ -53,13 +64,13 @@ class Numbers:
         except Unread:
             raise self._error(2, "not a day of its month") from None
 
-    def _number(self, at, texts, pattern, why):
+    def _number(self, at: int, texts: Sequence[str], pattern: str, why: str) -> int:
         text = texts[at].strip()
         if not re.fullmatch(pattern, text, re.ASCII):
             raise self._error(at, why if text else "empty")
         return int(text)
 
-    def _error(self, at, why):
+    def _error(self, at: int, why: str) -> Unread:
         error = Unread(why)
         error.column = self.columns[at]
         return error
@@ -69,17 +80,19 @@ class Times:
     """A column of times: its index (`column`) and `how` to read it (Moments), in a Zone; if it has only a time of day, `dates` (Dates, Numbers or
     None) gives the day."""
 
-    def __init__(self, column, how, zone, dates=None):
+    _seen: dict[str, tuple[int, bool]]
+
+    def __init__(self, column: int, how: Moments, zone: Zone, dates: Dates | Numbers | None = None) -> None:
         self.column, self.how, self.zone, self.dates = column, how, zone, dates
         self._seen = {}
 
-    def first(self, row, until=None):
+    def first(self, row: Sequence[str], until: int | None = None) -> int:
         """Returns the moment of a row; if its hour occurs twice, the last that isn't after `until`, if given. Without a date it is on day 0."""
         if self.dates is None:
             return self.how.of(row[self.column], None, until)
         return self.zone.utc(self.dates.midnight(row) + self.how.of(row[self.column]), self._seen, None, until)
 
-    def later(self, row, than):
+    def later(self, row: Sequence[str], than: int) -> int:
         """Returns the moment of a row at or after another one. A time of day is its next occurrence."""
         value = self.how.of(row[self.column], than)
         if not self.how.is_of_day:
@@ -95,8 +108,7 @@ class Times:
             moment = than - 1
         return moment if moment >= than else self.zone.utc(midnight + DAY + value, self._seen, than)
 
-
-    def many_later(self, columns, than):
+    def many_later(self, columns: Sequence[Sequence[str]], than: Sequence[int]) -> list[int]:
         """Returns the moments (list of int) of rows, given as columns, at or after other ones. Raises Unread if one needs individual treatment."""
         found = self.how.many(columns[self.column])
         if any(map(gt, than, found)):
@@ -111,7 +123,7 @@ class TooManySources(ValueError):
 class Left(ValueError):
     """A row to leave out: the index of the column that can't be read, None for the whole row, and the reason."""
 
-    def __init__(self, column, why):
+    def __init__(self, column: int | None, why: str) -> None:
         super().__init__(column, why)
         self.column, self.why = column, why
 
@@ -128,16 +140,35 @@ class Records:
     says which hour is meant if it occurs twice. Jobs that meet all conditions of `gone` (list of Condition), if there are any, gave up;
     `served` counts services of theirs above 0, which are taken as 0."""
 
-    def __init__(self, width, time, answered, values, source=None, only=None, renamed=None, known=None):
+    names: dict[str, str]
+    conditions: list[Condition]
+    begins: int | None
+    ends: int | None
+    ended: Times | None
+    gone: list[Condition]
+    _used: set[str]
+    _numbers: dict[str, int]
+
+    def __init__(
+        self,
+        width: int,
+        time: Times,
+        answered: Sequence[Times],
+        values: Sequence[Column],
+        source: int | None = None,
+        only: str | None = None,
+        renamed: Mapping[str, str] | None = None,
+        known: Sequence[str] | None = None,
+    ) -> None:
         self.width, self.time, self.answered, self.values = width, time, answered, values
-        self.source, self.only, self.known = source, only, known
+        self.source, self.only, self.known = source, only or "", known
         self.renamed, self.names, self.conditions, self.begins, self.ends = renamed or {}, {}, [], None, None
         self.ended, self.gone, self.served = None, [], 0
         self._taken, self._used = set(self.renamed.values()), set()
         self._named, self._numbers = Cache(self._name_of), {}
-        self._codes = [at for at, it in enumerate(values) if it.code]
+        self._codes = [(at, it) for at, it in enumerate(values) if isinstance(it, Code)]
 
-    def _name_of(self, text):
+    def _name_of(self, text: str) -> str:
         text = text.strip()
         if not text:
             raise Unread("empty")
@@ -153,7 +184,7 @@ class Records:
         self._used.add(made)
         return made
 
-    def many(self, rows):
+    def many(self, rows: Sequence[Sequence[str]]) -> list[Sequence[str] | Sequence[int]]:
         """Returns records as columns (sources, moments, and each of the values) for rows that meet the conditions and need no individual treatment.
         Raises ValueError if one may; nothing visible has changed then."""
         if self.time.dates or self.ended or self.gone:
@@ -166,27 +197,27 @@ class Records:
             raise Unread("one by one")
         begun = [stamps, *(item.many_later(columns, stamps) for item in self.answered)]
         values = [value.many(columns, begun) for value in self.values]
-        named = [self.only] * len(rows) if self.source is None else list(map(self._named.__getitem__, columns[self.source]))
-        for at in self._codes:
-            values[at] = list(map(self.values[at].code, rows))
+        named: list[str] = [self.only] * len(rows) if self.source is None else list(map(self._named.__getitem__, columns[self.source]))
+        for at, column in self._codes:
+            values[at] = list(map(column.code, rows))
         return [named, stamps, *values]
 
-    def judge_widths(self, rows):
+    def judge_widths(self, rows: Sequence[Sequence[str]]) -> None:
         """Raises ValueError unless all rows have as many fields as the header."""
         if set(map(len, rows)) != {self.width}:
             raise Unread("one by one")
 
-    def _unserved(self, value, row):
+    def _unserved(self, value: Column, row: Sequence[str]) -> int:
         """Returns the service of a job that gave up, and counts it if the export has another."""
         if isinstance(value, Demand) and row[value.column].strip():
             with contextlib.suppress(ValueError):
                 self.served += value.how.ticks[row[value.column]] > 0
         return 0
 
-    def _is_within(self, stamp):
+    def _is_within(self, stamp: int) -> bool:
         return (self.begins is None or stamp >= self.begins) and (self.ends is None or stamp < self.ends)
 
-    def of(self, row):
+    def of(self, row: Sequence[str]) -> list[str | int]:
         """Returns a record: a list of the source, the moment, and the values. Raises Left if the row can't be read, Unwanted if it is excluded, and
         Asks, with the `column`."""
         if len(row) != self.width and (len(row) < self.width or any(row[self.width :])):
@@ -218,19 +249,20 @@ class Records:
                 begun.append(item.later(row, stamp))
                 if begun[-1] < stamp:
                     raise Unread("before the job arrives")
-            made = [None, stamp]
+            values = []
             for value in self.values:
                 at = value.column
-                made.append(self._unserved(value, row) if gone and value.is_service else value.of(row, begun))
-            at = self.source
-            made[0] = self.only if at is None else self._named[row[at]]
+                values.append(self._unserved(value, row) if gone and value.is_service else value.of(row, begun))
+            at = -1 if self.source is None else self.source
+            source = self.only if self.source is None else self._named[row[at]]
         except Unread as error:
             raise Left(getattr(error, "column", at), str(error)) from None
         except OverflowError:
             raise Left(at, "out of the range of dates") from None
         except Asks as error:
-            error.column = getattr(error, "column", at)
+            if not hasattr(error, "column"):
+                error.column = at
             raise
-        for at in self._codes:
-            made[at + 2] = self.values[at].code(row)
-        return made
+        for at, column in self._codes:
+            values[at] = column.code(row)
+        return [source, stamp, *values]

@@ -1,10 +1,13 @@
 """Reads the rows of an export into records, and keeps account of the rows that are left out, that no one asked for, or that occur twice."""
 
+from __future__ import annotations
+
 import contextlib
 import csv
 from array import array
 from bisect import bisect_left, bisect_right
 from itertools import compress, islice
+from typing import TYPE_CHECKING
 
 from ..limits import RECORDS
 from ..progress import Progress, uncollected
@@ -16,6 +19,12 @@ from .expressions import Expression
 from .records import Left, Unwanted
 from .result import CHUNK
 
+if TYPE_CHECKING:
+    from collections.abc import Iterable, Sequence
+    from typing import Any, TextIO
+
+    from .plan import Plan
+
 
 class TooManyLeft(ValueError):
     """More rows of an export can't be read than is allowed."""
@@ -23,7 +32,7 @@ class TooManyLeft(ValueError):
     status = 13
 
 
-def _service_columns(plan):
+def _service_columns(plan: Plan) -> set[int]:
     """Returns the indices (set) of the columns that an abandoned call leaves empty."""
     parts = [part for it in plan.columns if it.is_service for part in getattr(it, "parts", [it])]
     terms = [term for part in parts for term in getattr(part, "lengths", [])]
@@ -38,8 +47,14 @@ class Rows:
 
     # What is counted in messages.
     what = "row"
+    left: dict[str, tuple[int, str]]
+    sources: list[str]
+    stamps: array[int]
+    values: list[array[int]]
+    _hashes: array[int]
+    _runs: list[tuple[int, int]]
 
-    def __init__(self, plan, left_out=None, most=None):
+    def __init__(self, plan: Plan, left_out: TextIO | None = None, most: int | None = None) -> None:
         self._most = most or RECORDS
         self.plan, self.left, self.unwanted, self.long = plan, {}, 0, 0
         self.sources, self.stamps, self.values = [], array("q"), [array("q") for _ in plan.columns]
@@ -47,7 +62,7 @@ class Rows:
         self._hashes, self._runs = array("q"), []
         self._writer = Writer(left_out) if left_out is not None else None
 
-    def read(self):
+    def read(self) -> None:
         """Reads all rows. Raises ValueError if the export is too long or needs another option."""
         rows, number = self.plan.export.rows()
         lines = rows.line_num
@@ -64,7 +79,7 @@ class Rows:
             except csv.Error as error:
                 raise ValueError(f"row {self._unread()}: {error}: is a closing quote missing?") from None
 
-    def _unread(self):
+    def _unread(self) -> int:
         """Returns the number of the row that the reader of rows can't read."""
         rows, number = self.plan.export.rows()
         with contextlib.suppress(csv.Error):
@@ -72,7 +87,7 @@ class Rows:
                 number += 1
         return number
 
-    def _judge_lines(self, rows, first):
+    def _judge_lines(self, rows: Sequence[Sequence[str]], first: int) -> None:
         """Raises ValueError if a field of these rows has lines that are rows themselves, as after a quote that isn't closed."""
         plan = self.plan
         for number, row in enumerate(rows, first):
@@ -84,7 +99,7 @@ class Rows:
                 if len(lines) > LINES and not self.long:
                     self.long = number
 
-    def _read_some(self, rows, first):
+    def _read_some(self, rows: Sequence[list[str]], first: int) -> None:
         """Reads some rows, the first of which has this number."""
         plan = self.plan
         if plan.is_ragged:
@@ -114,7 +129,7 @@ class Rows:
                 raise ValueError(f"row {number}, column {plan.export.header[error.column]!r}: {quoted(row[error.column])}: {error}") from None
         self._add(numbers, kept, zip(*records))
 
-    def _read_met(self, rows, numbers):
+    def _read_met(self, rows: Sequence[Sequence[str]], numbers: Sequence[int]) -> None:
         """Reads some rows with these numbers at once, after excluding those that don't meet all conditions. Raises ValueError if one of them may need
         individual treatment; nothing has changed then."""
         conditions, records = self.plan.records.conditions, self.plan.records
@@ -132,52 +147,54 @@ class Rows:
                 self.plan.log.excluded(row)
         self._add(numbers, rows, columns)
 
-    def _add(self, numbers, rows, columns):
+    def _add(self, numbers: Sequence[int], rows: Sequence[Sequence[str]], columns: Iterable[Iterable[Any]]) -> None:
         """Adds records, given as columns: sources, moments, and each of the values; with the numbers and the fields of their rows."""
         for at, number in enumerate(numbers, len(self.stamps)):
             if not self._runs or number - at != self._runs[-1][1] - self._runs[-1][0]:
                 self._runs.append((at, number))
             if isinstance(numbers, range):
                 break
-        for column, more in zip((self.sources, self.stamps, *self.values), columns):
+        lists: list[Any] = [self.sources, self.stamps, *self.values]
+        for column, more in zip(lists, columns):
             column.extend(more)
-        self._hashes.extend(map(hash, map(tuple, rows)))
+        self._hashes.extend(hash(tuple(row)) for row in rows)
         if len(self.stamps) > self._most:
             what, cut = ("records, the limit of a trace", ", or cut it with --split-by month") if self.plan.log is None else ("events", "")
             raise ValueError(f"more than {self._most:,} {what}: choose a part with --from, --until or --where{cut}")
 
-    def _leave(self, number, error, row):
+    def _leave(self, number: int, error: Left, row: Sequence[str]) -> None:
         """Counts a row that is left out."""
         why, first = error.why, f"row {number}"
         if error.column is not None:
             name = self.plan.export.header[error.column]
             why = f"{name} is empty" if why == "empty" else f"{name}: {why}"
             first += f", {quoted(row[error.column])}" if row[error.column].strip() else ""
-        self.left.setdefault(why, [0, first])[0] += 1
+        count, where = self.left.get(why, (0, first))
+        self.left[why] = count + 1, where
         if error.why == "empty" and error.column in self._services:
             self._empty[name] = self._empty.get(name, 0) + 1
         if self._writer:
             self._writer.writerow([number, why, *row])
 
-    def row_of(self, at):
+    def row_of(self, at: int) -> int:
         """Returns the number of the row of a record, by its index."""
         begin, number = self._runs[bisect_right(self._runs, (at, float("inf"))) - 1]
         return number + at - begin
 
-    def reasons(self):
+    def reasons(self) -> list[str]:
         """Returns a text for each reason to leave rows out, the commonest first."""
         ordered = sorted(self.left.items(), key=lambda item: -item[1][0])
         where = {why: f" ({first})" if count == 1 else f"; the first is {first}" for why, (count, first) in ordered}
         return [f"{counted(count, self.what)}: {why}{where[why]}" for why, (count, _) in ordered]
 
-    def hints(self):
+    def hints(self) -> list[str]:
         """Returns a note (list of str) on rows that may be abandoned calls."""
         if not self._empty or self.plan.gone or self.plan.log:
             return []
         name = max(self._empty, key=self._empty.__getitem__)
         return [f"if an empty {name!r} means an abandoned call: --abandoned '{name}=' keeps it as such, --where '{name}!=' excludes it"]
 
-    def judge_left(self, most, kept=None):
+    def judge_left(self, most: float, kept: int | None = None) -> None:
         """Raises ValueError if no row is left, and TooManyLeft if more than this percentage of the rows is left out; `kept` is the number of records,
         by default of those in memory."""
         left = sum(count for count, _ in self.left.values())
@@ -190,20 +207,21 @@ class Rows:
             allow = f"more than {most:g} percent: to allow it, give --left-out-most {-(-100 * left // (left + kept))}%"
             raise TooManyLeft("; ".join([f"{rows} would be left out, {allow}", *self.reasons()[:3], *self.hints()]))
 
-    def repeated(self):
+    def repeated(self) -> list[int]:
         """Returns the indices (list of int) of records whose rows repeat an earlier one, field by field."""
         if len(set(self._hashes)) == len(self._hashes):
             return []
-        first, found = {}, []
+        first: dict[int, int] = {}
+        found = []
         for at, value in enumerate(self._hashes):
             if self._record(first.setdefault(value, at)) == self._record(at) and first[value] != at:
                 found.append(at)
         return found
 
-    def _record(self, at):
+    def _record(self, at: int) -> tuple[object, ...]:
         return self.sources[at], self.stamps[at], *(column[at] for column in self.values)
 
-    def drop(self, indices):
+    def drop(self, indices: Sequence[int]) -> None:
         """Removes the records with these indices (in rising order)."""
         keep = bytearray(b"\1") * len(self.stamps)
         numbers = [self.row_of(at) for at in indices]

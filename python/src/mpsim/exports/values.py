@@ -2,14 +2,20 @@
 
 from __future__ import annotations
 
-from collections.abc import Sequence
 from operator import sub
-from typing import Optional, Union
+from typing import TYPE_CHECKING
 
 from ..limits import GREATEST_VALUE
 from ..times.texts import HOUR, Asks, Unread
-from ..times.zones import Zone
-from .conditions import Condition
+
+if TYPE_CHECKING:
+    from collections.abc import Mapping, Sequence
+
+    from ..times.lengths import Lengths
+    from ..times.zones import Zone
+    from .conditions import Condition
+    from .expressions import Expression
+    from .records import Times
 
 # Clocks are set back by half an hour or more: a shorter service is the shortest there may be.
 REPEATED = HOUR // 2
@@ -17,7 +23,7 @@ REPEATED = HOUR // 2
 WAIT, ABANDONED = "wait", "abandoned"
 
 
-def other_length(zone: Zone, begin: int, end: int) -> Optional[int]:
+def other_length(zone: Zone, begin: int, end: int) -> int | None:
     """Returns the nanoseconds (int) between two moments if they would be fewer with one of them in the other of two hours that the clock of a Zone
     shows alike; None if they wouldn't, or if the order of the rows says which hour it is.
 
@@ -36,19 +42,20 @@ class Demand:
 
     is_service = True
 
-    def __init__(self, name, column, how, empty=None):
+    def __init__(self, name: str, column: int, how: Lengths, empty: int | None = None) -> None:
         self.name, self.column, self.how, self.empty = name, column, how, empty
-        self.code = None
 
-    def of(self, row, begun):
+    def of(self, row: Sequence[str], begun: Sequence[int]) -> int:
+        """Returns the ticks (int) of a row. `begun` has the moments of the arrival and of the beginnings of services. Raises Unread and Asks."""
         text = row[self.column]
         return self.empty if self.empty is not None and not text.strip() else self.how.ticks[text]
 
-    def many(self, columns, begun):
+    def many(self, columns: Sequence[Sequence[str]], begun: Sequence[Sequence[int]]) -> list[int]:
+        """Returns the ticks (list of int) of rows, given as columns. Raises Unread if one needs individual treatment."""
         return list(map(self.how.ticks.__getitem__, columns[self.column]))
 
     @property
-    def rounded(self):
+    def rounded(self) -> int:
         """The number of distinct texts that aren't whole ticks."""
         return self.how.rounded
 
@@ -58,30 +65,34 @@ class Sum:
 
     is_service = True
 
-    def __init__(self, parts):
-        self.parts, self.name, self.column = parts, parts[0].name, parts[0].column
-        self.code = None
+    def __init__(self, parts: Sequence[Demand | End | Expression]) -> None:
+        self.parts, self.name = parts, parts[0].name
+        self.column: int = parts[0].column
 
-    def of(self, row, begun):
+    def of(self, row: Sequence[str], begun: Sequence[int]) -> int:
+        """Returns the ticks (int) of a row. `begun` has the moments of the arrival and of the beginnings of services. Raises Unread and Asks."""
         total = 0
         for part in self.parts:
             try:
                 total += part.of(row, begun)
             except (Unread, Asks) as error:
-                error.column = getattr(error, "column", part.column)
+                if not hasattr(error, "column"):
+                    error.column = part.column
                 raise
         if total > GREATEST_VALUE:
             raise Unread("above 2^36 ticks")
         return total
 
-    def many(self, columns, begun):
+    def many(self, columns: Sequence[Sequence[str]], begun: Sequence[Sequence[int]]) -> list[int]:
+        """Returns the ticks (list of int) of rows, given as columns. Raises Unread if one needs individual treatment."""
         totals = list(map(sum, zip(*(part.many(columns, begun) for part in self.parts))))
         if max(totals) > GREATEST_VALUE:
             raise Unread("one by one")
         return totals
 
     @property
-    def rounded(self):
+    def rounded(self) -> int:
+        """The number of distinct texts of its parts that aren't whole ticks."""
         return sum(getattr(part, "rounded", 0) for part in self.parts)
 
 
@@ -91,11 +102,12 @@ class End:
 
     is_service = True
 
-    def __init__(self, name, times, tick, empty=None, begin=0):
-        self.name, self.column, self.times, self.tick, self.empty, self.begin = name, times.column, times, tick, empty, begin
-        self.code = None
+    def __init__(self, name: str, times: Times, tick: int, empty: int | None = None, begin: int = 0) -> None:
+        self.name, self.times, self.tick, self.empty, self.begin = name, times, tick, empty, begin
+        self.column: int = times.column
 
-    def of(self, row, begun):
+    def of(self, row: Sequence[str], begun: Sequence[int]) -> int:
+        """Returns the ticks (int) of a row. `begun` has the moments of the arrival and of the beginnings of services. Raises Unread and Asks."""
         if self.empty is not None and not row[self.column].strip():
             return self.empty
         begin = begun[self.begin]
@@ -108,13 +120,14 @@ class End:
             raise Asks(f"the service is {lengths} long, since an hour occurs twice: give --twice order, for rows in order of --time or of --end")
         return self._ticks(end - begin)
 
-    def _ticks(self, length):
+    def _ticks(self, length: int) -> int:
         ticks = (2 * length + self.tick) // (2 * self.tick)
         if ticks > GREATEST_VALUE:
             raise Unread("above 2^36 ticks")
         return ticks
 
-    def many(self, columns, begun):
+    def many(self, columns: Sequence[Sequence[str]], begun: Sequence[Sequence[int]]) -> list[int]:
+        """Returns the ticks (list of int) of rows, given as columns. Raises Unread if one needs individual treatment."""
         if self.empty is not None:
             raise Unread("one by one")
         lengths = list(map(sub, self.times.many_later(columns, begun[self.begin]), begun[self.begin]))
@@ -130,11 +143,12 @@ class Wait:
 
     is_service = False
 
-    def __init__(self, name: str, parts: list[Union[Demand, End]]) -> None:
-        self.name, self.parts, self.column = name, parts, parts[0].column
-        self.code = None
+    def __init__(self, name: str, parts: list[Demand | End]) -> None:
+        self.name, self.parts = name, parts
+        self.column: int = parts[0].column
 
     def of(self, row: Sequence[str], begun: Sequence[int]) -> int:
+        """Returns the ticks (int) of a row. `begun` has the moment of the arrival first. Raises Unread and Asks, with the `column`."""
         part = next((part for part in self.parts if row[part.column].strip()), self.parts[0])
         try:
             return part.of(row, begun)
@@ -143,21 +157,25 @@ class Wait:
             raise
 
     def many(self, columns: Sequence[Sequence[str]], begun: Sequence[Sequence[int]]) -> list[int]:
+        """Raises Unread, since each row needs individual treatment."""
         raise Unread("one by one")
 
 
 class Abandoned:
     """Whether a job gave up, which it did if it meets all conditions (list of Condition), as 1 or 0."""
 
-    is_service, column, code = False, None, None
+    # It is in several columns of the export, or none.
+    is_service, column = False, -1
 
     def __init__(self, name: str, conditions: list[Condition]) -> None:
         self.name, self.conditions = name, conditions
 
     def of(self, row: Sequence[str], begun: Sequence[int]) -> int:
+        """Returns 1 for the row of a job that gave up, else 0. Raises Unread and Asks."""
         return int(all(condition.holds(row) for condition in self.conditions))
 
     def many(self, columns: Sequence[Sequence[str]], begun: Sequence[Sequence[int]]) -> list[int]:
+        """Raises Unread, since each row needs individual treatment."""
         raise Unread("one by one")
 
 
@@ -166,14 +184,16 @@ class Constant:
 
     is_service = True
 
-    def __init__(self, name, ticks):
-        self.name, self.column, self.ticks = name, None, ticks
-        self.code = None
+    def __init__(self, name: str, ticks: int) -> None:
+        # It is in no column of the export.
+        self.name, self.column, self.ticks = name, -1, ticks
 
-    def of(self, row, begun):
+    def of(self, row: Sequence[str], begun: Sequence[int]) -> int:
+        """Returns the ticks (int) of a row."""
         return self.ticks
 
-    def many(self, columns, begun):
+    def many(self, columns: Sequence[Sequence[str]], begun: Sequence[Sequence[int]]) -> list[int]:
+        """Returns the ticks (list of int) of rows, given as columns."""
         return [self.ticks] * len(columns[0])
 
 
@@ -183,18 +203,20 @@ class Code:
 
     is_service = False
 
-    def __init__(self, name, column, known=None):
+    def __init__(self, name: str, column: int, known: Mapping[str, int] | None = None) -> None:
         self.name, self.column, self.known, self.codes = name, column, known, dict(known or {})
         self._next = max(self.codes.values(), default=-1) + 1
 
-    def of(self, row, begun):
-        # Words of rows that are left out get no number: `code` is called only for rows that stay.
+    def of(self, row: Sequence[str], begun: Sequence[int]) -> int:
+        """Returns 0: words of rows that are left out get no number, and `code` is called only for rows that stay."""
         return 0
 
-    def many(self, columns, begun):
+    def many(self, columns: Sequence[Sequence[str]], begun: Sequence[Sequence[int]]) -> list[int]:
+        """Returns nothing yet: `code` is called for each row that stays."""
         return []
 
-    def code(self, row):
+    def code(self, row: Sequence[str]) -> int:
+        """Returns the number (int) of the word in a row, the next one for a new word."""
         word = row[self.column].strip()
         number = self.codes.get(word)
         if number is None:

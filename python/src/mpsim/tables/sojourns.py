@@ -1,13 +1,21 @@
 """Reports how long jobs were in the network, from the source where they arrived to the node where they left."""
 
+from __future__ import annotations
+
 from array import array
 from bisect import bisect_right
-from collections.abc import Sequence
 from itertools import compress, repeat
-from typing import Any, NamedTuple
+from typing import TYPE_CHECKING, Any, NamedTuple
 
+from ..agents.pools import visits_in
 from ..node_visits import HELD, percentile_of
 from .service import PERCENTS
+
+if TYPE_CHECKING:
+    from collections.abc import Iterator, Sequence
+
+    from ..report import Report
+    from ..shapes import Row
 
 # With fewer visits, importing numpy takes longer than it saves.
 MANY = 1 << 16
@@ -36,7 +44,7 @@ class Sojourn(NamedTuple):
     sojourn: int
 
 
-def sojourns(report):
+def sojourns(report: Report) -> Iterator[Sojourn]:
     """Yields the way (Sojourn) of each job of a report with visits, in the order of records. A forked job is done when its last part leaves; of
     several nodes left at that time, the last in the report counts. A job with a part that a join holds to the end has no sojourn and is left out.
 
@@ -54,7 +62,7 @@ def sojourns(report):
         yield Sojourn(job, names[source], came, names[end // 2], bool(end % 2), sojourn)
 
 
-def ways(report):
+def ways(report: Report) -> Ways:
     """Returns the ways (Ways) of the jobs of a report with visits, as `sojourns` defines them, computed with numpy if there are many visits and it is
     installed.
 
@@ -64,7 +72,7 @@ def ways(report):
     >>> [list(column) for column in ways(report)]
     [[1, 2], [0, 0], [0, 1], [2, 3], [4, 0]]
     """
-    numpy = _numpy() if report.visits.count() >= MANY else None
+    numpy = _numpy() if visits_in(report).count() >= MANY else None
     return _ways_by(numpy, report) if numpy else _ways(report)
 
 
@@ -77,19 +85,19 @@ def _numpy() -> Any:
     return numpy
 
 
-def _ways(report):
+def _ways(report: Report) -> Ways:
     """Does what `ways` does with Python alone."""
     count = report.jobs + 1
     came, source = array("q", [-1]) * count, array("b", [0]) * count
     gone, end = array("q", [-1]) * count, array("h", [0]) * count
-    stays = bytearray(b"\1") * count
+    stays, every = bytearray(b"\1") * count, visits_in(report)
     # Nodes are in the order of the network: a job visits later nodes later, and leaves at the last of its visits with the latest end.
     for number, node in enumerate(report.nodes):
-        visits = report.visits[node.name]
+        visits = every[node.name]
         if node.kind == "source":
             for job, arrive in zip(visits.job, visits.arrive):
                 came[job], source[job] = arrive, number
-        departs = visits.depart
+        departs: Sequence[int] = visits.depart
         if visits.wait and min(visits.wait) < 0:
             for job, wait in zip(visits.job, visits.wait):
                 if wait == HELD:
@@ -103,14 +111,14 @@ def _ways(report):
     return Ways(jobs, sources, arrivals, ends, array("q", map(int.__sub__, departures, arrivals)))
 
 
-def _ways_by(numpy, report):
+def _ways_by(numpy: Any, report: Report) -> Ways:
     """Does what `ways` does with numpy."""
     count = report.jobs + 1
     came, source = numpy.full(count, -1), numpy.zeros(count, int)
     gone, end = numpy.full(count, -1), numpy.zeros(count, int)
-    stays = numpy.ones(count, bool)
+    stays, every = numpy.ones(count, bool), visits_in(report)
     for number, node in enumerate(report.nodes):
-        visits = report.visits[node.name]
+        visits = every[node.name]
         job, arrive, wait, depart = (numpy.asarray(column) for column in (visits.job, visits.arrive, visits.wait, visits.depart))
         if node.kind == "source":
             came[job], source[job] = arrive, number
@@ -127,7 +135,7 @@ def _ways_by(numpy, report):
     return Ways(*(column.tolist() for column in columns))
 
 
-def table(report, by="both", within=(), percents=PERCENTS):
+def table(report: Report, by: str = "both", within: Sequence[int] = (), percents: Sequence[float] = PERCENTS) -> Iterator[Row]:
     """Yields the header and the rows (lists) of a table of a report with visits, in the order of its nodes. Rows are per source and node where jobs
     left (`by` "both"), per source ("source"), per node ("end"), or for all jobs ("all"). Each has the number of jobs, the mean of their sojourns to
     three decimals, percentiles and the longest, and the share of at most each of `within` ticks, to six decimals. Rows by node list lost jobs
@@ -143,7 +151,7 @@ def table(report, by="both", within=(), percents=PERCENTS):
     """
     is_by_source, is_by_end = by in ("both", "source"), by in ("both", "end")
     every = ways(report)
-    found = {}
+    found: dict[tuple[int, int], list[int]] = {}
     unknown = repeat(0)
     for key, sojourn in zip(zip(every.source if is_by_source else unknown, every.end if is_by_end else unknown), every.sojourn):
         if key in found:
@@ -160,7 +168,7 @@ def table(report, by="both", within=(), percents=PERCENTS):
         yield [*shown, len(times), round(sum(times) / len(times), 3), *(percentile_of(times, percent) for percent in percents), times[-1], *shares]
 
 
-def each(report):
+def each(report: Report) -> Iterator[Row]:
     """Yields the header and the rows (lists) of a table with a row per job."""
     yield ["job", "source", "came", "left_at", "how", "sojourn"]
     for sojourn in sojourns(report):
