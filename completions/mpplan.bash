@@ -4,15 +4,18 @@ _mpplan() {
     local word=${COMP_WORDS[COMP_CWORD]} i choices='' given=' ' options='' repeated=' ' left=''
     COMPREPLY=()
     if ((COMP_CWORD == 1)); then
-        COMPREPLY=($(compgen -W 'prepare scale resample edit pool grid staff decision recorded validate run days table compare service hours sojourns sweep page --help --version' -- "$word"))
+        COMPREPLY=($(compgen -W 'inspect prepare scale resample edit pool grid staff decision recorded validate run days table compare service hours sojourns sweep page --help --version' -- "$word"))
         return
     fi
     case ${COMP_WORDS[1]} in
+        inspect)
+            options='--decimal --delimiter --fixed --encoding --skip --sheet --header --write-recipe --format --csv-style --help'
+            ;;
         prepare)
             options='--time --format --date --date-format --day --zone --twice --tick --begin --source --demand --end --answered --constant
                 --code --wait --abandoned --empty --rename --unit --steps --event --arrive-event --begin-event --end-event --abandon-event
-                --route --where --from --until --far --duplicates --left-out-most --decimal --delimiter --fixed --encoding --skip --sheet
-                --header --split-by --model --left-out --first-lines --out-model --out --help'
+                --route --where --from --until --far --duplicates --left-out-most --recipe --decimal --delimiter --fixed --encoding --skip
+                --sheet --header --split-by --model --left-out --first-lines --out-model --out --help'
             repeated=' --demand --end --answered --constant --code --wait --abandoned --rename --arrive-event --begin-event --end-event --abandon-event --where '
             ;;
         scale)
@@ -92,6 +95,9 @@ _mpplan() {
         *) return ;;
     esac
     case ${COMP_WORDS[1]}.${COMP_WORDS[COMP_CWORD-1]} in
+        inspect.--decimal) choices='. ,' ;;
+        inspect.--format) choices='csv json md xlsx' ;;
+        inspect.--csv-style) choices='plain excel-de' ;;
         prepare.--twice) choices='first second order' ;;
         prepare.--duplicates) choices='drop keep' ;;
         prepare.--decimal) choices='. ,' ;;

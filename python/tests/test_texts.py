@@ -141,7 +141,14 @@ class Examples(Test):
 
 FRAMES, BOOKS = {"pandas", "numpy"}, {"openpyxl"}
 # What modules use if it is there.
-OPTIONAL = {"report": FRAMES, "node_visits": FRAMES, "sweeps.results": FRAMES, "tables.sheets": BOOKS, "exports.workbook": BOOKS}
+OPTIONAL = {
+    "report": FRAMES,
+    "node_visits": FRAMES,
+    "sweeps.results": FRAMES,
+    "tables.sheets": BOOKS,
+    "exports.workbook": BOOKS,
+    "tables.sojourns": FRAMES,
+}
 
 
 def modules_of(tree):

@@ -1,6 +1,7 @@
 """The subcommands of `mpplan`, with what each does."""
 
 COMMANDS = {
+    "inspect": "report what an export contains, and propose the command that makes a trace from it",
     "prepare": "make a trace from an export, whatever its delimiter, encoding, time format and names, and start a model for it",
     "scale": "scale the load of a trace up or down",
     "resample": "draw other traces from the days of one, and report how much the figures of a node vary",

@@ -15,6 +15,7 @@ from ..times.lengths import Lengths
 from ..times.zones import TWICE
 from ..wording import counted
 from .messages import say
+from .recipes import Recipe, apply_recipe
 
 if TYPE_CHECKING:
     from argparse import ArgumentParser, Namespace
@@ -30,7 +31,7 @@ EXAMPLE = (
 
 def words(parser: ArgumentParser) -> None:
     """Declares the arguments of `mpplan prepare`."""
-    for declare in _times, _columns, _events, _rows, _file, _outputs:
+    for declare in _times, _columns, _events, _rows, _recipe, file_words, _outputs:
         declare(parser.add_argument)
 
 
@@ -48,7 +49,7 @@ def _times(add: Callable[..., object]) -> None:
     add("--twice", choices=list(TWICE), help=twice)
     add("--tick", metavar="LENGTH", help="length of a tick, e.g. 1s, 100ms, 1ns or 1min; default: from the comments of --model, or 1s")
     begins = "time 0: hour (the last full hour before the first job, the default), day, first, a time of day such as 8:00, or an ISO 8601 time"
-    add("--begin", default="hour", metavar="WHEN", help=begins)
+    add("--begin", metavar="WHEN", help=begins)
 
 
 def _columns(add: Callable[..., object]) -> None:
@@ -56,20 +57,20 @@ def _columns(add: Callable[..., object]) -> None:
     units = f"UNIT is one of {', '.join(Lengths.NAMES)}, by default s"
     units += ", or data at a rate, e.g. bytes@10Gbps"
     says = f"column with a service time, or e.g. talk=End-Answered+Wrap; {units}; columns of one NAME are added up"
-    add("--demand", action="append", default=[], metavar="COLUMN[=NAME][:UNIT]", help=says)
+    add("--demand", action="append", metavar="COLUMN[=NAME][:UNIT]", help=says)
     says = "column with the end of a service, which begins at --answered, or else at --time"
-    add("--end", action="append", default=[], metavar="COLUMN[=NAME]", help=says)
+    add("--end", action="append", metavar="COLUMN[=NAME]", help=says)
     says = "column with the time at which services of --end begin: one for all, or one per --end"
-    add("--answered", action="append", default=[], metavar="COLUMN", help=says)
-    add("--constant", action="append", default=[], metavar="NAME=LENGTH", help="a service time that all jobs have, e.g. wrap=90s")
+    add("--answered", action="append", metavar="COLUMN", help=says)
+    add("--constant", action="append", metavar="NAME=LENGTH", help="a service time that all jobs have, e.g. wrap=90s")
     codes = "column of texts, written as numbers for a split; the numbers come from --model, or count from 0 in order of appearance"
-    add("--code", action="append", default=[], metavar="COLUMN[=NAME]", help=codes)
+    add("--code", action="append", metavar="COLUMN[=NAME]", help=codes)
     says = "column with the wait of a job, or the time at which it ended; the first that isn't empty, if repeated"
-    add("--wait", action="append", default=[], metavar="COLUMN[=NAME][:UNIT]", help=says)
+    add("--wait", action="append", metavar="COLUMN[=NAME][:UNIT]", help=says)
     says = "keep rows that meet this condition (as in --where) as abandoned calls: services of 0, and 1 in a column abandoned; may be repeated"
-    add("--abandoned", action="append", default=[], metavar="CONDITION", help=says)
+    add("--abandoned", action="append", metavar="CONDITION", help=says)
     add("--empty", metavar="LENGTH", help="service time of an empty field; default: its row is left out")
-    add("--rename", action="append", default=[], metavar="OLD=NEW", help="name in the trace (NEW) of a source in the export (OLD)")
+    add("--rename", action="append", metavar="OLD=NEW", help="name in the trace (NEW) of a source in the export (OLD)")
 
 
 def _events(add: Callable[..., object]) -> None:
@@ -83,29 +84,35 @@ def _events(add: Callable[..., object]) -> None:
         ("end", "at which a service ends"),
         ("abandon", "at which a caller gives up; adds the columns wait and abandoned"),
     ):
-        add(f"--{name}-event", action="append", default=[], metavar="EVENT", help=f"event {says}; may be repeated")
+        add(f"--{name}-event", action="append", metavar="EVENT", help=f"event {says}; may be repeated")
     add("--route", metavar="NAME", help="name of a column with the order in which a job passes its stations, as numbers for a split")
 
 
 def _rows(add: Callable[..., object]) -> None:
     says = "use only rows that meet this condition: =, != (text), <, <=, >, >= (numbers or h:mm:ss) or ~ (contains); may be repeated"
-    add("--where", action="append", default=[], metavar="CONDITION", help=says)
+    add("--where", action="append", metavar="CONDITION", help=says)
     add("--from", dest="begins", metavar="TIME", help="use only jobs that arrive at this time or later: ISO 8601, e.g. 2026-03-02, or h:mm")
     add("--until", metavar="TIME", help="use only jobs that arrive before this time")
-    add("--far", action="store_true", help="keep records more than 30 days from the rest, and further than the rest spans")
+    add("--far", action="store_true", default=None, help="keep records more than 30 days from the rest, and further than the rest spans")
     says = "what to do with rows that repeat an earlier row, field by field; default: keep, with a warning"
     add("--duplicates", choices=["drop", "keep"], help=says)
     says = "percentage of the rows that may be left out because they can't be read; default: 5%%"
-    add("--left-out-most", default="5%", metavar="PERCENT", help=says)
+    add("--left-out-most", metavar="PERCENT", help=says)
 
 
-def _file(add: Callable[..., object]) -> None:
+def _recipe(add: Callable[..., object]) -> None:
+    says = "take options from this TOML file, e.g. one that mpplan inspect wrote; those given here override them"
+    add("--recipe", action=Recipe, metavar="FILE", help=says)
+
+
+def file_words(add: Callable[..., object]) -> None:
+    """Declares the arguments that say how to read an export's file."""
     add("--decimal", choices=[".", ","], help="decimal mark; default: detected")
     add("--delimiter", metavar="CHARACTER", help="character between fields, \\t for a tab; default: detected")
     add("--fixed", metavar="WIDTHS", help="widths of the columns in characters, e.g. 8,20,6, for an export without delimiters")
     says = "text encoding; default: detected (UTF-8, UTF-16 with a byte order mark, or Windows-1252, a superset of printable Latin-1)"
     add("--encoding", metavar="NAME", help=says)
-    add("--skip", type=int, default=0, metavar="N", help="number of lines to skip before the header")
+    add("--skip", type=int, metavar="N", help="number of lines to skip before the header")
     add("--sheet", metavar="NAME", help="the sheet of a spreadsheet; default: the only one")
     add("--header", metavar="NAMES", help="column names, separated by commas, for an export without a header")
 
@@ -123,8 +130,10 @@ def _outputs(add: Callable[..., object]) -> None:
 
 def main(args: Namespace) -> None:
     """Runs `mpplan prepare`."""
-    own = "command", "main", "export", "first_lines", "out_model", "out", "split_by"
-    options = {name: value for name, value in vars(args).items() if name not in own}
+    apply_recipe(args)
+    own = "command", "main", "export", "recipe", "first_lines", "out_model", "out", "split_by"
+    # Options that aren't given have the defaults of the library.
+    options = {name: value for name, value in vars(args).items() if name not in own and value is not None}
     # Standard output, as without --out.
     args.out = None if args.out == "-" else args.out
     inputs = {"export": [args.export], "model": [args.model]}

@@ -3,7 +3,8 @@
 from __future__ import annotations
 
 from array import array
-from itertools import islice
+from itertools import islice, repeat
+from operator import mod
 from typing import TYPE_CHECKING, NamedTuple
 
 from ..limits import GREATEST_TIME
@@ -55,11 +56,12 @@ def ticks(plan: Plan, stamps: array[int], begin: str, made: Prepared) -> array[i
         raise ValueError(f"{counted(sum(stamp < zero for stamp in stamps), 'record')} before --begin {begin}, which is to be time 0")
     if plan.has_day:
         made.zero = plan.place.shown(zero) + ("+00:00" if is_utc and not plan.place.name else "")
-    found = _judged(array("q", ((stamp - zero) // plan.per for stamp in stamps)))
+    found = _judged(array("q", [(stamp - zero) // plan.per for stamp in stamps]))
     shown = made.zero or f"{zero // HOUR}:{zero // (60 * SECOND) % 60:02}:{zero // SECOND % 60:02}"
     made.told.append(f"time 0 is {shown}, a tick is {length_text(plan.per)}, the last record is at {max(found)}")
-    uneven = sum((stamp - zero) % plan.per > 0 for stamp in stamps)
-    if uneven:
+    # Most exports have only whole ticks.
+    is_even = set(map(mod, stamps, repeat(plan.per))) == {zero % plan.per}
+    if not is_even and (uneven := sum((stamp - zero) % plan.per > 0 for stamp in stamps)):
         made.told.append(f"{counted(uneven, 'time')} between two ticks, rounded down")
     if not plan.has_day:
         back = sum(later < earlier - 12 * HOUR for earlier, later in zip(stamps, islice(stamps, 1, None)))

@@ -89,7 +89,7 @@ class _Text(Code):
             raise Unread("empty")
         return 0
 
-    def many(self, columns: Sequence[Sequence[str]]) -> list[int]:
+    def many(self, columns: Sequence[Sequence[str]], begun: Sequence[Sequence[int]]) -> list[int]:
         """Returns nothing yet, as Code.many does. Raises Unread if a text is empty."""
         if not all(map(str.strip, columns[self.column])):
             raise Unread("one by one")
@@ -113,7 +113,7 @@ class Kind:
         self._log.met.add(word)
         return self._log.kinds[word]
 
-    def many(self, columns: Sequence[Sequence[str]]) -> list[int]:
+    def many(self, columns: Sequence[Sequence[str]], begun: Sequence[Sequence[int]]) -> list[int]:
         """Returns what the events of rows, given as columns, do (list of int)."""
         if self._log.event is None:
             return [STEP] * len(columns[0])

@@ -124,6 +124,6 @@ class Expression:
     def _ticks(self, length: Fraction) -> int:
         return int((2 * length + self.tick) // (2 * self.tick))
 
-    def many(self, columns: Sequence[Sequence[str]]) -> list[int]:
+    def many(self, columns: Sequence[Sequence[str]], begun: Sequence[Sequence[int]]) -> list[int]:
         """Raises Unread, since each row needs individual treatment."""
         raise Unread("one by one")

@@ -247,7 +247,7 @@ class Plan:
 
     def _mark(self, column: int) -> str | None:
         try:
-            return self.decimal or found_decimal(set(self._texts(column)))
+            return self.decimal or found_decimal(dict.fromkeys(self._texts(column)))
         except ValueError as error:
             raise ValueError(f"column {self.export.header[column]!r}: {error} (--decimal)") from None
 

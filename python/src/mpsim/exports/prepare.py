@@ -5,6 +5,7 @@ from __future__ import annotations
 import os
 from array import array
 from itertools import islice
+from operator import eq, gt
 from typing import TYPE_CHECKING, NamedTuple
 
 from ..names import is_like, name_for
@@ -14,17 +15,16 @@ from ..times.zones import Zone
 from ..traces.trace import fields_up_to
 from ..wording import counted
 from .arrivals import judge_far, ticks
-from .delimited import LINES, Export
+from .delimited import LINES
 from .events import EVENTS, Units
 from .expressions import Expression
-from .fixed import Fixed, widths_in
 from .parts import Parts
 from .plan import Plan
 from .result import Prepared
 from .rows import Rows, TooManyLeft
 from .streams import Stream
+from .tables import table_in
 from .values import Abandoned, Code, Demand, End, Sum
-from .workbook import Workbook
 
 if TYPE_CHECKING:
     from collections.abc import Collection, Iterable, Iterator, Sequence
@@ -170,7 +170,8 @@ def _made(by: str | None, words: _Words) -> Iterator[tuple[str, Prepared]]:
     name = "the export" if isinstance(words.export, (bytes, bytearray)) else os.fspath(words.export)
     try:
         with fields_up_to(FIELD), Stream(words.export) as stream:
-            plan = _planned(_table(stream, words), place, per, words)
+            how = words.encoding, words.delimiter, words.skip, words.header, words.sheet, words.fixed
+            plan = _planned(table_in(stream, *how), place, per, words)
             most = given("--left-out-most", percent, words.left_out_most)
             if by is not None:
                 yield from _in_parts(plan, by, most, words)
@@ -227,21 +228,6 @@ def _planned(table: Table, place: Zone, per: int, words: _Words) -> Plan:
     plan.sources(words.source, words.rename)
     plan.between(words.begins, words.until)
     return plan
-
-
-def _table(stream: Stream, words: _Words) -> Table:
-    """Returns the table that a file contains (Export or Workbook)."""
-    if not stream.is_workbook:
-        if words.sheet is not None:
-            raise ValueError(f"--sheet {words.sheet}: this isn't a spreadsheet")
-        if words.fixed is None:
-            return Export(stream, words.encoding, words.delimiter, words.skip, words.header)
-        if words.delimiter:
-            raise ValueError("--fixed and --delimiter exclude each other: give one of them")
-        return Fixed(stream, given("--fixed", widths_in, words.fixed), words.encoding, words.skip, words.header)
-    if words.encoding or words.delimiter or words.fixed:
-        raise ValueError("--encoding, --delimiter and --fixed can't be used with a spreadsheet")
-    return Workbook(stream, words.sheet, words.skip, words.header)
 
 
 def _tick(tick: str | None, model: str | None) -> int:
@@ -377,11 +363,12 @@ def _sort(made: Prepared, rows: Rows, ticks: array[int]) -> None:
     """Sorts the records by tick, then by source, then by time; equal ones keep the order of the export."""
     rank = {it: at for at, it in enumerate(made.names)}
     keys = [time * 64 + rank[it] for time, it in zip(ticks, rows.sources)]
-    order = list(range(len(keys)))
-    if any(map(int.__gt__, rows.stamps, islice(rows.stamps, 1, None))):
+    order: Sequence[int] = range(len(keys))
+    if any(map(gt, rows.stamps, islice(rows.stamps, 1, None))):
         order = sorted(order, key=rows.stamps.__getitem__)
-    order = sorted(order, key=keys.__getitem__)
-    if all(map(int.__eq__, order, range(len(keys)))):
+    if not isinstance(order, range) or any(map(gt, keys, islice(keys, 1, None))):
+        order = sorted(order, key=keys.__getitem__)
+    if isinstance(order, range) or all(map(eq, order, range(len(keys)))):
         made.sources, made.times, made.values = rows.sources, ticks, rows.values
         return
     made.told.append("records are sorted by time, and at equal times by the order of the sources")

@@ -4,6 +4,7 @@ from __future__ import annotations
 
 import contextlib
 import re
+from operator import gt
 from typing import TYPE_CHECKING
 
 from ..limits import SOURCES
@@ -108,6 +109,13 @@ class Times:
             moment = than - 1
         return moment if moment >= than else self.zone.utc(midnight + DAY + value, self._seen, than)
 
+    def many_later(self, columns: Sequence[Sequence[str]], than: Sequence[int]) -> list[int]:
+        """Returns the moments (list of int) of rows, given as columns, at or after other ones. Raises Unread if one needs individual treatment."""
+        found = self.how.many(columns[self.column])
+        if any(map(gt, than, found)):
+            raise Unread("one by one")
+        return found
+
 
 class TooManySources(ValueError):
     """An export has more sources than a model may have."""
@@ -180,7 +188,7 @@ class Records:
     def many(self, rows: Sequence[Sequence[str]]) -> list[Sequence[str] | Sequence[int]]:
         """Returns records as columns (sources, moments, and each of the values) for rows that meet the conditions and need no individual treatment.
         Raises ValueError if one may; nothing visible has changed then."""
-        if self.time.dates or self.answered or self.ended or self.gone:
+        if self.time.dates or self.ended or self.gone:
             raise Unread("one by one")
         self.judge_widths(rows)
         columns = list(zip(*rows))
@@ -188,7 +196,8 @@ class Records:
         first, last = min(stamps), max(stamps)
         if not -MOST < first <= last < MOST or not self._is_within(first) or not self._is_within(last):
             raise Unread("one by one")
-        values = [value.many(columns) for value in self.values]
+        begun = [stamps, *(item.many_later(columns, stamps) for item in self.answered)]
+        values = [value.many(columns, begun) for value in self.values]
         named: list[str] = [self.only] * len(rows) if self.source is None else list(map(self._named.__getitem__, columns[self.source]))
         for at, column in self._codes:
             values[at] = list(map(column.code, rows))

@@ -3,13 +3,14 @@
 from __future__ import annotations
 
 from array import array
+from itertools import chain
 from typing import TYPE_CHECKING
 
 from ..times.calendar import first_lines, with_settings
 from .codes import line_of, with_codes, word_of
 
 if TYPE_CHECKING:
-    from collections.abc import Iterator
+    from collections.abc import Iterator, Sequence
 
 # The most bytes of a trace.
 BYTES = 1 << 27
@@ -53,9 +54,11 @@ class Prepared:
         """Yields the text of the trace in pieces."""
         yield (header := ",".join(self.header) + "\n")
         size = len(header)
+        form = ",".join(["%s", *["%d"] * (len(self.header) - 1)]) + "\n"
+        every: list[Sequence[object]] = [self.sources, self.times, *self.values]
         for at in range(0, len(self), CHUNK):
-            numbers = [map(str, value[at : at + CHUNK]) for value in (self.times, *self.values)]
-            text = "\n".join(map(",".join, zip(self.sources[at : at + CHUNK], *numbers))) + "\n"
+            columns = [column[at : at + CHUNK] for column in every]
+            text = form * len(columns[0]) % tuple(chain.from_iterable(zip(*columns)))
             size += len(text)
             if size > BYTES:
                 raise ValueError(f"the trace is longer than {BYTES:,} bytes, the limit of mpsim: shorten the export")

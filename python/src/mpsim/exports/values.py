@@ -2,6 +2,7 @@
 
 from __future__ import annotations
 
+from operator import sub
 from typing import TYPE_CHECKING
 
 from ..limits import GREATEST_VALUE
@@ -49,7 +50,7 @@ class Demand:
         text = row[self.column]
         return self.empty if self.empty is not None and not text.strip() else self.how.ticks[text]
 
-    def many(self, columns: Sequence[Sequence[str]]) -> list[int]:
+    def many(self, columns: Sequence[Sequence[str]], begun: Sequence[Sequence[int]]) -> list[int]:
         """Returns the ticks (list of int) of rows, given as columns. Raises Unread if one needs individual treatment."""
         return list(map(self.how.ticks.__getitem__, columns[self.column]))
 
@@ -82,9 +83,9 @@ class Sum:
             raise Unread("above 2^36 ticks")
         return total
 
-    def many(self, columns: Sequence[Sequence[str]]) -> list[int]:
+    def many(self, columns: Sequence[Sequence[str]], begun: Sequence[Sequence[int]]) -> list[int]:
         """Returns the ticks (list of int) of rows, given as columns. Raises Unread if one needs individual treatment."""
-        totals = list(map(sum, zip(*(part.many(columns) for part in self.parts))))
+        totals = list(map(sum, zip(*(part.many(columns, begun) for part in self.parts))))
         if max(totals) > GREATEST_VALUE:
             raise Unread("one by one")
         return totals
@@ -125,9 +126,16 @@ class End:
             raise Unread("above 2^36 ticks")
         return ticks
 
-    def many(self, columns: Sequence[Sequence[str]]) -> list[int]:
-        """Raises Unread, since each row needs individual treatment."""
-        raise Unread("one by one")
+    def many(self, columns: Sequence[Sequence[str]], begun: Sequence[Sequence[int]]) -> list[int]:
+        """Returns the ticks (list of int) of rows, given as columns. Raises Unread if one needs individual treatment."""
+        if self.empty is not None:
+            raise Unread("one by one")
+        lengths = list(map(sub, self.times.many_later(columns, begun[self.begin]), begun[self.begin]))
+        is_doubtful = self.times.zone.twice in ("first", "second") and max(lengths) >= REPEATED
+        if is_doubtful or max(lengths) >= GREATEST_VALUE * self.tick:
+            raise Unread("one by one")
+        double, half = 2 * self.tick, self.tick
+        return [(2 * length + half) // double for length in lengths]
 
 
 class Wait:
@@ -148,7 +156,7 @@ class Wait:
             error.column = part.column
             raise
 
-    def many(self, columns: Sequence[Sequence[str]]) -> list[int]:
+    def many(self, columns: Sequence[Sequence[str]], begun: Sequence[Sequence[int]]) -> list[int]:
         """Raises Unread, since each row needs individual treatment."""
         raise Unread("one by one")
 
@@ -166,7 +174,7 @@ class Abandoned:
         """Returns 1 for the row of a job that gave up, else 0. Raises Unread and Asks."""
         return int(all(condition.holds(row) for condition in self.conditions))
 
-    def many(self, columns: Sequence[Sequence[str]]) -> list[int]:
+    def many(self, columns: Sequence[Sequence[str]], begun: Sequence[Sequence[int]]) -> list[int]:
         """Raises Unread, since each row needs individual treatment."""
         raise Unread("one by one")
 
@@ -184,7 +192,7 @@ class Constant:
         """Returns the ticks (int) of a row."""
         return self.ticks
 
-    def many(self, columns: Sequence[Sequence[str]]) -> list[int]:
+    def many(self, columns: Sequence[Sequence[str]], begun: Sequence[Sequence[int]]) -> list[int]:
         """Returns the ticks (list of int) of rows, given as columns."""
         return [self.ticks] * len(columns[0])
 
@@ -203,7 +211,7 @@ class Code:
         """Returns 0: words of rows that are left out get no number, and `code` is called only for rows that stay."""
         return 0
 
-    def many(self, columns: Sequence[Sequence[str]]) -> list[int]:
+    def many(self, columns: Sequence[Sequence[str]], begun: Sequence[Sequence[int]]) -> list[int]:
         """Returns nothing yet: `code` is called for each row that stays."""
         return []
 

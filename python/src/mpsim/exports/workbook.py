@@ -2,6 +2,7 @@
 
 from __future__ import annotations
 
+import contextlib
 from datetime import date, datetime, time, timedelta
 from itertools import islice
 from typing import TYPE_CHECKING
@@ -31,7 +32,8 @@ class Workbook(Table):
             install = "save it as CSV UTF-8, or install the Python package openpyxl (pip install openpyxl, or the package python3-openpyxl)"
             raise ValueError(f"this is a spreadsheet (.xlsx): {install}") from None
         try:
-            self._book = openpyxl.load_workbook(stream.book(), read_only=True, data_only=True)
+            with _unsized():
+                self._book = openpyxl.load_workbook(stream.book(), read_only=True, data_only=True)
         except Exception as error:
             raise ValueError(f"damaged spreadsheet: {type(error).__name__}: {error}"[:300]) from None
         names = [item.title for item in self._book.worksheets]
@@ -63,6 +65,19 @@ class Workbook(Table):
         if self.has_header:
             next(rows, None)
         return _Counted(_fitted(row, width) for row in rows), self._skip + 1 + self.has_header
+
+
+@contextlib.contextmanager
+def _unsized() -> Iterator[None]:
+    """Keeps openpyxl, within the block, from reading each sheet that doesn't begin with its size to its end: the size isn't used."""
+    from openpyxl.worksheet._read_only import ReadOnlyWorksheet
+
+    before = ReadOnlyWorksheet._get_size
+    ReadOnlyWorksheet._get_size = lambda _: None
+    try:
+        yield
+    finally:
+        ReadOnlyWorksheet._get_size = before
 
 
 def _fitted(row: list[str], width: int) -> list[str]:

@@ -4,7 +4,8 @@ from __future__ import annotations
 
 from array import array
 from bisect import bisect_right
-from typing import TYPE_CHECKING, NamedTuple
+from itertools import compress, repeat
+from typing import TYPE_CHECKING, Any, NamedTuple
 
 from ..agents.pools import visits_in
 from ..node_visits import HELD, percentile_of
@@ -15,6 +16,20 @@ if TYPE_CHECKING:
 
     from ..report import Report
     from ..shapes import Row
+
+# With fewer visits, importing numpy takes longer than it saves.
+MANY = 1 << 16
+
+
+class Ways(NamedTuple):
+    """The ways of all jobs of a report, by column: their records (from 1), the numbers of their sources in the report, their arrivals, and twice the
+    number of the node where they left, plus 1 if they were lost there, and their times in the network."""
+
+    job: Sequence[int]
+    source: Sequence[int]
+    came: Sequence[int]
+    end: Sequence[int]
+    sojourn: Sequence[int]
 
 
 class Sojourn(NamedTuple):
@@ -42,26 +57,82 @@ def sojourns(report: Report) -> Iterator[Sojourn]:
     2 out False 9
     3 desk True 0
     """
+    names = [node.name for node in report.nodes]
+    for job, source, came, end, sojourn in zip(*ways(report)):
+        yield Sojourn(job, names[source], came, names[end // 2], bool(end % 2), sojourn)
+
+
+def ways(report: Report) -> Ways:
+    """Returns the ways (Ways) of the jobs of a report with visits, as `sojourns` defines them, computed with numpy if there are many visits and it is
+    installed.
+
+    >>> import mpsim
+    >>> from mpsim.tables.sojourns import ways
+    >>> report = mpsim.run("model 1\\nsource door\\nloss desk 1 =4 from door\\n", [("door", 0), ("door", 1)], jobs=True)
+    >>> [list(column) for column in ways(report)]
+    [[1, 2], [0, 0], [0, 1], [2, 3], [4, 0]]
+    """
+    numpy = _numpy() if visits_in(report).count() >= MANY else None
+    return _ways_by(numpy, report) if numpy else _ways(report)
+
+
+def _numpy() -> Any:
+    """Returns numpy, or None if it isn't installed."""
+    try:
+        import numpy
+    except ImportError:
+        return None
+    return numpy
+
+
+def _ways(report: Report) -> Ways:
+    """Does what `ways` does with Python alone."""
     count = report.jobs + 1
     came, source = array("q", [-1]) * count, array("b", [0]) * count
-    end, where, lost = array("q", [-1]) * count, array("b", [0]) * count, bytearray(count)
-    held, every = set(), visits_in(report)
+    gone, end = array("q", [-1]) * count, array("h", [0]) * count
+    stays, every = bytearray(b"\1") * count, visits_in(report)
     # Nodes are in the order of the network: a job visits later nodes later, and leaves at the last of its visits with the latest end.
     for number, node in enumerate(report.nodes):
         visits = every[node.name]
         if node.kind == "source":
             for job, arrive in zip(visits.job, visits.arrive):
                 came[job], source[job] = arrive, number
-        for job, arrive, wait, depart in zip(visits.job, visits.arrive, visits.wait, visits.depart):
-            if wait == HELD:
-                held.add(job)
-            gone = arrive if wait < 0 else depart
-            if gone >= end[job]:
-                end[job], where[job], lost[job] = gone, number, wait < 0
-    names = [node.name for node in report.nodes]
-    for job in range(1, count):
-        if job not in held:
-            yield Sojourn(job, names[source[job]], came[job], names[where[job]], bool(lost[job]), end[job] - came[job])
+        departs: Sequence[int] = visits.depart
+        if visits.wait and min(visits.wait) < 0:
+            for job, wait in zip(visits.job, visits.wait):
+                if wait == HELD:
+                    stays[job] = 0
+            departs = [arrive if wait < 0 else depart for arrive, wait, depart in zip(visits.arrive, visits.wait, visits.depart)]
+        for job, wait, depart in zip(visits.job, visits.wait, departs):
+            if depart >= gone[job]:
+                gone[job], end[job] = depart, 2 * number + (wait < 0)
+    stays[0] = 0
+    jobs, sources, arrivals, ends, departures = (array("q", compress(column, stays)) for column in (range(count), source, came, end, gone))
+    return Ways(jobs, sources, arrivals, ends, array("q", map(int.__sub__, departures, arrivals)))
+
+
+def _ways_by(numpy: Any, report: Report) -> Ways:
+    """Does what `ways` does with numpy."""
+    count = report.jobs + 1
+    came, source = numpy.full(count, -1), numpy.zeros(count, int)
+    gone, end = numpy.full(count, -1), numpy.zeros(count, int)
+    stays, every = numpy.ones(count, bool), visits_in(report)
+    for number, node in enumerate(report.nodes):
+        visits = every[node.name]
+        job, arrive, wait, depart = (numpy.asarray(column) for column in (visits.job, visits.arrive, visits.wait, visits.depart))
+        if node.kind == "source":
+            came[job], source[job] = arrive, number
+        stays[job[wait == HELD]] = False
+        lost = wait < 0
+        depart = numpy.where(lost, arrive, depart)
+        # Of several visits of a job, the last with the latest end counts: it comes last in this order, and numpy keeps the last of them.
+        order = numpy.argsort(depart, kind="stable")
+        order = order[depart[order] >= gone[job[order]]]
+        gone[job[order]], end[job[order]] = depart[order], 2 * number + lost[order]
+    stays[0] = False
+    kept = numpy.flatnonzero(stays)
+    columns = kept, source[kept], came[kept], end[kept], gone[kept] - came[kept]
+    return Ways(*(column.tolist() for column in columns))
 
 
 def table(report: Report, by: str = "both", within: Sequence[int] = (), percents: Sequence[float] = PERCENTS) -> Iterator[Row]:
@@ -79,17 +150,20 @@ def table(report: Report, by: str = "both", within: Sequence[int] = (), percents
     door desk left 2 6.0 8 8 0.5
     """
     is_by_source, is_by_end = by in ("both", "source"), by in ("both", "end")
-    rank = {it.name: at for at, it in enumerate(report.nodes)}
-    found: dict[tuple[int, int, bool], array[int]] = {}
-    for sojourn in sojourns(report):
-        key = (rank[sojourn.source] if is_by_source else -1, rank[sojourn.left_at] if is_by_end else -1, sojourn.lost and is_by_end)
-        found.setdefault(key, array("q")).append(sojourn.sojourn)
+    every = ways(report)
+    found: dict[tuple[int, int], list[int]] = {}
+    unknown = repeat(0)
+    for key, sojourn in zip(zip(every.source if is_by_source else unknown, every.end if is_by_end else unknown), every.sojourn):
+        if key in found:
+            found[key].append(sojourn)
+        else:
+            found[key] = [sojourn]
     heads = ["source"] * is_by_source + ["left_at", "how"] * is_by_end
     yield [*heads, "jobs", "mean_sojourn", *(f"p{percent:.15g}" for percent in percents), "max", *(f"within_{item}" for item in within)]
     names = [node.name for node in report.nodes]
-    for (source, end, is_lost), every in sorted(found.items()):
-        times = sorted(every)
-        shown = [names[source]] * is_by_source + [names[end], "lost" if is_lost else "left"] * is_by_end
+    for (source, end), times in sorted(found.items()):
+        times.sort()
+        shown = [names[source]] * is_by_source + [names[end // 2], "lost" if end % 2 else "left"] * is_by_end
         shares = [round(bisect_right(times, item) / len(times), 6) for item in within]
         yield [*shown, len(times), round(sum(times) / len(times), 3), *(percentile_of(times, percent) for percent in percents), times[-1], *shares]
 

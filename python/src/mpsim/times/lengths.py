@@ -38,7 +38,8 @@ def found_decimal(texts: Iterable[str]) -> str | None:
     >>> found_decimal(["3,5", "1.210,0"])
     ','
     """
-    marks, doubtful = set(), None
+    marks: set[str] = set()
+    doubtful: str | None = None
     for text in texts:
         text = re.sub(f"[{_GAPS}]", "", text)
         dots, commas = text.count("."), text.count(",")
@@ -49,7 +50,7 @@ def found_decimal(texts: Iterable[str]) -> str | None:
         elif dots > 1 or commas > 1:
             marks.add("," if dots else ".")
         elif re.fullmatch(r"[1-9]\d{0,2}[.,]\d{3}", text):
-            doubtful = text
+            doubtful = doubtful or text
         else:
             marks.add("," if commas else ".")
     if len(marks) > 1:

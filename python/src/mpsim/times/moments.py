@@ -2,15 +2,16 @@
 
 from __future__ import annotations
 
+import contextlib
 import re
 from datetime import datetime
 from functools import partial
-from operator import add, methodcaller
+from operator import add, itemgetter, methodcaller
 from typing import TYPE_CHECKING
 
 from . import months
 from .formats import is_of_day
-from .texts import DAY, HOUR, SECOND, SPREADSHEET, Asks, Cache, Unread, at_utc, clock, excel, gtfs, hmm, hmmss
+from .texts import DAY, HOUR, LONGEST, SECOND, SPREADSHEET, Asks, Cache, Unread, at_utc, clock, excel, gtfs, hmm, hmmss
 from .texts import iso_day, iso_rest, nanos, rfc_day, rfc_rest, there
 
 if TYPE_CHECKING:
@@ -200,12 +201,35 @@ class Moments:
     def many(self, texts: Sequence[str]) -> list[int]:
         """Returns the moments (list of int) of texts that need no individual treatment; raises Unread if one may. Each text takes two cache look-ups
         and a sum."""
-        parts = list(map(self._split, texts)) if self._parts and not self.is_of_day else []
+        if self._unit:
+            return self._many_numbers(texts, self._unit)
+        if not self._parts or self.is_of_day:
+            raise Unread("one by one")
+        days, rests = self._cut(texts)
+        days_of, rest_of = self._caches[self._rests[rests[0]][1] is not None]
+        return list(map(add, map(days_of.__getitem__, days), map(rest_of.__getitem__, rests)))
+
+    def _many_numbers(self, texts: Sequence[str], unit: int) -> list[int]:
+        """Does what `many` does for whole numbers."""
+        digits = "".join(texts)
+        if not digits.isdigit() or not digits.isascii() or not all(texts) or max(map(len, texts)) > LONGEST:
+            raise Unread("one by one")
+        return [int(text) * unit for text in texts]
+
+    def _cut(self, texts: Sequence[str]) -> tuple[Sequence[str], Sequence[str]]:
+        """Returns the days and the rests (lists of str) of texts; raises Unread if one has no rest. All are cut at the same place if they can be,
+        which is faster than to split them one by one; a day or a rest that is cut at a wrong place can't be read."""
+        at, gap = texts[0].find(" "), 1
+        if self.form == "iso":
+            at, gap = 10 if texts[0][4:5] == "-" else 8, 0
+        with contextlib.suppress(IndexError):
+            if self.form == "iso" or " " in self.form and at > 0 and set(map(itemgetter(at), texts)) == {" "}:
+                return list(map(itemgetter(slice(at)), texts)), list(map(itemgetter(slice(at + gap, None)), texts))
+        parts = list(map(self._split, texts))
         if set(map(len, parts)) != {2}:
             raise Unread("one by one")
         days, rests = zip(*parts)
-        days_of, rest_of = self._caches[self._rests[rests[0]][1] is not None]
-        return list(map(add, map(days_of.__getitem__, days), map(rest_of.__getitem__, rests)))
+        return days, rests
 
     def _begin_of(self, day: str) -> int:
         """Returns the moment at which a day begins; raises Unread if clocks change on it."""

@@ -1,0 +1,223 @@
+"""What makes long exports and reports fast: many rows at once, with the same results as one by one."""
+
+import io
+import random
+import unittest
+import unittest.mock
+from datetime import datetime, timedelta
+
+from ground import DESK, Test
+from test_prepare import table
+
+import mpsim
+from mpsim.exports.prepare import prepare
+from mpsim.exports.records import Records
+from mpsim.exports.workbook import Workbook
+from mpsim.tables import sojourns
+from mpsim.times.moments import Moments
+from mpsim.times.texts import Unread
+from mpsim.times.zones import Zone
+
+ONE_BY_ONE = unittest.mock.patch.object(Records, "many", side_effect=Unread("one by one"))
+AT_ONCE = unittest.mock.patch.object(Records, "of", side_effect=AssertionError("a row was read alone"))
+
+
+class Moment(Test):
+    """A column of times that is read at once gives what its texts give one by one, or refuses."""
+
+    def many(self, form, texts, zone=None):
+        """Returns the moments read at once, or None if they are refused; they must be those read one by one."""
+        try:
+            found = Moments(form, Zone(zone)).many(texts)
+        except Unread:
+            return None
+        self.assertEqual(found, [Moments(form, Zone(zone)).of(text) for text in texts], texts)
+        return found
+
+    def test_cut_at_one_place(self):
+        for form, texts in (
+            ("%d.%m.%Y %H:%M:%S", ["02.03.2026 08:00:17", "31.12.2025 23:59:60", "02.03.2026  8:00"]),
+            ("%m/%d/%Y %I:%M %p", ["03/02/2026 08:00 PM", "03/02/2026 8:00 AM"]),
+            ("iso", ["2026-03-02T08:00:17", "2026-03-02 08:00", "2026-03-02"]),
+            ("iso", ["20260302T080017Z", "20260302T0800+01:00"]),
+            ("ticks", ["0", "17", "00017"]),
+            ("unix", ["1772438417", "0"]),
+        ):
+            self.assertIsNotNone(self.many(form, texts), texts)
+
+    def test_places_that_differ(self):
+        """Days of one and of two digits, spaces before and after, tabs, and texts that end within the day."""
+        for form, texts in (
+            ("%d.%m.%Y %H:%M", ["2.3.2026 08:00", "12.3.2026 08:00"]),
+            ("%d.%m.%Y %H:%M", ["12.3.2026 08:00", "2.3.2026 08:00"]),
+            ("%d.%m.%Y %H:%M", [" 2.3.2026 08:00", "12.3.2026 08:00 "]),
+            ("%d.%m.%Y %H:%M", ["02.03.2026\t08:00", "02.03.2026 08:00"]),
+        ):
+            self.assertIsNotNone(self.many(form, texts), texts)
+
+    def test_refused(self):
+        for form, texts in (
+            ("%d.%m.%Y %H:%M", ["02.03.2026 08:00", "02.03.2026"]),
+            ("%d.%m.%Y %H:%M", ["02.03.2026 08:00", ""]),
+            ("%d.%m.%Y %H:%M", ["02.03.2026 08:00", "32.03.2026 08:00"]),
+            ("iso", ["2026-03-02T08:00", "20260302T0800"]),
+            ("iso", ["2026-03-02T08:00", "2026-03-02T08:00Z"]),
+            ("ticks", ["1", ""]),
+            ("ticks", ["1", " 2"]),
+            ("ticks", ["1", "-2"]),
+            ("ticks", ["1", "1.5"]),
+            ("ticks", ["1", "\u0662"]),
+            ("ticks", ["1", "1" * 201]),
+            ("ticks", ["1", "1" * 5000]),
+        ):
+            self.assertIsNone(self.many(form, texts), texts)
+        # Clocks are set back on this day.
+        self.assertIsNone(self.many("iso", ["2026-10-25T02:30", "2026-10-25T08:00"], "Europe/Berlin"))
+
+
+class AtOnce(Test):
+    """Exports without doubtful rows are read without a row read alone."""
+
+    def same(self, data, *words, **options):
+        with AT_ONCE:
+            fast = prepare(data, *words, **options)
+        with ONE_BY_ONE:
+            slow = prepare(data, *words, **options)
+        for name in "header", "names", "told", "warned", "zero", "codes", "left":
+            self.assertEqual(getattr(fast, name), getattr(slow, name), name)
+        self.assertEqual("".join(fast.lines()), "".join(slow.lines()))
+        return fast
+
+    def rows(self, count, *forms, step=30):
+        """Returns rows with a time in each format, the next up to two minutes after the last, and a length."""
+        drawn, at = random.Random(3), datetime(2026, 3, 2, 8)
+        for _ in range(count):
+            at += timedelta(seconds=drawn.randrange(step))
+            later, shown = at, []
+            for form in forms:
+                shown.append(later.strftime(form))
+                later += timedelta(seconds=drawn.randrange(120), milliseconds=drawn.randrange(1000))
+            yield ",".join([*shown, drawn.choice("abc"), str(drawn.randrange(500))])
+
+    def export(self, header, *forms, **options):
+        return "\n".join([header, *self.rows(3000, *forms, **options), ""]).encode()
+
+    def test_a_length(self):
+        data = self.export("when,who,long", "%d.%m.%Y %H:%M:%S")
+        self.assertEqual(len(self.same(data, "when", source="who", demand=["long=d"])), 3000)
+
+    def test_ends(self):
+        """From the answer to the end, in ticks of a tenth of a second, in a zone too."""
+        data = self.export("when,answered,end,who,long", *["%Y-%m-%d %H:%M:%S.%f"] * 3)
+        options = {"source": "who", "answered": ["answered"], "end": ["end=talk"], "tick": "100ms"}
+        for more in {}, {"zone": "Europe/Berlin"}, {"zone": "Europe/Berlin", "twice": "first"}, {"demand": ["long=talk"]}:
+            made = self.same(data, "when", **options, **more)
+        self.assertGreater(len(set(made.values[0])), 500)
+
+    def test_an_end_that_needs_care(self):
+        """An end before the beginning, an empty one, and one that is too late, among good ones: read alone, and left out."""
+        begin = [f"2026-03-02 08:00:{at:02},2026-03-02 08:01:{at:02}" for at in range(50)]
+        for bad, why in ("2026-03-02 08:00:00", "before"), ("", "empty"), ("2200-01-01 00:00:00", "2\\^36"):
+            rows = "\n".join(["when,end", *begin, f"2026-03-02 08:02:00,{bad}", ""]).encode()
+            made = prepare(rows, "when", end=["end=d"], tick="1ms", far=True)
+            self.assertEqual((len(made), list(made.left.values())), (50, [1]))
+            self.assertRegex(" ".join(made.left), why)
+
+    def test_ticks(self):
+        rows = [f"{at * 7 % 3001},{at % 5}" for at in range(3000)]
+        self.assertEqual(len(self.same("\n".join(["time,d", *rows, ""]).encode(), "time", format="ticks", demand=["d:ticks"])), 3000)
+
+    def test_order(self):
+        """Equal times in the order of the sources, times that go back within a tick, and records that are in order already."""
+        for rows, order in (
+            (["2026-03-02 08:00:00.0,b,1", "2026-03-02 08:00:00.5,a,2", "2026-03-02 08:00:00.6,b,3"], "132"),
+            (["2026-03-02 08:00:00.9,a,1", "2026-03-02 08:00:00.5,b,2"], "12"),
+            (["2026-03-02 08:00:00.9,a,1", "2026-03-02 08:00:00.5,a,2"], "21"),
+            (["2026-03-02 08:00:01,a,1", "2026-03-02 08:00:00,b,2"], "21"),
+            (["2026-03-02 08:00:00,a,1", "2026-03-02 08:00:00,b,2", "2026-03-02 08:00:01,a,3"], "123"),
+        ):
+            made = prepare(table(*rows), "when", source="who", demand=["long=d"])
+            self.assertEqual("".join(str(value) for value in made.values[0]), order, rows)
+            self.assertEqual("records are sorted by time" in " ".join(made.told), order != "".join(sorted(order)))
+
+    def test_times_between_ticks(self):
+        made = prepare(table("2026-03-02 08:00:00.5,a,1", "2026-03-02 08:00:01.5,a,1", "2026-03-02 08:00:02,a,1"), "when", begin="first")
+        self.assertIn("1 time between two ticks, rounded down", made.told)
+        self.assertEqual(list(made.times), [0, 1, 1])
+
+
+class Sheet(Test):
+    def test_a_sheet_without_its_size(self):
+        """It isn't read to its end before its first row."""
+        try:
+            import openpyxl
+            from openpyxl.worksheet._reader import WorkSheetParser
+        except ImportError:
+            raise unittest.SkipTest("needs openpyxl") from None
+        from mpsim.exports.streams import Stream
+
+        book = openpyxl.Workbook(write_only=True)
+        book.create_sheet("a").append(["when", "long"])
+        made = io.BytesIO()
+        book.save(made)
+        with unittest.mock.patch.object(WorkSheetParser, "parse_dimensions", side_effect=AssertionError("read to its end")):
+            self.assertEqual(Workbook(Stream(made.getvalue())).header, ["when", "long"])
+        # Outside, the library is as it was.
+        self.assertEqual(openpyxl.load_workbook(io.BytesIO(made.getvalue()), read_only=True).worksheets[0].title, "a")
+
+
+# Losses, forks whose parts meet again or leave apart, joins that hold parts, and two sources.
+NETWORKS = (
+    DESK,
+    "model 1\nsource door\nsource gate\nloss desk 2 =9 from door gate\nserver second d from desk\n",
+    "model 2\nsource door\nfork apart 2 from door\ndelay short =3 from apart.0\ndelay long d from apart.1\n",
+    "model 2\nsource door\nfork apart 3 from door\nserver one d from apart.0 apart.1 apart.2\n",
+    "model 2\nsource door\nfork apart 2 from door\nloss one 1 d from apart.0\ndelay two d from apart.1\njoin both from one two\n",
+)
+
+
+class Sojourn(Test):
+    def reports(self):
+        for at, model in enumerate(NETWORKS):
+            drawn, time, rows = random.Random(at), 0, []
+            for _ in range(400):
+                time += drawn.randrange(4)
+                rows.append((drawn.choice(["door", "gate"] if "gate" in model else ["door"]), time, drawn.randrange(9)))
+            yield mpsim.run(model, rows, jobs=True)
+
+    def test_with_numpy_and_without(self):
+        """The same table, by the same numbers."""
+        try:
+            import numpy
+        except ImportError:
+            raise unittest.SkipTest("needs numpy") from None
+        for report in self.reports():
+            plain, fast = sojourns._ways(report), sojourns._ways_by(numpy, report)
+            self.assertEqual([list(column) for column in plain], [list(column) for column in fast])
+            with unittest.mock.patch.object(sojourns, "MANY", 0):
+                tables = [list(sojourns.table(report, by, (3,))) for by in ("both", "source", "end", "all")]
+                with unittest.mock.patch.object(sojourns, "_numpy", return_value=None):
+                    self.assertEqual(repr([list(sojourns.table(report, by, (3,))) for by in ("both", "source", "end", "all")]), repr(tables))
+
+    def test_few_visits_need_no_numpy(self):
+        with unittest.mock.patch.object(sojourns, "_numpy", side_effect=AssertionError("numpy was imported")):
+            self.assertEqual(sum(map(len, map(list, map(sojourns.table, self.reports())))) > 4, True)
+
+    def test_against_a_second_reading(self):
+        """Each job leaves at its last visit with the latest end."""
+        for report in self.reports():
+            last, came, where, held = {}, {}, {}, set()
+            for visit in report.visits.each():
+                held |= {visit.job} if visit.end == "held" else set()
+                end = visit.arrive if visit.depart is None else visit.depart
+                came.setdefault(visit.job, visit.arrive)
+                if end >= last.get(visit.job, -1):
+                    last[visit.job], where[visit.job] = end, (visit.node, visit.end == "lost")
+            found = list(sojourns.sojourns(report))
+            self.assertEqual([(it.job, it.came, it.sojourn, (it.left_at, it.lost)) for it in found], [
+                (job, came[job], last[job] - came[job], where[job]) for job in sorted(came.keys() - held)
+            ])
+
+
+if __name__ == "__main__":
+    unittest.main()
