@@ -99,6 +99,8 @@ class Documents(Check):
         """Returns what a command writes to stdout and into new files."""
         before = {file: file.stat().st_mtime_ns for file in self.top.rglob("*") if file.is_file()}
         ran = run("sh", "-e", "-c", command, folder=folder, settings=self.settings)
+        if ran.line.startswith(b"mpplan: a solver is required: "):
+            self.skipTest(ran.line.decode().strip())
         # The pages also show what `mpplan` prints on stderr.
         messages = b"".join(line for line in ran.line.splitlines(keepends=True) if line.startswith(b"mpplan: "))
         self.did(ran._replace(out=b"", line=ran.line.replace(messages, b"")))

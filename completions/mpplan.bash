@@ -4,7 +4,7 @@ _mpplan() {
     local word=${COMP_WORDS[COMP_CWORD]} i choices='' given=' ' options='' repeated=' ' left=''
     COMPREPLY=()
     if ((COMP_CWORD == 1)); then
-        COMPREPLY=($(compgen -W 'prepare scale edit pool staff recorded validate run days table compare service hours sojourns sweep page --help --version' -- "$word"))
+        COMPREPLY=($(compgen -W 'prepare scale edit pool staff shifts recorded validate run days table compare service hours sojourns sweep page --help --version' -- "$word"))
         return
     fi
     case ${COMP_WORDS[1]} in
@@ -29,6 +29,9 @@ _mpplan() {
         staff)
             options='--node --goal --every --weekday --date --patience --seed --max-occupancy --shrinkage --format --tick --start --zone
                 --help'
+            ;;
+        shifts)
+            options='--forms --column --every --solver --help'
             ;;
         recorded)
             options='--wait --abandoned --within --every --source --model --tick --start --zone --help'
@@ -85,6 +88,7 @@ _mpplan() {
         pool.--csv-style) choices='plain excel-de' ;;
         staff.--weekday) choices='Monday Tuesday Wednesday Thursday Friday Saturday Sunday' ;;
         staff.--format) choices='csv json md' ;;
+        shifts.--solver) choices='scipy glpk' ;;
         validate.--choose) choices='longest-idle first' ;;
         days.--format) choices='csv json md xlsx' ;;
         days.--csv-style) choices='plain excel-de' ;;
@@ -103,11 +107,12 @@ _mpplan() {
         sojourns.--format) choices='csv json md xlsx' ;;
         sojourns.--csv-style) choices='plain excel-de' ;;
         sweep.--csv-style) choices='plain excel-de' ;;
-        *.--abandoned | *.--agents | *.--answered | *.--begin | *.--by | *.--close | *.--code | *.--constant | *.--date | *.--date-format | \
-            *.--day | *.--delimiter | *.--demand | *.--empty | *.--encoding | *.--end | *.--every | *.--first | *.--format | *.--from | \
-            *.--goal | *.--header | *.--labels | *.--left-out-most | *.--max-occupancy | *.--node | *.--open | *.--patience | *.--percentile \
-            | *.--pool | *.--rename | *.--seed | *.--set | *.--shard | *.--sheet | *.--shift | *.--shrinkage | *.--skip | *.--source | \
-            *.--start | *.--then | *.--tick | *.--time | *.--title | *.--until | *.--wait | *.--where | *.--within | *.--zone) return ;;
+        *.--abandoned | *.--agents | *.--answered | *.--begin | *.--by | *.--close | *.--code | *.--column | *.--constant | *.--date | \
+            *.--date-format | *.--day | *.--delimiter | *.--demand | *.--empty | *.--encoding | *.--end | *.--every | *.--first | *.--format \
+            | *.--from | *.--goal | *.--header | *.--labels | *.--left-out-most | *.--max-occupancy | *.--node | *.--open | *.--patience | \
+            *.--percentile | *.--pool | *.--rename | *.--seed | *.--set | *.--shard | *.--sheet | *.--shift | *.--shrinkage | *.--skip | \
+            *.--source | *.--start | *.--then | *.--tick | *.--time | *.--title | *.--until | *.--wait | *.--where | *.--within | *.--zone) \
+            return ;;
     esac
     if [[ $choices ]]; then
         COMPREPLY=($(compgen -W "$choices" -- "$word"))

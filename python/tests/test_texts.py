@@ -2,9 +2,10 @@
 
 import ast
 import doctest
-import importlib
+import importlib.util
 import inspect
 import os
+import shutil
 import tempfile
 import unittest
 
@@ -15,7 +16,7 @@ import mpsim
 MODULES = sorted(".".join(path.relative_to(SOURCES / "mpsim").with_suffix("").parts) for path in (SOURCES / "mpsim").rglob("*.py"))
 PAGE = ROOT / "docs" / "PYTHON.md"
 STANDARD = {"array", "bisect", "collections", "contextlib", "csv", "fractions", "importlib", "io", "itertools", "os", "re", "shutil", "signal"}
-STANDARD |= {"resource"}
+STANDARD |= {"__future__", "resource"}
 STANDARD |= {"subprocess", "sys", "threading", "time", "typing"}
 # Further modules used by the planner's commands and the pages.
 STANDARD |= {"argparse", "base64", "codecs", "datetime", "difflib", "errno", "functools", "gc", "glob", "hashlib", "heapq", "html", "json", "locale"}
@@ -61,6 +62,8 @@ class Examples(Test):
             for test in doctest.DocTestFinder().find(module_of(name)):
                 if test.examples:
                     with self.subTest(test.name):
+                        if "solver_named" in test.docstring and not (importlib.util.find_spec("scipy") or shutil.which("glpsol")):
+                            self.skipTest("neither scipy nor glpsol is installed")
                         count += self.runs(test)
         self.assertGreater(count, 50)
 
@@ -104,6 +107,7 @@ class Examples(Test):
 FRAMES, BOOKS = {"pandas", "numpy"}, {"openpyxl"}
 # What modules use if it is there.
 OPTIONAL = {"report": FRAMES, "node_visits": FRAMES, "sweeps.results": FRAMES, "tables.sheets": BOOKS, "exports.workbook": BOOKS}
+OPTIONAL["agents.solvers"] = {"scipy"}
 
 
 def modules_of(tree):

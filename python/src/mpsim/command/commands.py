@@ -6,6 +6,7 @@ COMMANDS = {
     "edit": "change, add or remove records of a trace",
     "pool": "divide the calls of a trace among agents who share one queue",
     "staff": "find the least number of agents per interval of the day that reaches a service level",
+    "shifts": "choose shifts that cover the agents needed at least cost, and write them as a roster",
     "recorded": "report what the telephone system recorded, abandoned calls included, per interval of the day",
     "validate": "compare recorded waits with those of a model, per interval of the day",
     "run": "run a trace through a model, and write its report and an HTML page of it",
