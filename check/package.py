@@ -47,10 +47,35 @@ def _targets(item, package, modules):
     if isinstance(item, ast.Import):
         yield from (alias.name for alias in item.names)
         return
-    words = package.split(".")
-    base = ".".join([*words[: len(words) + 1 - item.level], *([item.module] if item.module else [])]) if item.level else item.module
+    base = _base_of(item, package)
     for alias in item.names:
         yield f"{base}.{alias.name}" if f"{base}.{alias.name}" in modules else base
+
+
+def lacking_in(folder):
+    """Yields the names (str) that a module of a package imports from another, by a relative import, which has no such name."""
+    modules = modules_in(folder)
+    defined = {name: _defined_in(ast.parse(path.read_text())) for name, path in modules.items()}
+    for name, path in modules.items():
+        package = name if path.name == "__init__.py" else name.rpartition(".")[0]
+        for item in ast.walk(ast.parse(path.read_text())):
+            for alias in item.names if isinstance(item, ast.ImportFrom) and item.level else ():
+                base = _base_of(item, package)
+                if f"{base}.{alias.name}" not in modules and alias.name not in defined.get(base, ()):
+                    yield f"{name} imports {alias.name} from {base}"
+
+
+def _defined_in(tree):
+    """Returns the names (set of str) that a module's text defines at its top."""
+    stored = {item.id for part in tree.body for item in ast.walk(part) if isinstance(item, ast.Name) and isinstance(item.ctx, ast.Store)}
+    stored |= {part.name for part in tree.body if isinstance(part, (ast.FunctionDef, ast.ClassDef))}
+    return stored | {alias.asname or alias.name for part in tree.body if isinstance(part, ast.ImportFrom) for alias in part.names}
+
+
+def _base_of(item, package):
+    """Returns the module that an import statement in a package names after `from`."""
+    words = package.split(".")
+    return ".".join([*words[: len(words) + 1 - item.level], *([item.module] if item.module else [])]) if item.level else item.module
 
 
 def cycles_in(imports):

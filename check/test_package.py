@@ -1,7 +1,10 @@
-"""Checks how the modules of the Python package depend on one another: no module imports itself through others, and the library never imports the
-command."""
-from package import cycles_in, imports_of
-from programs import ROOT, Check
+"""Checks how the modules of the Python package depend on one another: no module imports itself through others, the library never imports the
+command, and what a module imports from another is there; and their types, with mypy, if it is installed."""
+import os
+import shutil
+
+from package import cycles_in, imports_of, lacking_in
+from programs import ROOT, Check, run
 
 PACKAGE = ROOT / "python" / "src" / "mpsim"
 COMMAND = "mpsim.command"
@@ -26,6 +29,15 @@ class Package(Check):
         for name, targets in imports.items():
             if not is_of_command(name):
                 self.same(f"what {name} imports of the command", sorted(filter(is_of_command, targets)), [])
+
+    def test_what_is_imported_is_there(self):
+        """Inside functions too, which no test may call."""
+        self.same("names that no module has", list(lacking_in(PACKAGE)), [])
+        folder = self.folder / "lacking"
+        folder.mkdir()
+        (folder / "one.py").write_text("def a():\n    from .two import b, c\n    from .three import d\n")
+        (folder / "two.py").write_text("b = 1\n")
+        self.same("planted names", list(lacking_in(folder)), ["lacking.one imports c from lacking.two", "lacking.one imports d from lacking.three"])
 
     def planted(self, files):
         """Returns the cycles of a package with these texts by path."""
@@ -56,3 +68,31 @@ class Package(Check):
         self.same("a cycle through a package", self.planted(inner), [["planted.inner", "planted.one"]])
         ring = {"__init__.py": "", "one.py": "from .two import b\n", "two.py": "from .three import c\n", "three.py": "def a():\n    from . import one\n"}
         self.same("a cycle of three", self.planted(ring), [["planted.one", "planted.three", "planted.two"]])
+
+
+class Types(Check):
+    def mypy(self, *words):
+        """Runs mypy in the directory of the package's project, without leaving a cache there."""
+        program = shutil.which("mypy")
+        if program is None:
+            self.skipTest("mypy is missing")
+        settings = {"MYPYPATH": str(PACKAGE.parent), "MYPY_CACHE_DIR": os.devnull}
+        return run(program, *words, folder=PACKAGE.parent.parent, settings=settings)
+
+    def test_the_package(self):
+        """As pyproject.toml says: strictly, for all modules."""
+        ran = self.mypy()
+        self.holds(f"{ran.command}\n{ran.out.decode()}{ran.line.decode()}", ran.status == 0)
+
+    def test_a_program_that_uses_it(self):
+        """An unknown name, a wrong argument and a missing figure are errors; calls that fit are not."""
+        begin = 'import mpsim\nreport = mpsim.run("model.txt", "trace.csv")\n'
+        for line, says in (
+            ("print(report['desk'].wait + 1, mpsim.Model().source('door'), mpsim.__version__)\n", ""),
+            ("mpsim.does_not_exist(3)\n", 'Module has no attribute "does_not_exist"'),
+            ("mpsim.run('model.txt', 'trace.csv', jobs='yes', worker=1)\n", 'Unexpected keyword argument "worker"'),
+            ("print(report.visits['desk'])\n", "is not indexable"),
+        ):
+            ran = self.mypy("--strict", self.file("program.py", begin, line))
+            out = ran.out.decode()
+            self.holds(f"{line}{ran.command}\n{out}{ran.line.decode()}", (ran.status == 0) == (not says) and says in out)

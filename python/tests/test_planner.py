@@ -31,7 +31,8 @@ COMMAND = [sys.executable, "-B", ROOT / "mpplan"]
 
 class Words(Test):
     def test_each_command_has_help_with_an_example(self):
-        modules = {path.stem for path in (SOURCES / "mpsim" / "command").glob("*.py") if re.search(r"^def main\(args\)", path.read_text(), re.M)}
+        files = (SOURCES / "mpsim" / "command").glob("*.py")
+        modules = {path.stem for path in files if re.search(r"^def main\(args: Namespace\)", path.read_text(), re.M)}
         self.assertEqual(modules, set(COMMANDS))
         for name, says in COMMANDS.items():
             status, out, err = planner(name, "--help")

@@ -25,8 +25,8 @@ class Rosters(InFolder):
         # A Thursday; clocks go forward on the Sunday.
         self.days = Calendar(SECOND, "2026-03-26T00:00:00+01:00", "Europe/Berlin")
 
-    def read(self, *rows, last=6 * 24 * HOUR, days=None):
-        path = self.file("roster.csv", "".join(f"{row}\n" for row in ("agent,queues,from,to", *rows)))
+    def read(self, *rows, last=6 * 24 * HOUR, days=None, mark=","):
+        path = self.file("roster.csv", "".join(f"{row}\n" for row in ("agent,queues,from,to", *rows)).replace(",", mark))
         return read_roster(path, days or self.days, last, ["phone", "mail"])
 
     def test_the_forms_of_a_row(self):
@@ -37,6 +37,7 @@ class Rosters(InFolder):
         wanted = [[(100, 200), (300, 400)], [(8 * HOUR, 9 * HOUR + 1800)], [(8 * HOUR, 9 * HOUR)]]
         self.assertEqual([list(agent.intervals) for agent in agents], wanted)
         self.assertEqual([agent.queues for agent in agents], [None, ["mail", "phone"], ["mail"]])
+        self.assertEqual(self.read("A,,100,200", *rows, mark=";"), (agents, names))
         # Thursday, Friday and Monday; the clock's hour is skipped on Sunday.
         every = ("mon-fri", "01456"), ("Thu,Sat", "02"), ("sat-sun", "23"), ("fri-mon", "1234"), ("daily", "0123456"), ("", "0123456")
         for on, found in ((on, map(int, digits)) for on, digits in every):
@@ -183,6 +184,21 @@ class Pools(InFolder):
         self.refuses("--patience exq:9s: expected a time such as 240s, a column, or exp:240s", *words, "--agents", 3, "--patience", "exq:9s")
         text = "--agents 3..4: with patience, priorities or --every, give one number of agents, or times of day such as 8:00=3,10:00=5"
         self.refuses(text, *words, "--agents", "3..4", "--every", "1h")
+
+    def test_a_sweep_over_the_number_of_agents_is_rejected(self):
+        """Its waits would be those without patience, priorities or a roster. A sweep over something else is fine."""
+        rules = {"patience": ("--patience", "30s"), "priorities": ("--first", "mail"), "roster": ("--every", "1h")}
+        model, sets, trace = (self.folder / name for name in ("p.txt", "sets.txt", "p.csv"))
+        given = self.file("m.txt", MODEL), self.file("t.csv", "source,time,d\nphone,0,60\nmail,1,60\nphone,2,60\nmail,3,9\n")
+        why = "desk is a pool with a roster, patience or priorities: its waits hold only for the whole trace"
+        for rule, words in rules.items():
+            with self.subTest(rule):
+                self.assertEqual(planner("pool", *given, "--node", "desk", "--agents", 1, *words, "--out", trace, "--out-model", model)[0], 0)
+                text = text_of(model)
+                self.file("sets.txt", text.replace("trunk desk 1 ", "trunk desk {agents} "))
+                self.refuses(f"{why}; run mpplan pool for each number of agents", "sweep", sets, trace, "--set", "agents=1..2")
+                self.file("sets.txt", f"{text}delay after ={{wrap}} from desk\n")
+                self.assertEqual(planner("sweep", sets, trace, "--set", "wrap=1,2")[0], 0)
 
 
 class Delays(Test):

@@ -42,7 +42,12 @@ print(len(names))
     def test_a_trace_from_an_export(self):
         export = self.file("calls.csv", "When;Who;Long\n02.03.2026 08:00:17;Desk;1,5\n02.03.2026 08:00:05;Desk;0,5\n")
         words = ["prepare", str(export), "--time", "When", "--source", "Who", "--demand", "Long=talk:min", "--out", "trace.csv"]
-        script = f"import io\nfrom mpsim.command import main\nsys.stderr = io.StringIO()\nprint(main({words!r}), sys.stderr.getvalue().count('2 records'))\n"
+        script = f"""
+import io
+from mpsim.command import main
+sys.stderr = io.StringIO()
+print(main({words!r}), sys.stderr.getvalue().count("2 records"))
+"""
         self.assertEqual(self.runs(script), "0 1\n")
         self.assertEqual((self.folder / "trace.csv").read_text(), "source,time,talk\ndesk,5,30\ndesk,17,90\n")
 

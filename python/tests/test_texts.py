@@ -5,6 +5,7 @@ import doctest
 import importlib.util
 import inspect
 import os
+import re
 import shutil
 import tempfile
 import unittest
@@ -16,7 +17,7 @@ import mpsim
 MODULES = sorted(".".join(path.relative_to(SOURCES / "mpsim").with_suffix("").parts) for path in (SOURCES / "mpsim").rglob("*.py"))
 PAGE = ROOT / "docs" / "PYTHON.md"
 STANDARD = {"array", "bisect", "collections", "contextlib", "csv", "fractions", "importlib", "io", "itertools", "os", "re", "shutil", "signal"}
-STANDARD |= {"__future__", "resource"}
+STANDARD |= {"__future__", "_typeshed", "resource", "types"}
 STANDARD |= {"subprocess", "sys", "threading", "time", "typing"}
 # Further modules used by the planner's commands and the pages.
 STANDARD |= {"argparse", "base64", "codecs", "datetime", "difflib", "errno", "functools", "gc", "glob", "hashlib", "heapq", "html", "json", "locale"}
@@ -36,6 +37,23 @@ def blocks_of(page):
     return [lines[begin + 1 : end] for begin, end in zip(marks[::2], marks[1::2])]
 
 
+def is_public_call(name, it):
+    """Returns whether a member of a class is a method that a caller may use."""
+    return not name.startswith("_") and (inspect.isfunction(it) or isinstance(it, (classmethod, staticmethod)))
+
+
+def public_in(tree):
+    """Yields the public classes and functions of a module or a class, with whether they are properties."""
+    for item in tree.body:
+        if isinstance(item, (ast.ClassDef, ast.FunctionDef)) and not item.name.startswith("_"):
+            marks = [ast.unparse(mark) for mark in item.decorator_list]
+            # A setter has the docstring of its property.
+            if not any(mark.endswith(".setter") for mark in marks):
+                yield item, "property" in marks
+            if isinstance(item, ast.ClassDef):
+                yield from public_in(item)
+
+
 class Examples(Test):
     def runs(self, examples):
         told = []
@@ -43,16 +61,36 @@ class Examples(Test):
         self.assertEqual(result.failed, 0, "".join(told))
         return result.attempted
 
-    def test_each_call_has_an_example(self):
-        """Each function and each type, except exceptions, whose example is in their base class."""
-        finder = doctest.DocTestFinder(exclude_empty=True)
-        for name in mpsim.__all__[1:]:
-            it = getattr(mpsim, name)
+    def test_each_public_name_has_an_example(self):
+        """Each function and type of the package, each of its methods, and what docs/PLANNER.md lists. The exceptions are what no example can bring
+        about, and data frames, since pandas may be missing."""
+        finder = doctest.DocTestFinder(exclude_empty=True, recurse=False)
+        names = {name: getattr(mpsim, name) for name in mpsim.__all__[1:]}
+        for name, kind in [item for item in names.items() if inspect.isclass(item[1])]:
+            names.update({f"{name}.{member}": it for member, it in vars(kind).items() if is_public_call(member, it)})
+        page = (ROOT / "docs" / "PLANNER.md").read_text()
+        for package, listed in re.findall(r"^\| `(mpsim\.\w+)` \| (.*) \|$", page, re.M):
+            for module, functions in re.findall(r"`(\w+)` \(([^)]*)\)", listed):
+                for name in re.findall(r"\w+", functions):
+                    names[f"{package}.{module}.{name}"] = getattr(importlib.import_module(f"{package}.{module}"), name)
+        self.assertGreater(len(names), 80)
+        for name, it in names.items():
             with self.subTest(name):
-                self.assertTrue(inspect.getdoc(it))
-                examples = sum(len(test.examples) for test in finder.find(it))
-                is_plain = name in ("Visit", "Exit", "Again", "Scenario") or (inspect.isclass(it) and issubclass(it, Exception) and name != "Error")
-                self.assertTrue(examples or is_plain)
+                examples = sum(len(test.examples) for test in finder.find(getattr(it, "__func__", it), name, module=False))
+                self.assertTrue(examples or name in ("WriteError", "OutOfMemory", "TimedOut") or name.endswith(".to_pandas"))
+
+    def test_each_public_name_has_a_docstring(self):
+        """In all modules. That of a function begins with a verb in the third person, unless it is a property."""
+        count = 0
+        for name in MODULES:
+            for item, is_property in public_in(ast.parse((SOURCES / "mpsim" / f"{name.replace('.', '/')}.py").read_text())):
+                count += 1
+                with self.subTest(f"{name}.{item.name}"):
+                    says = ast.get_docstring(item) or ""
+                    self.assertTrue(says)
+                    if isinstance(item, ast.FunctionDef) and not is_property:
+                        self.assertRegex(says, r"^[A-Z][a-z]+s\b")
+        self.assertGreater(count, 400)
 
     def test_examples_are_run(self):
         count = 0
@@ -141,6 +179,13 @@ class Sources(Test):
         self.assertEqual(set(mpsim._MODULES) & set(MODULES), set())
         with self.assertRaises(AttributeError):
             mpsim.absent
+
+    def test_names_for_editors(self):
+        """Those that are imported for type checkers alone are those that are imported when they are first used, from the same modules."""
+        tree = ast.parse((SOURCES / "mpsim" / "__init__.py").read_text())
+        block = next(item for item in tree.body if isinstance(item, ast.If) and getattr(item.test, "id", None) == "TYPE_CHECKING")
+        found = {alias.asname: (item.module, alias.name) for item in block.body for alias in item.names}
+        self.assertEqual(found, {name: (module, name) for name, module in mpsim._MODULES.items()})
 
 
 if __name__ == "__main__":

@@ -1,4 +1,4 @@
-//! The program `mpedit`: it makes the files and the two streams, and calls the library.
+//! The program `mpedit`: it opens the files and the two outputs, and calls the library.
 #![tactic(auto)]
 
 use mq_edit::{EditOutcome, edit_trace};
@@ -7,7 +7,8 @@ use std::alloc::{AllocError, Global};
 use std::process::ExitCode;
 use std::{env, io};
 
-// The words without the program's name. An error says that the system gave none, or that there was no memory.
+// Returns the words without the program's name. Fails if the system gave none, if one isn't valid UTF-8, or if memory
+// runs out.
 fn words_of(rt: &HostRuntime) -> io::Result<Vec<String>> {
     let mut words = env::args(rt)?;
     let _program = words.next();
@@ -18,7 +19,7 @@ fn texts_of<'a>(alloc: Global, words: &'a [String]) -> Result<Vec<&'a str>, Allo
     words.iter().map(|word| word.as_str()).collect(alloc)
 }
 
-// Tells that memory ran out, and gives the status for it.
+// Reports that memory ran out, and returns the status for it.
 fn out_of_memory<E: Sink>(err: &mut E) -> ExitCode {
     let _ = put_all(err, b"mpedit: out of memory\n");
     ExitCode::from(EditOutcome::Memory.status())

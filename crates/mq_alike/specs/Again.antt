@@ -1,4 +1,4 @@
--- How much of a run is done again after its rows were edited: in blocks, node by node.
+-- How much of a run is redone after its rows were edited: the number of blocks, node by node.
 use Rattle.std.specs.Prelude.{◌≡◌, ◌<◌, ◌≤◌, ◌+◌, ◌-◌, ◌/◌, ◌==◌, ◌&&◌, Bool, true, false, if◌then◌else◌, ℕ, suc, List, [], ◌∷◌, length, Option, None, Some, slice_get, sum_by}
 use Rattle.std.specs.List.{list_all}
 use Rattle.mq_core.specs.Handling.{demand_of_job}
@@ -16,11 +16,11 @@ use Rattle.mq_core.specs.declared.model.Node.{Node}
 use Rattle.mq_core.specs.declared.model.Rows.{Rows}
 use Rattle.mq_core.specs.declared.model.Stage.{Stage}
 
--- a job asks for the same by two lists of rows
+-- a job asks for the same by the rows of two runs
 abbrev pub same_demand : Rows → Rows → ℕ → Demand → Bool
 same_demand rows rows' job demand = demand_of_job rows demand job == demand_of_job rows' demand job
 
--- what a node of this kind looks at of a job's row is the same: what it asks for at each server, or the value that the route looks at
+-- what a node of this kind reads from a job's row is the same: the demand at each server, or the value that the route reads
 abbrev pub asks_same : Rows → Rows → Kind → ℕ → Bool
 asks_same rows rows' Source job = true
 asks_same rows rows' (Server demand) job = same_demand rows rows' job demand
@@ -46,7 +46,7 @@ is_counted (Fork outputs) = false
 is_counted Join = false
 is_counted (Trunk servers demand) = false
 
--- a node whose jobs are worked block by block; those of a source depart as they come
+-- a node whose jobs are worked block by block; the jobs of a source depart as they come
 abbrev pub is_worked : Kind → Bool
 is_worked Source = false
 is_worked (Server demand) = true
@@ -59,17 +59,17 @@ is_worked (Fork outputs) = false
 is_worked Join = false
 is_worked (Trunk servers demand) = false
 
--- what comes to a node in a run over rows: of each visit its job, and when it came
+-- what comes to a node in a run over rows: the job of each visit, and when it came
 pub record Coming : Type 0 where
   pub rows : Rows
   pub job : List ℕ
   pub arrive : List ℕ
 
--- two visits are the same: of one job, which comes at one time and asks for the same
+-- two visits are the same: the same job comes at the same time and asks for the same
 abbrev pub same_visit : Kind → Rows → ℕ → ℕ → Rows → ℕ → ℕ → Bool
 same_visit kind rows job arrive rows' job' arrive' = (job == job') && ((arrive == arrive') && asks_same rows rows' kind job')
 
--- how many first visits of two runs are the same; so the least position of a difference, where there is one
+-- the number of first visits that are the same in two runs; so the least position of a difference, if there is one
 abbrev pub alike_from : Kind → Rows → List ℕ → List ℕ → Rows → List ℕ → List ℕ → ℕ
 alike_from kind rows [] arrives rows' jobs' arrives' = 0
 alike_from kind rows (job ∷ jobs) [] rows' jobs' arrives' = 0
@@ -81,11 +81,11 @@ alike_from kind rows (job ∷ jobs) (arrive ∷ arrives) rows' (job' ∷ jobs') 
 abbrev pub alike : Kind → Coming → Coming → ℕ
 alike kind old new = alike_from kind old.rows old.job old.arrive new.rows new.job new.arrive
 
--- how many blocks of so many jobs hold this many visits: the least number
+-- the least number of blocks of this size that hold this many visits
 abbrev pub blocks_in : ℕ → ℕ → ℕ
 blocks_in block visits = (visits + (block - 1)) / block
 
--- how many blocks of a node are done again: none where nothing differs, else all from that of the first difference on
+-- the number of blocks of a node that are redone: 0 if nothing differs, else all from that of the first difference on
 abbrev pub again_at : ℕ → Kind → Coming → Coming → ℕ
 again_at block kind old new =
     let same = alike kind old new in
@@ -99,17 +99,17 @@ coming_in net rows v = record {
   arrive = arrives_of ((run_in net rows).stations v).visits;
 }
 
--- how many blocks of a node are done again, where they are counted
+-- the number of blocks of a node that are redone, if they are counted
 abbrev pub again_of : ℕ → Option Node → Coming → Coming → ℕ
 again_of block None old new = 0
 again_of block (Some node) old new = if is_counted node.kind then again_at block node.kind old new else 0
 
--- how many of them are worked: all but those of sources
+-- the number of these blocks that are worked: all but those of sources
 abbrev pub worked_of : ℕ → Option Node → Coming → Coming → ℕ
 worked_of block None old new = 0
 worked_of block (Some node) old new = if is_worked node.kind then again_at block node.kind old new else 0
 
--- how many blocks a node has, where they are counted
+-- the number of blocks of a node, if they are counted
 abbrev pub blocks_of : ℕ → Option Node → Coming → ℕ
 blocks_of block None new = 0
 blocks_of block (Some node) new = if is_counted node.kind then blocks_in block (length new.job) else 0
@@ -124,7 +124,8 @@ worked net old new block = sum_by (λ v. worked_of block (slice_get net.nodes v)
 abbrev pub all_blocks : Network → Rows → ℕ → ℕ
 all_blocks net rows block = sum_by (λ v. blocks_of block (slice_get net.nodes v) (coming_in net rows v)) (ranking net.nodes)
 
--- no more blocks are done again than there are, and none where the rows are the same; no more are worked than are done again
+-- the blocks that are redone are no more than there are, and none if the rows are the same; those that are worked are no more
+-- than those that are redone
 pub record AgainIsBounded : Type 0 where
   pub within : (net : Network) (old new : Rows) (block : ℕ) → again net old new block ≤ all_blocks net new block
   pub none : (net : Network) (rows : Rows) (block : ℕ) → again net rows rows block ≡ 0
@@ -140,7 +141,8 @@ pub record IsAlikeAt (kind : Kind) (old new : Coming) (k : ℕ) : Type 0 where
   pub new_arrive : slice_get new.arrive k ≡ Some arrive
   pub asks : asks_same old.rows new.rows kind job ≡ true
 
--- the visits before the first difference are in both runs, which differ there or one of which has ended; it comes no later than where one has ended
+-- the visits before the first difference are in both runs; at it the runs differ, or one of them has ended; it comes no later
+-- than the end of either
 pub record AlikeBelow (kind : Kind) (old new : Coming) : Type 0 where
   pub each : (k : ℕ) → k < alike kind old new → IsAlikeAt kind old new k
   pub differs : IsAlikeAt kind old new (alike kind old new) → ⊥
@@ -150,7 +152,7 @@ pub record AlikeBelow (kind : Kind) (old new : Coming) : Type 0 where
 abbrev pub AlikeIsFirst : Type 0
 AlikeIsFirst = (kind : Kind) (old new : Coming) → AlikeBelow kind old new
 
--- a run comes to a node with no difference: its sequences there are those of the other, by its arrivals and what they ask for
+-- a node has no difference between two runs: its sequences are the same, given its arrivals and what they ask for
 pub record IsUnchanged (kind : Kind) (old new : Coming) : Type 0 where
   pub jobs : old.job ≡ new.job
   pub arrives : old.arrive ≡ new.arrive

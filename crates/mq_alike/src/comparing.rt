@@ -1,4 +1,4 @@
-// Up to which position two runs have the same at a node.
+// The position up to which two runs are the same at a node.
 ghost use Rattle.std.specs.Prelude.{◌≡◌, ◌==◌, ◌<◌, ◌≤◌, ℕ, Some, length, slice_get};
 ghost use Rattle.std.specs.List.{AllByRecursion, list_all};
 ghost use Rattle.mq_core.specs.Asked.{HasDemands};
@@ -12,9 +12,9 @@ use mq_base::List;
 use mq_core::{Demand, Kind, Route, Rows, Stage, Stream, Visits, demand_of};
 use mq_edits::FormerRows;
 
-/// How many first visits to a node are the same in two runs: of one job, which comes at one time and asks for the same. The
-/// earlier run is over the rows of before edits, of which the former ones differ at most. What a job of another row asks for
-/// isn't looked at.
+/// Returns the number of first visits to a node that are the same in two runs: the same job comes at the same time and
+/// asks for the same. The earlier run is over the rows of before edits, which differ from `rows` only from the first
+/// former row on. What the job of an earlier row asks for isn't compared.
 pub fn alike(
     former: &FormerRows,
     rows: &Rows,
@@ -38,7 +38,7 @@ pub fn alike(
     both as u32
 }
 
-// Whether two visits at a position are the same.
+// Returns whether two visits at a position are the same.
 fn is_same(
     former: &FormerRows,
     rows: &Rows,
@@ -65,7 +65,7 @@ fn is_same(
     job < former.from || asks_for_same(former, rows, kind, job)
 }
 
-// Whether the job of a row that may differ asks for the same at a node of this kind.
+// Returns whether the job of a row that may differ asks for the same as before at a node of this kind.
 fn asks_for_same(former: &FormerRows, rows: &Rows, kind: &Kind, job: u32) -> bool
     requires set { former.now.from ≤ job }
     requires earlier { HasDemands (rows_before former.now rows.now) kind.now job }
@@ -84,7 +84,7 @@ fn asks_for_same(former: &FormerRows, rows: &Rows, kind: &Kind, job: u32) -> boo
     }
 }
 
-// Whether a job asks for the same by a demand as before the edits.
+// Returns whether a job asks for the same by a demand as before the edits.
 fn asks_one(former: &FormerRows, rows: &Rows, demand: &Demand, job: u32) -> bool
     requires set { former.now.from ≤ job }
     requires earlier { HasDemand (rows_before former.now rows.now) demand.now job }
@@ -94,7 +94,7 @@ fn asks_one(former: &FormerRows, rows: &Rows, demand: &Demand, job: u32) -> bool
     demand_of(&former.rows, demand, job - former.from) == demand_of(rows, demand, job)
 }
 
-// Whether it does at each of these stages.
+// Returns whether a job asks for the same at each of these stages as before the edits.
 fn asks_stages(former: &FormerRows, rows: &Rows, stages: &List<Stage>, job: u32) -> bool
     requires set { former.now.from ≤ job }
     requires earlier { AllByRecursion (λ stage. HasDemand (rows_before former.now rows.now) stage.demand job) stages.now }
@@ -109,7 +109,7 @@ fn asks_stages(former: &FormerRows, rows: &Rows, stages: &List<Stage>, job: u32)
     true
 }
 
-// Whether it does by each of these demands.
+// Returns whether a job asks for the same by each of these demands as before the edits.
 fn asks_each(former: &FormerRows, rows: &Rows, demands: &List<Demand>, job: u32) -> bool
     requires set { former.now.from ≤ job }
     requires earlier { AllByRecursion (λ demand. HasDemand (rows_before former.now rows.now) demand job) demands.now }
@@ -124,7 +124,7 @@ fn asks_each(former: &FormerRows, rows: &Rows, demands: &List<Demand>, job: u32)
     true
 }
 
-// Whether it does by each demand of these branches.
+// Returns whether a job asks for the same by each demand of these branches as before the edits.
 fn asks_branches(former: &FormerRows, rows: &Rows, branches: &List<List<Demand>>, job: u32) -> bool
     requires set { former.now.from ≤ job }
     requires earlier { AllByRecursion (λ demands. AllByRecursion (λ demand. HasDemand (rows_before former.now rows.now) demand job) demands) branches.now }
@@ -139,7 +139,7 @@ fn asks_branches(former: &FormerRows, rows: &Rows, branches: &List<List<Demand>>
     true
 }
 
-// By turns a route looks at no value.
+// Returns whether a route reads the same value of a job as before the edits; a route by turns reads none.
 fn routes_same(former: &FormerRows, rows: &Rows, route: &Route, job: u32) -> bool
     requires set { former.now.from ≤ job }
     requires earlier { HasRouteValue (rows_before former.now rows.now) route.now job }

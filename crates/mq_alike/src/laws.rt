@@ -3,19 +3,20 @@ ghost use Rattle.mq_alike.specs.Again.{AgainIsBounded, AlikeIsFirst, SequencesSt
 
 use mq_core::sequences_go_by_fates;
 
-/// The visits before the first difference of two runs are the same in both, and those at it are not. It does nothing when it runs.
+/// Law. The visits before the first difference of two runs are the same in both, and those at it, if both runs have
+/// one, are not. Does nothing when it runs.
 pub fn alike_is_first()
     ensures { AlikeIsFirst }
 {}
 
-/// No more blocks of a run are done again than it has, and none where the rows are the same; no more are worked than are done
-/// again. It does nothing when it runs.
+/// Law. The blocks that are redone in a run are no more than it has, and none if the rows are the same; those that are
+/// worked are no more than those that are redone. Does nothing when it runs.
 pub fn again_is_bounded()
     ensures { AgainIsBounded }
 {}
 
-/// Where two runs have no difference at a node that lets each job out once, alone, its visits and streams are the same. It
-/// does nothing when it runs.
+/// Law. If two runs have no difference at a node that lets each job out once, alone, the visits and streams there are
+/// the same. Does nothing when it runs.
 pub fn sequences_stay()
     ensures { SequencesStay }
 {

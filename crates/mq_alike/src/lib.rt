@@ -1,4 +1,5 @@
-//! How many first visits to a node are the same in two runs, and how many blocks behind them are done again.
+//! The number of first visits to a node that are the same in two runs, and the number of blocks after them that are
+//! redone.
 #![tactic(auto)]
 
 mod comparing;

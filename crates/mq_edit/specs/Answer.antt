@@ -26,31 +26,31 @@ pub data Answer : Type 0 where
   Refused : EditOutcome → Answer
   Reported : List ℕ → Answer
 
--- the last line: how many blocks come from the first differences on, and how many there are
+-- the last line: the number of blocks from the first differences on, and of all blocks
 abbrev pub again_line : ℕ → ℕ → List ℕ
 again_line again all = codes "again " ++ decimal again ++ codes " of " ++ decimal all ++ codes " blocks" ++ 10 ∷ []
 
--- the report of edited rows, of form 2 and without the lines of the jobs, and the line of blocks of 4,096 jobs
+-- the report of edited rows, in form 2 and without job lines, and then the line of blocks of 4,096 jobs
 abbrev pub edited_report : Network → Rows → Rows → List ℕ
 edited_report net rows edited = report_in net edited 2 false ++ again_line (again net rows edited 4096) (all_blocks net edited 4096)
 
--- why a run is refused, before the edits or after them
+-- why a run is refused, before or after the edits
 abbrev pub refused_run : Bool → Refusal → EditOutcome
 refused_run edited (OverRefusal node count) = Over edited (record { node = node; count = count })
 refused_run edited (PastRefusal late) = Past edited (record { node = late.node; position = late.position; time = late.time })
 
--- the same, of a fault that a run answers
+-- the outcome for a fault of a run, before or after the edits
 abbrev pub refused_by : Bool → RunFault → EditOutcome
 refused_by edited (fault.Over f) = Over edited f
 refused_by edited (fault.Past f) = Past edited f
 refused_by edited fault.Memory = Memory
 
--- what the run of the edited rows gives
+-- what the run over the edited rows gives
 abbrev pub after_answer : Network → Rows → Rows → Option Refusal → Answer
 after_answer net rows edited (Some refusal) = Refused (refused_run true refusal)
 after_answer net rows edited None = Reported (edited_report net rows edited)
 
--- what the run of the rows gives, and behind it the other
+-- what the run over the rows gives, and then the run over the edited rows
 abbrev pub before_answer : Network → Rows → Rows → Option Refusal → Answer
 before_answer net rows edited (Some refusal) = Refused (refused_run false refusal)
 before_answer net rows edited None = after_answer net rows edited (refusal_in net edited)
@@ -58,12 +58,12 @@ before_answer net rows edited None = after_answer net rows edited (refusal_in ne
 abbrev pub run_answer : Network → Rows → Rows → Answer
 run_answer net rows edited = before_answer net rows edited (refusal_in net rows)
 
--- what edits give over an accepted model and trace
+-- what edits give for an accepted model and trace
 abbrev pub edits_answer : Network → Rows → List ℕ → Option EditFault → Answer
 edits_answer net rows edits (Some fault) = Refused (Edits fault)
 edits_answer net rows edits None = run_answer net rows (edited_rows rows (edits_in net edits))
 
--- Where a file isn't told, and none before it is refused, there is no answer.
+-- if the contents of a file aren't known, and no file before it is refused, there is no answer
 abbrev pub edits_told : Network → Rows → Option (List ℕ) → Option Answer
 edits_told net rows None = None
 edits_told net rows (Some edits) = Some (edits_answer net rows edits (edits_fault net (length rows.source) edits))
@@ -80,7 +80,7 @@ abbrev pub model_answer : List ℕ → Option (List ℕ) → Option (List ℕ) �
 model_answer model trace edits (Some fault) = Some (Refused (Model fault))
 model_answer model trace edits None = trace_told (network_in model) trace edits
 
--- the answer to the bytes of a model, of a trace and of edits, as far as they are told
+-- the answer to the bytes of a model, a trace and edits, as far as they are known
 abbrev pub answer_told : Option (List ℕ) → Option (List ℕ) → Option (List ℕ) → Option Answer
 answer_told None trace edits = None
 answer_told (Some model) trace edits = model_answer model trace edits (model_fault model)

@@ -1,5 +1,5 @@
--- How a call may end, for each answer of the definitions, how far it came with the files, and what it has written. Where the last row of a table
--- is ⊥, no outcome without a row above it can be.
+-- For each answer of the definitions: how a call may end, how far it gets with the files, and what it writes. If the last row of
+-- a table is ⊥, only the outcomes in the rows above are possible.
 use Rattle.std.specs.Prelude.{◌≡◌, ◌≢◌, ◌⊎◌, ◌+◌, ◌<◌, ◌≤◌, ℕ, Bool, false, List, Option, Some, IfSome, Result, Ok, Err}
 use Rattle.mq_core.specs.declared.model.Network.{Network}
 use Rattle.mq_edits.specs.Edits.{edits_fault}
@@ -18,7 +18,7 @@ use Rattle.mq_edit.specs.Words.{refuses_words}
 use Rattle.mq_edit.specs.declared.outcome.EditOutcome.{EditOutcome}
 use Rattle.mq_edit.specs.declared.outcome.EditOutcome.TheVariants.{Done, Usage, Model, Trace, Edits, Over, Past, ReadFault, WriteFault, Memory}
 
--- how many files a call reads that ends so; want of memory may come before each read, and behind the last
+-- the number of files that a call with this ending reads; memory may run out before each read, and after the last
 abbrev pub reads_of : EditOutcome → ℕ
 reads_of Usage = 0
 reads_of (Model f) = 1
@@ -31,7 +31,7 @@ reads_of (Past edited f) = 3
 reads_of WriteFault = 3
 reads_of Memory = 0
 
--- how far a call comes with the three names that ends so
+-- how far a call with this ending gets with the three names
 abbrev pub reading_of : EditOutcome → Reading
 reading_of Usage = Through
 reading_of (Model f) = UpTo 1
@@ -44,7 +44,7 @@ reading_of (Past edited f) = Through
 reading_of WriteFault = Through
 reading_of Memory = Anywhere
 
--- how much of the report it has written
+-- how much of the report a call with this ending writes
 abbrev pub writing_of : EditOutcome → Writing
 writing_of Done = Whole
 writing_of WriteFault = Part
@@ -62,48 +62,48 @@ abbrev pub stops_unread : {A : Type 0} → Result A EditOutcome → Bool
 stops_unread (Ok x) = false
 stops_unread (Err outcome) = is_unread (reading_of outcome)
 
--- a read of one of so many files failed, or memory ran out; nothing else can be
+-- a read of one of the first files failed, or memory ran out; nothing else is possible
 abbrev pub Breaks : ℕ → EditOutcome → Type 0
 Breaks files (ReadFault file) = file < files
 Breaks files Memory = Unit {0}
 Breaks _ _ = ⊥
 
--- the call ends with the answer, or with a fault of a device or want of memory on the way to it
+-- the call ends with the answer, or before it with a device fault or for lack of memory
 abbrev pub Ends : Answer → EditOutcome → Type 0
 Ends (Refused refusal) outcome = (outcome ≡ refusal) ⊎ Breaks (reads_of refusal) outcome
 Ends (Reported text) outcome = (outcome ≡ Done) ⊎ ((outcome ≡ WriteFault) ⊎ Breaks 3 outcome)
 
--- a report is this text
+-- if there is a report, it is this text
 abbrev pub IsText : List ℕ → Answer → Type 0
 IsText text (Refused refusal) = Unit {0}
 IsText text (Reported report) = text ≡ report
 
--- a text is the report that a call with these words gives, as far as the files are told
+-- a text is the report of a call with these words, as far as the contents of the files are known
 abbrev pub IsReportOf : (told : List ℕ → Option (List ℕ)) → List (List ℕ) → List ℕ → Type 0
 IsReportOf told words text = refuses_words words ≡ false → IfSome (answer_of told words) (IsText text)
 
--- how the call may end at the model, where this is told of it: by nothing but Model, Memory and a fault of its read
+-- how the call may end at the model, if this is known of its contents: only by Model, Memory or a fault of its read
 abbrev pub RefusesModel : Option (List ℕ) → EditOutcome → Type 0
 RefusesModel told (Model f) = (f ≢ model.Memory) × IfSome told (λ bytes. model_fault bytes ≡ Some f)
 RefusesModel told (ReadFault file) = file ≡ 0
 RefusesModel told Memory = Unit {0}
 RefusesModel _ _ = ⊥
 
--- at the trace: by nothing but Trace, Memory and a fault of its read
+-- how the call may end at the trace: only by Trace, Memory or a fault of its read
 abbrev pub RefusesTrace : Network → Option (List ℕ) → EditOutcome → Type 0
 RefusesTrace net told (Trace f) = (f ≢ trace.Memory) × IfSome told (λ bytes. trace_fault net bytes ≡ Some f)
 RefusesTrace net told (ReadFault file) = file ≡ 1
 RefusesTrace net told Memory = Unit {0}
 RefusesTrace _ _ _ = ⊥
 
--- at the edits of so many rows: by nothing but Edits, Memory and a fault of their read
+-- how the call may end at the edits of this many rows: only by Edits, Memory or a fault of their read
 abbrev pub RefusesEdits : Network → ℕ → Option (List ℕ) → EditOutcome → Type 0
 RefusesEdits net rows told (Edits f) = (f ≢ edits.Memory) × IfSome told (λ bytes. edits_fault net rows bytes ≡ Some f)
 RefusesEdits net rows told (ReadFault file) = file ≡ 2
 RefusesEdits net rows told Memory = Unit {0}
 RefusesEdits _ _ _ _ = ⊥
 
--- an outcome that comes once all files were accepted: no Usage, Model, Trace, Edits or ReadFault can be
+-- an outcome after all files were accepted: none of Usage, Model, Trace, Edits and ReadFault is possible
 abbrev pub IsOfRun : EditOutcome → Type 0
 IsOfRun Done = Unit {0}
 IsOfRun (Over edited f) = Unit {0}
@@ -112,7 +112,7 @@ IsOfRun WriteFault = Unit {0}
 IsOfRun Memory = Unit {0}
 IsOfRun _ = ⊥
 
--- an outcome that comes once the trace was accepted: no Usage, Model or Trace can be
+-- an outcome after the trace was accepted: none of Usage, Model and Trace is possible
 abbrev pub IsBehindTrace : EditOutcome → Type 0
 IsBehindTrace (Edits f) = f ≢ edits.Memory
 IsBehindTrace (ReadFault file) = file ≡ 2
@@ -123,7 +123,7 @@ IsBehindTrace WriteFault = Unit {0}
 IsBehindTrace Memory = Unit {0}
 IsBehindTrace _ = ⊥
 
--- an outcome that comes once the model was accepted: no Usage or Model can be
+-- an outcome after the model was accepted: neither Usage nor Model is possible
 abbrev pub IsBehindModel : EditOutcome → Type 0
 IsBehindModel (Trace f) = f ≢ trace.Memory
 IsBehindModel (Edits f) = f ≢ edits.Memory

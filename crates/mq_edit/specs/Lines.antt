@@ -30,7 +30,7 @@ abbrev pub which_run : Bool → List ℕ
 which_run true = codes " after the edits"
 which_run false = codes " before the edits"
 
--- the line of an outcome, with the name that it speaks of
+-- the line of an outcome, with the name that belongs in it
 abbrev pub line_text : List ℕ → EditOutcome → List ℕ
 line_text name Done = []
 line_text name Usage = mpedit ++ codes "usage: mpedit MODEL TRACE EDITS" ++ 10 ∷ []
@@ -43,7 +43,7 @@ line_text name (ReadFault file) = mpedit ++ codes "cannot read file " ++ decimal
 line_text name WriteFault = mpedit ++ codes "cannot write the report" ++ 10 ∷ []
 line_text name Memory = mpedit ++ codes "out of memory" ++ 10 ∷ []
 
--- the name that an outcome speaks of: that of a missing column, or of the node that passed the bound or has too many visits
+-- the name in the line of an outcome: that of a missing column, or of the node that passed the bound or has too many visits
 abbrev pub name_of : Network → EditOutcome → List ℕ
 name_of net Done = []
 name_of net Usage = []

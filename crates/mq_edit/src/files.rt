@@ -1,4 +1,4 @@
-// The three files, each read and judged.
+// The three files: each is read and checked.
 ghost use Rattle.std.specs.Prelude.{◌≡◌, ◌≤◌, ◌<◌, false, ◌^◌, [], ◌∷◌, IfErr, IfOk, IfSome, IsErrOf, length, None, Some};
 ghost use Rattle.mq_core.specs.Theorems.{IsReadFor};
 ghost use Rattle.mq_edits.specs.Edited.{AreEditsFor};
@@ -19,19 +19,19 @@ use mq_trace::{TraceFault, read_trace};
 use std::alloc::Global;
 use std::thread::Threads;
 
-// The most bytes that the text of a model may have.
+// The limit of a model's text, in bytes.
 const MODEL_LIMIT: u64 = 65_536;
 
-// The most bytes that the text of a trace may have.
+// The limit of a trace's text, in bytes.
 const TRACE_LIMIT: u64 = 134_217_728;
 
-// The most bytes that the text of edits may have.
+// The limit of a text of edits, in bytes.
 const EDITS_LIMIT: u64 = 16_777_216;
 
-/// How many workers read a trace and work out the runs.
+/// The number of workers that read a trace and compute the runs.
 pub const WORKERS: u32 = 4;
 
-// Reads the file of this name.
+// Reads the file of this name, up to a limit in bytes.
 fn read_named<F: Files>(
     alloc: Global,
     name: &str,
@@ -52,7 +52,7 @@ fn read_named<F: Files>(
     }
 }
 
-// Judges the bytes of a model.
+// Checks the bytes of a model.
 fn judge_model(alloc: Global, bytes: &[u8]) -> Result<Plan, EditOutcome>
     ensures accepted { IfOk result (λ plan. (model_fault bytes.now ≡ None) × (plan.net ≡ network_in bytes.now)) }
     ensures refused { IfErr result (λ outcome. RefusesModel (Some bytes.now) outcome) }
@@ -65,7 +65,7 @@ fn judge_model(alloc: Global, bytes: &[u8]) -> Result<Plan, EditOutcome>
     }
 }
 
-// Judges the bytes of a trace for the network of a plan.
+// Checks the bytes of a trace for the network of a plan.
 fn judge_trace<R: Threads + Sync>(
     rt: &R,
     alloc: Global,
@@ -84,7 +84,7 @@ fn judge_trace<R: Threads + Sync>(
     }
 }
 
-// Judges the bytes of edits for the network of a plan and so many rows.
+// Checks the bytes of edits for the network of a plan and this number of rows.
 fn judge_edits(
     alloc: Global,
     plan: &Plan,
@@ -104,7 +104,7 @@ fn judge_edits(
     }
 }
 
-/// Reads the model of this name, and judges it.
+/// Reads and checks the model of this name. Fails with the outcome of the call.
 pub fn accept_model<F: Files>(alloc: Global, name: &str, files: &mut F) -> Result<Plan, EditOutcome>
     ensures reads { ReadsNames F.told F.is_sure F.reads F.faults files.old files.new (name.now ∷ []) (stops_unread result) }
     ensures accepted { IfOk result (λ plan. IfSome (F.told files.old name.now) (λ bytes. (model_fault bytes ≡ None) × (plan.net ≡ network_in bytes))) }
@@ -118,7 +118,7 @@ pub fn accept_model<F: Files>(alloc: Global, name: &str, files: &mut F) -> Resul
     }
 }
 
-/// Reads the trace of this name, and judges it for the network of a plan.
+/// Reads the trace of this name, and checks it for the network of a plan. Fails with the outcome of the call.
 pub fn accept_trace<R: Threads + Sync, F: Files>(
     rt: &R,
     alloc: Global,
@@ -139,7 +139,8 @@ pub fn accept_trace<R: Threads + Sync, F: Files>(
     }
 }
 
-/// Reads the edits of this name, and judges them for the network of a plan and so many rows.
+/// Reads the edits of this name, and checks them for the network of a plan and this number of rows, at most 1,048,576.
+/// Fails with the outcome of the call.
 pub fn accept_edits<F: Files>(
     alloc: Global,
     plan: &Plan,

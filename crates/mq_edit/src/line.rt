@@ -15,8 +15,8 @@ use mq_outside::{Piece, Sink};
 // How the lines of the program begin.
 const MPEDIT: &[u8] = b"mpedit: ";
 
-/// The name that an outcome speaks of: that of a missing column, or of the node that passed the bound or has too many
-/// visits.
+/// Returns the name in the line of an outcome: that of a missing column, or of the node that passed the bound or has
+/// too many visits; empty for other outcomes.
 pub fn name_of<'a>(net: &'a Network, outcome: &EditOutcome) -> &'a [u8]
     ensures { result.now ≡ name_of_outcome net.now outcome.now }
 {
@@ -75,7 +75,7 @@ fn put_unread<E: Sink>(err: &mut E, file: u8)
     );
 }
 
-/// Puts the line of an outcome, with the name that it speaks of; after `Done` nothing. A fault of the error output
+/// Puts the line of an outcome, with the name that belongs in it; nothing after `Done`. A fault of the error output
 /// changes nothing.
 pub fn put_line<E: Sink>(err: &mut E, name: &[u8], outcome: &EditOutcome)
     ensures { PutsLine E.taken E.sure E.faults err.old err.new (line_text name.now outcome.now) }

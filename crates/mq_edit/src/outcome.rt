@@ -12,31 +12,31 @@ use mq_trace::TraceFault;
 pub enum EditOutcome {
     /// The whole report was written.
     Done,
-    /// There aren't three words, or one begins with a dash.
+    /// There aren't exactly three words, or one begins with a dash.
     Usage,
-    /// The model is refused; never with its want of memory.
+    /// The model is refused. The fault is never `Memory`.
     Model(ModelFault),
-    /// The trace is refused; never with its want of memory.
+    /// The trace is refused. The fault is never `Memory`.
     Trace(TraceFault),
-    /// The edits are refused; never with their want of memory.
+    /// The edits are refused. The fault is never `Memory`.
     Edits(EditFault),
-    /// A node has more visits than the 1,048,576 that it may have: which one, and how many, and whether in the run of
-    /// the edited trace.
+    /// A node has more than 1,048,576 visits: which node, and how many visits. `edited` says whether in the run of the
+    /// edited trace.
     Over { edited: bool, fault: OverFault },
-    /// A visit departs after the model's bound: at which node, at which position among the visits to it, and at which
-    /// tick, and whether in the run of the edited trace.
+    /// A visit departs after the model's bound: at which node, at which position among its visits, and at which tick.
+    /// `edited` says whether in the run of the edited trace.
     Past { edited: bool, fault: PastFault },
-    /// A file can't be read: the model, 0, the trace, 1, or the edits, 2.
+    /// A file can't be read: the model (0), the trace (1) or the edits (2).
     ReadFault { file: u8 },
-    /// The report can't be written; a first part of it was, which may be empty.
+    /// The report can't be written. A first part of it was, which may be empty.
     WriteFault,
     /// Memory ran out, before the first byte was written.
     Memory,
 }
 
 impl EditOutcome {
-    /// The status with which the program ends: that of the program `mpsim` for an outcome that it has too, and 10 after
-    /// `Edits`.
+    /// Returns the status with which the program ends: that of `mpsim` for an outcome that `mpsim` has too, and 10
+    /// after `Edits`.
     pub fn status(&self) -> u8
         ensures { result ≡ status_of self.now }
     {

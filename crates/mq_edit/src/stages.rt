@@ -37,10 +37,10 @@ use std::marker::Brand;
 use std::sync::ledger::{Blank, Ledger};
 use std::thread::Threads;
 
-// How many jobs are a block.
+// The number of jobs in a block.
 const BLOCK: u32 = 4096;
 
-// How a call ends whose run is refused, before the edits or after them.
+// Returns how a call ends whose run is refused, before or after the edits.
 fn refused_run(edited: bool, fault: RunFault) -> EditOutcome
     ensures { result ≡ refused_by edited fault }
 {
@@ -51,7 +51,7 @@ fn refused_run(edited: bool, fault: RunFault) -> EditOutcome
     }
 }
 
-// Makes edits in a kept run, whose steps are counted by a counter of their own.
+// Makes edits in a kept run, whose steps a new counter counts.
 fn edit_kept<R: Threads + Sync, L: Ledger>(
     rt: &R,
     alloc: Global,
@@ -157,16 +157,18 @@ fn run_edits<R: Threads + Sync, F: Files, O: Sink>(
     }
 }
 
-/// Reads the model, the trace and the edits that the three words name, in this order, keeps the run of the network over
-/// the trace, makes the edits, and writes the report of the edited trace, of form 2 and without the lines of the jobs,
-/// and behind it a line of two numbers: how many blocks of 4,096 jobs come from the first difference on, of the nodes
-/// that are counted, and how many these nodes have. The words are those behind the program's name. There are 4 workers.
+/// Reads the model, the trace and the edits that the three words name, in this order. Runs the network over the trace,
+/// makes the edits in that kept run, and writes the report of the edited trace, in form 2 and without job lines. The
+/// last line has two numbers: of the nodes whose blocks are counted, the blocks of 4,096 jobs from the first difference
+/// on, and all blocks. The words are those after the program's name. There are 4 workers.
 ///
-/// A call ends with the first of these: `Usage`, the model's fault, the trace's, that of the edits, the refusal of the
-/// run over the trace, and that of the run over the edited trace; or a file can't be read, before it is judged.
+/// The call ends with the first of these: `Usage`; the model's fault, the trace's, that of the edits; the refusal of
+/// the run over the trace, then of the run over the edited trace. A file that can't be read ends it before that file is
+/// checked, and it also ends if memory runs out or the report can't be written.
 ///
-/// Every outcome but `Done` puts one line on `err`, whose faults change no outcome. All memory is taken before the first
-/// byte is written; `out` gains the whole text with `Done`, a first part of it with `WriteFault`, and else nothing.
+/// Every outcome but `Done` puts one line on `err`, whose faults change no outcome. `out` gains the whole text with
+/// `Done`, a first part of it with `WriteFault`, and nothing otherwise, so memory can run out only before the first
+/// byte is written.
 pub fn edit_trace<R: Threads + Sync, F: Files, O: Sink, E: Sink>(
     rt: &R,
     alloc: Global,
@@ -175,17 +177,20 @@ pub fn edit_trace<R: Threads + Sync, F: Files, O: Sink, E: Sink>(
     out: &mut O,
     err: &mut E,
 ) -> EditOutcome
-    // The call ends with the answer of the definitions, as far as the files are told, or with a fault of a device or want of memory.
+    // The call ends with the answer of the definitions, as far as the contents of the files are known, or with a device
+    // fault or for lack of memory.
     ensures ends { refuses_words (texts words.now) ≡ false → IfSome (answer_of (F.told files.old) (texts words.now)) (λ answer. Ends answer result) }
 
-    // The words are refused exactly so; a fault of the model or the trace is theirs, whatever is told of the files behind it.
+    // `Usage` comes exactly if the words are refused. A fault of the model or of the trace is theirs, whatever is known
+    // of later files.
     ensures usage { (result ≡ EditOutcome.Usage) ↔ (refuses_words (texts words.now) ≡ true) }
     ensures model { (fault : ModelFault) → result ≡ EditOutcome.Model fault → IfSome (F.told files.old (name_at (texts words.now) 0)) (λ bytes. model_fault bytes ≡ Some fault) }
     ensures trace { (fault : TraceFault) → result ≡ EditOutcome.Trace fault → IfSome (F.told files.old (name_at (texts words.now) 0)) (λ model.
         IfSome (F.told files.old (name_at (texts words.now) 1)) (λ bytes. trace_fault (network_in model) bytes ≡ Some fault)) }
     ensures never { (result ≢ EditOutcome.Model ModelFault.Memory) × (result ≢ EditOutcome.Trace TraceFault.Memory) × (result ≢ EditOutcome.Edits EditFault.Memory) }
 
-    // What is read of the files, in their order, and what the two outputs gain. A fault of a device is counted, and a counted fault is answered.
+    // What is read of the files, in order, and what the two outputs gain. A fault of a file or of `out` is counted if and
+    // only if the call ends with it.
     ensures reads { ReadsFirst F.told F.is_sure F.reads F.faults files.old files.new (names_read (texts words.now)) (reading_of result) }
     ensures writes { Writes O.taken O.sure O.faults out.old out.new (writing_of result) (IsReportOf (F.told files.old) (texts words.now)) }
     ensures line { (name : List ℕ) × PutsLine E.taken E.sure E.faults err.old err.new (line_text name result) ×

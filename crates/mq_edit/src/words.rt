@@ -1,11 +1,11 @@
-// The words behind the program's name.
+// The words after the program's name.
 ghost use Rattle.std.specs.Prelude.{◌≡◌};
 ghost use Rattle.mq_base.specs.Text.{texts};
 ghost use Rattle.mq_edit.specs.Words.{refuses_words};
 
 use mq_base::any_begins_with_dash;
 
-/// Whether these words are refused: there aren't three, or one begins with a dash.
+/// Returns whether these words are refused: there aren't exactly three, or one begins with a dash.
 pub fn refuses_words(words: &[&str]) -> bool
     ensures { result ≡ refuses_words (texts words.now) }
 {

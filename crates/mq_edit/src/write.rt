@@ -22,7 +22,7 @@ use mq_stats::runs_have_few_visits;
 use std::alloc::Global;
 use std::thread::Threads;
 
-// Puts the last line: how many blocks come from the first differences on, and how many there are.
+// Puts the last line: the number of blocks from the first differences on, and of all blocks.
 fn put_again<O: Sink>(out: &mut O, redone: Redone) -> Result<(), SinkFault>
     ensures ok { OnOk result (TakesFirst (O.taken out.old) (O.taken out.new) (O.sure out.old) (O.sure out.new) (again_line redone.again redone.all) (length (again_line redone.again redone.all))) }
     ensures err { OnErr result (TakesPrefix (O.taken out.old) (O.taken out.new) (O.sure out.old) (O.sure out.new) (again_line redone.again redone.all)) }
@@ -46,7 +46,7 @@ fn put_again<O: Sink>(out: &mut O, redone: Redone) -> Result<(), SinkFault>
     flush(out, &mut pending)
 }
 
-// Puts the report of a run, of form 2 and without the lines of the jobs, and behind it the line of blocks.
+// Puts the report of a run, in form 2 and without job lines, and then the line of blocks.
 fn put_report<O: Sink>(
     plan: &Plan,
     rows: &Rows,
@@ -68,7 +68,7 @@ fn put_report<O: Sink>(
     put_again(out, redone)
 }
 
-/// Writes the report of a kept run, and behind it the line of blocks.
+/// Writes the report of a kept run, in form 2 and without job lines, and then the line of blocks.
 pub fn write_kept<R: Threads + Sync, O: Sink>(
     rt: &R,
     alloc: Global,

@@ -1,4 +1,4 @@
--- What edits make of the rows of a trace.
+-- What edits make from the rows of a trace.
 use Rattle.std.specs.Prelude.{◌≡◌, ◌≤◌, ◌<◌, ◌+◌, ◌^◌, ◌∷◌, ◌++◌, [], ℕ, All, IsTrue, List, Some, fold, get_or, length, map, set, slice_get}
 use Rattle.std.specs.List.{enumerate_from}
 use Rattle.mq_core.specs.Theorems.{IsReadFor}
@@ -8,7 +8,7 @@ use Rattle.mq_core.specs.declared.model.Rows.{Rows}
 use Rattle.mq_edits.specs.declared.edit.Edit.{Edit}
 use Rattle.mq_edits.specs.declared.edit.Edit.TheVariants.{Set, Add}
 
--- What the row has that an edit gives: its source node, its values, and its numbers, of which the first is its time and those behind it are its values.
+-- What an edit says of its row: the source node, the values, and the numbers, which are the time followed by the values.
 abbrev pub source_of : Edit → ℕ
 source_of (Set row source time values) = source
 source_of (Add source time values) = source
@@ -24,7 +24,7 @@ time_of (Add source time values) = time
 abbrev pub number_of : ℕ → Edit → ℕ
 number_of place edit = get_or (time_of edit ∷ values_of edit) place 0
 
--- An edit puts this of its row into a list that has one item a row: in the place of the row that it sets, or behind all.
+-- an edit puts this item of its row into a list with one item per row: in place of the row that it sets, or at the end
 abbrev pub edited_by : (Edit → ℕ) → List ℕ → Edit → List ℕ
 edited_by item items (Set row source time values) = set items row (item (Set row source time values))
 edited_by item items (Add source time values) = items ++ item (Add source time values) ∷ []
@@ -33,11 +33,11 @@ edited_by item items (Add source time values) = items ++ item (Add source time v
 abbrev pub edited_list : (Edit → ℕ) → List ℕ → List Edit → List ℕ
 edited_list item items edits = fold (edited_by item) items edits
 
--- the columns after edits, the first of which is at this place
+-- the columns after edits, if the first column is at this place
 abbrev pub edited_columns : ℕ → List (List ℕ) → List Edit → List (List ℕ)
 edited_columns place columns edits = map (λ (at, column). edited_list (number_of at) column edits) (enumerate_from place columns)
 
--- the rows that edits make of rows, list by list
+-- the rows that edits make, list by list
 abbrev pub edited_rows : Rows → List Edit → Rows
 edited_rows rows edits = record {
   source = edited_list source_of rows.source edits;
@@ -45,17 +45,17 @@ edited_rows rows edits = record {
   demands = edited_columns 1 rows.demands edits;
 }
 
--- how many rows there are after an edit
+-- the number of rows after an edit
 abbrev pub rows_after : ℕ → Edit → ℕ
 rows_after rows (Set row source time values) = rows
 rows_after rows (Add source time values) = rows + 1
 
--- an edit of so many rows names one of them, or adds one where there may be one more
+-- an edit of this many rows sets one of them, or adds one if another is allowed
 abbrev pub HasPlace : ℕ → Edit → Type 0
 HasPlace rows (Set row source time values) = row < rows
 HasPlace rows (Add source time values) = rows < 1048576
 
--- the edits of a list name rows that there are, or add them, each for those that the edits before it leave
+-- each edit of a list sets an existing row or adds one, given the rows after the edits before it
 unfoldable pub AreInPlace : ℕ → List Edit → Type 0
 AreInPlace rows [] = Unit {0}
 AreInPlace rows (edit ∷ edits) = HasPlace rows edit × AreInPlace (rows_after rows edit) edits
@@ -64,7 +64,8 @@ AreInPlace rows (edit ∷ edits) = HasPlace rows edit × AreInPlace (rows_after 
 abbrev pub HaveNumbers : ℕ → List Edit → Type 0
 HaveNumbers place edits = (k : ℕ) (edit : Edit) → slice_get edits k ≡ Some edit → place ≤ length (values_of edit)
 
--- an edit is read for a network and for so many rows: the row that it gives has a source node, a time and one value a column, in their limits
+-- an edit is read for a network and this many rows: its row has a source node, a time, and one value per column, within their
+-- limits
 pub record IsEditFor (net : Network) (rows : ℕ) (edit : Edit) : Type 0 where
   pub place : HasPlace rows edit
   pub source : IsTrue (is_source (slice_get net.nodes (source_of edit)))
@@ -72,12 +73,12 @@ pub record IsEditFor (net : Network) (rows : ℕ) (edit : Edit) : Type 0 where
   pub each : length (values_of edit) ≡ length net.columns
   pub small : All (λ value. value ≤ 2 ^ 36) (values_of edit)
 
--- edits are read for a network and for so many rows, each for those that the edits before it leave
+-- edits are read for a network and this many rows, each for the rows after the edits before it
 unfoldable pub AreEditsFor : Network → ℕ → List Edit → Type 0
 AreEditsFor net rows [] = Unit {0}
 AreEditsFor net rows (edit ∷ edits) = IsEditFor net rows edit × AreEditsFor net (rows_after rows edit) edits
 
--- rows that are read for a network are so after edits that are read for it and for as many rows
+-- rows that are read for a network are read for it also after edits that are read for that network and those rows
 abbrev pub EditedRowsAreRead : Type 0
 EditedRowsAreRead =
     (net : Network) (rows : Rows) (edits : List Edit) → IsReadFor net rows → AreEditsFor net (length rows.source) edits → IsReadFor net (edited_rows rows edits)

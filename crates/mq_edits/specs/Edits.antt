@@ -25,23 +25,24 @@ is_set word = bytes_eq word (codes "set")
 abbrev pub is_add : Word → Bool
 is_add word = bytes_eq word (codes "add")
 
--- the fault of a line that has more or fewer words than it should: at the first of those too many, or behind the last
+-- the fault of a line whose number of words isn't the wanted one: at the first word too many, or after the last word
 abbrev pub count_fault : ℕ → ℕ → ℕ → Option EditFault
 count_fault line wanted count = if count == wanted then None else Some (BadLine line (min wanted count + 1))
 
--- of these words, which have numbers in their line from here on, the first fault of one that is no value
+-- the first fault of words that should be values; `number` is the number of the first of them in its line
 unfoldable pub value_fault : ℕ → ℕ → List Word → Option EditFault
 value_fault line number [] = None
 value_fault line number (word ∷ words) = if is_number word (2 ^ 36) then value_fault line (number + 1) words else Some (BadNumber line number)
 
--- the first fault of the words of a row, which are its source, its time and its values and have numbers in their line from here on
+-- the first fault of the words of a row, which are its source, its time and its values; `number` is the number of the first of
+-- them in its line
 abbrev pub row_fault : Network → ℕ → ℕ → List Word → Option EditFault
 row_fault net line number words =
     if is_none (source_named net (word_at words 0)) then Some (UnknownSource line)
     else if is_number (word_at words 1) (2 ^ 60) then value_fault line (number + 2) (drop 2 words)
     else Some (BadNumber line (number + 1))
 
--- a word is the number of one of so many data records, from 1
+-- a word is the number of a data record, from 1, if there are this many
 abbrev pub is_record : ℕ → Word → Bool
 is_record rows word = is_number word rows && nat_lt 0 (digits_value 10 word)
 
@@ -49,19 +50,19 @@ is_record rows word = is_number word rows && nat_lt 0 (digits_value 10 word)
 abbrev pub record_named : ℕ → Word → Option ℕ
 record_named rows word = if is_record rows word then Some (digits_value 10 word - 1) else None
 
--- the first fault of what stands behind `set` in a line, where there are so many data records so far
+-- the first fault of the words after `set` in a line, if there are this many data records so far
 abbrev pub set_fault : Network → ℕ → ℕ → List Word → Option EditFault
 set_fault net rows line words =
     option_or (count_fault line (length net.columns + 4) (length words + 1))
     (if is_record rows (word_at words 0) then row_fault net line 3 (drop 1 words) else Some (UnknownRow line))
 
--- the first fault of what stands behind `add`
+-- the first fault of the words after `add` in a line
 abbrev pub add_fault : Network → ℕ → ℕ → List Word → Option EditFault
 add_fault net rows line words =
     option_or (count_fault line (length net.columns + 3) (length words + 1))
     (if nat_lt rows 1048576 then row_fault net line 2 words else Some (TooManyRows line))
 
--- the first fault of the words of a line, which are none in an empty line
+-- the first fault of the words of a line; an empty line has no words
 abbrev pub words_fault : Network → ℕ → ℕ → List Word → Option EditFault
 words_fault net rows line [] = None
 words_fault net rows line (word ∷ words) =
@@ -69,18 +70,18 @@ words_fault net rows line (word ∷ words) =
     else if is_add word then add_fault net rows line words
     else Some (BadLine line 1)
 
--- how many data records a line adds
+-- the number of data records that a line adds
 abbrev pub rows_added : List Word → ℕ
 rows_added [] = 0
 rows_added (word ∷ words) = if is_add word then 1 else 0
 
--- the first fault of lines, whose numbers begin here, where there are so many data records before them
+-- the first fault of lines, given the number of the first line and the number of data records before it
 unfoldable pub lines_fault : Network → ℕ → ℕ → List (List ℕ) → Option EditFault
 lines_fault net rows number [] = None
 lines_fault net rows number (line ∷ lines) =
     option_or (words_fault net rows number (words_of line)) (lines_fault net (rows + rows_added (words_of line)) (number + 1) lines)
 
--- the first fault of a text for a network and a trace of so many data records, if it has one
+-- the first fault of a text, if it has one, for a network and a trace of this many data records
 abbrev pub edits_fault : Network → ℕ → List ℕ → Option EditFault
 edits_fault net rows text = if nat_lt 16777216 (length text) then Some TooLong else lines_fault net rows 1 (lines_of (without_mark text))
 

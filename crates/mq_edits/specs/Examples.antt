@@ -1,4 +1,4 @@
--- Texts of edits, each for a trace of so many data records, with its first fault, and edits that texts declare.
+-- Texts of edits, each for a trace of the given number of data records, with its first fault; and edits that texts declare.
 use Rattle.std.specs.Prelude.{◌≡◌, ◌^◌, ◌∷◌, [], ℕ, List, Option, Some, None, codes}
 use Rattle.mq_core.specs.declared.model.Demand.TheVariants.{Column}
 use Rattle.mq_core.specs.declared.model.Kind.TheVariants.{Server, Source}
@@ -10,7 +10,7 @@ use Rattle.mq_edits.specs.declared.edit.Edit.TheVariants.{Set, Add}
 use Rattle.mq_edits.specs.declared.fault.EditFault.{EditFault}
 use Rattle.mq_edits.specs.declared.fault.EditFault.TheVariants.{BadLine, TooManyRows, UnknownRow, UnknownSource, BadNumber}
 
--- a source and a server behind it, whose demand is a column
+-- a source, and after it a server whose demand is a column
 abbrev pub desk : Network
 desk = record {
   nodes = record { name = codes "src"; kind = Source; inputs = [] } ∷ record { name = codes "desk"; kind = Server (Column 0); inputs = record { node = 0; out = 0 } ∷ [] } ∷ [];
@@ -61,7 +61,7 @@ examples =
 abbrev pub two_edits : List ℕ
 two_edits = codes "add src 3 2\nset 4 src 5 6\n"
 
--- what they make of three rows
+-- what these edits make from three rows
 abbrev pub three_rows : Rows
 three_rows = record { source = 0 ∷ 0 ∷ 0 ∷ []; time = 0 ∷ 1 ∷ 2 ∷ []; demands = (4 ∷ 1 ∷ 3 ∷ []) ∷ [] }
 

@@ -1,4 +1,4 @@
--- The rows of before edits, by what the edits left of them and the former rows from one on.
+-- The rows of before edits, given what the edits left of them and the former rows from one on.
 use Rattle.std.specs.Prelude.{◌≡◌, ◌≤◌, ◌+◌, ◌∷◌, ◌++◌, [], ℕ, List, fold, length, min, take}
 use Rattle.std.specs.List.{AllZip}
 use Rattle.mq_core.specs.declared.model.Rows.{Rows}
@@ -7,11 +7,11 @@ use Rattle.mq_edits.specs.declared.edit.Edit.{Edit}
 use Rattle.mq_edits.specs.declared.edit.Edit.TheVariants.{Set, Add}
 use Rattle.mq_edits.specs.declared.former.FormerRows.{FormerRows}
 
--- a list of before: the items below an index as they are now, and behind them the former ones
+-- a list of before: the items below an index as they are now, followed by the former ones
 abbrev pub list_before : ℕ → List ℕ → List ℕ → List ℕ
 list_before from former items = take from items ++ former
 
--- so of each column
+-- each column of before
 abbrev pub columns_before : ℕ → List (List ℕ) → List (List ℕ) → List (List ℕ)
 columns_before from [] columns = []
 columns_before from (former ∷ formers) [] = []
@@ -35,21 +35,21 @@ pub record IsFormerOf (former : FormerRows) (rows : Rows) : Type 0 where
   pub times : HasRoom former.from former.rows.time rows.time
   pub columns : AllZip (HasRoom former.from) former.rows.demands rows.demands
 
--- the first row that is set, with an edit more
+-- the first row that is set, with another edit
 abbrev pub sooner : ℕ → Edit → ℕ
 sooner first (Set row source time values) = min first row
 sooner first (Add source time values) = first
 
--- the first of so many rows that edits set, or how many there are where none of them is set
+-- the first row that edits set, or the number of rows if none of them is set
 abbrev pub first_set : ℕ → List Edit → ℕ
 first_set rows edits = fold sooner rows edits
 
--- a list that changes from an index on alone, and becomes no shorter
+-- a list that changes only from an index on, and becomes no shorter
 pub record StaysUpTo (from : ℕ) (old new : List ℕ) : Type 0 where
   pub front : take from new ≡ take from old
   pub long : length old ≤ length new
 
--- edits of a list name rows that there are, of at most so many as there may be, and set none below an index
+-- edits of a list of at most 1,048,576 rows set or add rows as they may, and set none below an index
 pub record CanEdit (from : ℕ) (edits : List Edit) (items : List ℕ) : Type 0 where
   pub few : length items ≤ 1048576
   pub places : AreInPlace (length items) edits

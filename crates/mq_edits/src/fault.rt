@@ -3,24 +3,24 @@
 use mq_base::OutOfMemory;
 use std::alloc::{AllocError, AllocFailed};
 
-/// The first fault of a text of edits, or want of memory. A `line` is the number of a line and a `word` the number of a
+/// The first fault of a text of edits, or out of memory. `line` is the number of the line and `word` the number of the
 /// word in its line, both from 1.
 #[derive(Clone, Copy, PartialEq, Eq)]
 pub enum EditFault {
     /// The text has more than 16,777,216 bytes.
     TooLong,
-    /// The line begins with neither `set` nor `add`; or this is the first word that it has too many, or, behind its
-    /// last, that it lacks.
+    /// The line begins with neither `set` nor `add`; or this is the first word too many, or the place after the last
+    /// word if one is missing.
     BadLine { line: u32, word: u32 },
-    /// The line adds a data record to 1,048,576.
+    /// The line adds a data record to 1,048,576 of them.
     TooManyRows { line: u32 },
-    /// The line sets a data record that there isn't so far.
+    /// The line sets a data record that doesn't exist so far.
     UnknownRow { line: u32 },
     /// The line names no source node.
     UnknownSource { line: u32 },
-    /// This is the least word that should be a time or a value in its range and isn't.
+    /// This is the first word that should be a time or a value in its range and isn't.
     BadNumber { line: u32, word: u32 },
-    /// Memory ran out, at whatever point.
+    /// Memory ran out, at any point.
     Memory,
 }
 

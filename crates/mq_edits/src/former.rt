@@ -1,4 +1,4 @@
-// The rows that edits change, as they were before.
+// The rows from the first that edits set on, as they were before.
 ghost use Rattle.std.specs.Prelude.{◌≡◌};
 ghost use Rattle.std.specs.List.{AllZip};
 ghost use Rattle.mq_edits.specs.Former.{HasRoom, IsFormerOf, columns_before, first_set, rows_before};
@@ -9,17 +9,17 @@ use mq_core::Rows;
 use std::alloc::Global;
 use std::mem::replace;
 
-/// The rows from one on, as they were before edits that set none of those before it.
+/// The rows from one on, as they were before edits that set no earlier row.
 #[derive(Drop)]
 pub struct FormerRows {
     /// The first of these rows, from 0.
     pub from: u32,
-    /// This row and those behind it.
+    /// This row and all after it.
     pub rows: Rows,
 }
 
 impl FormerRows {
-    /// Makes of the rows after the edits those of before. It takes no memory.
+    /// Restores the rows of before the edits from those after them. Takes no memory.
     pub fn put_back(&self, alloc: Global, rows: &mut Rows)
         requires { IsFormerOf self.now rows.old }
         ensures { rows.new ≡ rows_before self.now rows.old }
@@ -33,7 +33,7 @@ impl FormerRows {
     }
 }
 
-// Puts the former values of each column in the place of those from an index on.
+// Replaces each column from an index on by its former values.
 fn put_columns_back(columns: &mut Vec<List<u64>>, former: &List<List<u64>>, from: usize)
     requires { AllZip (HasRoom from) former.now columns.old.items }
     ensures { columns.new.items ≡ columns_before from former.now columns.old.items }
@@ -43,7 +43,7 @@ fn put_columns_back(columns: &mut Vec<List<u64>>, former: &List<List<u64>>, from
     }
 }
 
-/// The first of so many rows that edits set, or how many there are where they set none of them.
+/// Returns the first row that edits set, if it is below `rows`, and `rows` otherwise.
 pub fn first_set(rows: u32, edits: &[Edit]) -> u32
     ensures { result ≡ first_set rows edits.now }
 {

@@ -1,7 +1,8 @@
-//! Edits of a trace: their text, and the rows that they make of those of the trace.
+//! Edits of a trace: their text, and the rows that they make from those of the trace.
 #![tactic(auto)]
 
-// Where a call of `drop` lets go of what is left, that spares proof: a call is proved once for a type, the end of a scope anew at each exit.
+// A call of `drop` that releases what is left makes proofs cheaper: a call is proved once per type, the end of a scope
+// again at each exit.
 
 mod edit;
 mod fault;

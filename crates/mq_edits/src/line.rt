@@ -12,7 +12,7 @@ use mq_core::Network;
 use mq_trace::find_source;
 use std::alloc::Global;
 
-// What the words of a row say.
+// The content of the words of a row.
 #[derive(Drop)]
 struct Row {
     source: u32,
@@ -20,7 +20,7 @@ struct Row {
     values: List<u64>,
 }
 
-// Answers the fault of a line that has more or fewer words than it should.
+// Fails with the fault of a line whose number of words isn't `wanted`.
 fn check_count(line: u32, wanted: usize, count: usize) -> Result<(), EditFault>
     requires { wanted ≤ 20 }
     ensures ok { IfOk result (λ _. count ≡ wanted) }
@@ -35,7 +35,7 @@ fn check_count(line: u32, wanted: usize, count: usize) -> Result<(), EditFault>
     Ok(())
 }
 
-// Reads the values of a row, whose words have numbers in their line from here on.
+// Reads the values of a row. `number` is the number of the first of these words in its line.
 fn read_values(
     alloc: Global,
     words: &[&[u8]],
@@ -61,7 +61,8 @@ fn read_values(
     Ok(values)
 }
 
-// Reads the words of a row, which have numbers in their line from here on: its source, its time and its values.
+// Reads the words of a row: its source, its time and its values. `number` is the number of the first of these words in
+// its line.
 fn read_row(
     alloc: Global,
     words: &[&[u8]],
@@ -93,7 +94,7 @@ fn read_row(
     })
 }
 
-// The row, from 0, of the data record whose number a word is, where there are so many.
+// Returns the row, from 0, of the data record whose number the word is, if it is from 1 to `rows`.
 fn record_named(word: &[u8], rows: u32) -> Option<u32>
     ensures { result ≡ record_named rows word.now }
 {
@@ -103,7 +104,7 @@ fn record_named(word: &[u8], rows: u32) -> Option<u32>
     }
 }
 
-// Reads what stands behind `set`.
+// Reads the words after `set`.
 fn read_set(
     alloc: Global,
     words: &[&[u8]],
@@ -133,7 +134,7 @@ fn read_set(
     })
 }
 
-// Reads what stands behind `add`.
+// Reads the words after `add`.
 fn read_add(
     alloc: Global,
     words: &[&[u8]],
@@ -162,7 +163,7 @@ fn read_add(
     })
 }
 
-/// Reads the words of a line that has some, where there are so many data records so far.
+/// Reads the words of a line, at least one, if there are `rows` data records so far.
 pub fn read_words(
     alloc: Global,
     words: &[&[u8]],

@@ -12,14 +12,14 @@ use mq_core::Network;
 use mq_model::{split_words, without_mark};
 use std::alloc::Global;
 
-// The edits of the lines so far, and how many data records there are behind them.
+// The edits of the lines so far, and the number of data records after them.
 #[derive(Drop)]
 struct Front {
     edits: List<Edit>,
     rows: u32,
 }
 
-// How many data records there are behind an edit.
+// Returns the number of data records after an edit.
 fn rows_after(rows: u32, edit: &Edit) -> u32
     requires { HasPlace rows edit.now }
     ensures { result ≡ rows_after rows edit.now }
@@ -30,7 +30,7 @@ fn rows_after(rows: u32, edit: &Edit) -> u32
     }
 }
 
-// Reads one line more.
+// Reads another line.
 fn read_line(
     alloc: Global,
     line: &[u8],
@@ -75,15 +75,16 @@ fn read_lines(alloc: Global, text: &[u8], net: &Network, front: &mut Front) -> R
     Ok(())
 }
 
-/// Reads a text of edits of at most 16,777,216 bytes, for the network of a plan and a trace of so many data records, at
+/// Reads a text of edits of at most 16,777,216 bytes, for the network of a plan and a trace of `rows` data records, at
 /// most 1,048,576. Lines and words are those of a model; there are no comments.
 ///
-/// `set R SOURCE TIME` and a value for each column of the model puts another data record in the place of record R, from
-/// 1, which may be one that an earlier line added. `add SOURCE TIME` and the values is a data record more. A time is at
-/// most 2^60 ticks and a value at most 2^36.
+/// `set R SOURCE TIME` and a value for each column of the model replaces record R, from 1, which an earlier line may
+/// have added. `add SOURCE TIME` and the values appends a data record. A time is at most 2^60 ticks and a value at most
+/// 2^36.
 ///
-/// A text is refused for its first fault: its length, or the first faulty line, and in it the number of its words, then
-/// its record, its source, its time and its values. The edits that it gives are read for the network and the trace.
+/// A text is refused for its first fault: its length, or the first faulty line; in a line the checks are its first
+/// word, the number of its words, its record, or for `add` the number of records, its source, its time and its values.
+/// The edits returned are read for the network and the trace.
 pub fn read_edits(
     alloc: Global,
     bytes: &[u8],

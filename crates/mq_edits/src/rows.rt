@@ -1,4 +1,4 @@
-// The rows that edits make of those of a trace.
+// The rows that edits make from those of a trace.
 ghost use Rattle.std.specs.Prelude.{◌≡◌, ◌≤◌, ℕ, IfOk, List as Items, OnErr, OnOk, Some, drop as behind, length, map, slice_get};
 ghost use Rattle.std.specs.List.{AllZip};
 ghost use Rattle.mq_core.specs.Theorems.{IsReadFor};
@@ -13,7 +13,7 @@ use mq_core::Rows;
 use std::alloc::Global;
 use std::mem::replace;
 
-// A list of these items, with room for those that edits may add.
+// Returns a list of these items, with room for those that `edits` edits may add.
 fn copied<T: Copy + Drop>(alloc: Global, items: &[T], edits: usize) -> Result<Vec<T>, OutOfMemory>
     requires { length items.now ≤ 1048576 }
     ensures { IfOk result (λ v. v.items ≡ items.now) }
@@ -24,7 +24,7 @@ fn copied<T: Copy + Drop>(alloc: Global, items: &[T], edits: usize) -> Result<Ve
     Ok(copy)
 }
 
-// The columns from a row on, with room for what edits may add.
+// Returns the columns from a row on, with room for what `edits` edits may add.
 fn copied_columns(
     alloc: Global,
     columns: &[List<u64>],
@@ -41,7 +41,7 @@ fn copied_columns(
     Ok(List::from_vec(lists))
 }
 
-// The rows from one on, with room for those that edits may add.
+// Returns the rows from one on, with room for those that `edits` edits may add.
 fn copied_rows(alloc: Global, rows: &Rows, from: usize, edits: usize) -> Result<Rows, OutOfMemory>
     requires read { (net : Network) × IsReadFor net rows.now }
     requires inside { from ≤ length rows.now.source }
@@ -59,7 +59,7 @@ fn copied_rows(alloc: Global, rows: &Rows, from: usize, edits: usize) -> Result<
     })
 }
 
-// Makes edits in the sources of rows, of which these were those from one on: the edits set none before it.
+// Makes edits in the sources of rows. `former` has the sources from the row `from` on; no edit sets an earlier row.
 fn edit_sources(
     alloc: Global,
     sources: &mut List<u32>,
@@ -83,8 +83,8 @@ fn edit_sources(
     sources.replace_from(from as usize, list.as_slice())
 }
 
-// Makes edits in the times of rows, at place 0, or behind it in the values in a column. Of those these were the ones from
-// a row on: the edits set none before it.
+// Makes edits in the times of rows, for place 0, or else in the values of the column at that place. `former` has those
+// from the row `from` on; no edit sets an earlier row.
 fn edit_numbers(
     alloc: Global,
     numbers: &mut List<u64>,
@@ -110,7 +110,7 @@ fn edit_numbers(
     numbers.replace_from(from as usize, list.as_slice())
 }
 
-// Makes edits in the columns of rows, of which these were the values from a row on: the edits set none before it.
+// Makes edits in the columns of rows. `former` has the values from the row `from` on; no edit sets an earlier row.
 fn edit_columns(
     alloc: Global,
     columns: &mut Vec<List<u64>>,
@@ -137,7 +137,7 @@ fn edit_columns(
     Ok(())
 }
 
-// Makes edits in the lists of rows, one after another: where memory runs out some are edited.
+// Makes edits in the lists of rows, one list after another. If memory runs out, some lists are edited.
 fn edit_lists(
     alloc: Global,
     rows: &mut Rows,
@@ -168,9 +168,10 @@ fn edit_lists(
     done
 }
 
-/// Makes edits in the rows of a trace, one edit after another, and gives those rows as they were before from the first on
-/// that an edit sets: it goes through no other row. The rows are read for a network, and the edits for it and as many
-/// rows; so the rows are read for that network again. Where memory runs out they are as before.
+/// Makes edits in the rows of a trace, one edit after another, and returns the former rows from the first one that an
+/// edit sets on; earlier rows aren't visited. The rows are read for a network, and the edits for that network and those
+/// rows; so the edited rows are read for that network too. Fails only if memory runs out, and then the rows are as
+/// before.
 pub fn edit_rows(
     alloc: Global,
     rows: &mut Rows,
@@ -200,9 +201,9 @@ pub fn edit_rows(
     }
 }
 
-/// The rows that edits make of those of a trace, one edit after another. The rows are read for a network, and the edits
-/// for it and as many rows; so the rows that come out are read for that network too.
-/// It refuses for want of memory alone.
+/// Returns the rows that edits make from those of a trace, one edit after another. The rows are read for a network, and
+/// the edits for that network and those rows; so the rows returned are read for that network too. Fails only if memory
+/// runs out.
 pub fn edited(alloc: Global, rows: &Rows, edits: &List<Edit>) -> Result<Rows, OutOfMemory>
     requires { (net : Network) × IsReadFor net rows.now × AreEditsFor net (length rows.now.source) edits.now }
     ensures exact { IfOk result (λ new. new ≡ edited_rows rows.now edits.now) }

@@ -20,6 +20,13 @@ use mq_stations::{ForkJoinScan, TandemScan, forkjoin_scan, split_blocks, tandem_
 use std::alloc::Global;
 use std::thread::Threads;
 
+// What a tandem in blocks costs, in passes over its jobs: its summaries take more than a pass, its departures
+// another.
+const TANDEM_PASSES: u64 = 3;
+
+// Whoever asks for blocks of fewer jobs than this gets them, whatever they cost.
+const LEAST_BLOCK: u32 = 64;
+
 /// What comes to a node, and how its station is worked out.
 #[derive(Drop)]
 pub struct Scanned<'a> {
@@ -74,6 +81,7 @@ impl<'a, 's> Pieces for Scanning<'a, 's> {
             kind,
             one.arrivals.stream(),
             self.workers,
+            self.arrived.len() as u32,
             self.block,
         )
     }
@@ -147,15 +155,16 @@ fn all_scanned<'a>(
     Ok(List::from_vec(loads))
 }
 
-// How a station of this kind is worked out. A station of one block is one whole piece, and for one
-// worker each is, since it knows the carry when it comes to a block. A further kind that is scanned adds
-// its case here.
+// Chooses how a station of this kind is worked out. `stations` is the number of stations that are ready.
+// A station of one block is one whole piece. With one worker each station is, since the worker knows the
+// carry when it comes to a block. Another kind that is scanned adds its case here.
 fn scan_of<'a>(
     alloc: Global,
     rows: &'a Rows,
     kind: &Kind,
     arrivals: &Stream,
     workers: u32,
+    stations: u32,
     block: u32,
 ) -> Result<Scan<'a>, OutOfMemory>
     requires load { IsLoad rows.now kind.now arrivals.now }
@@ -167,6 +176,7 @@ fn scan_of<'a>(
     }
     match kind {
         Kind::Server(demand) => Ok(Scan::OfServer(asked_of(alloc, rows, demand, &arrivals.job)?)),
+        Kind::Tandem(_) if is_sooner_whole(workers, stations, block) => Ok(Scan::Unscanned),
         Kind::Tandem(stages) => Ok(Scan::OfTandem(tandem_scan(
             alloc, rows, stages, arrivals, block,
         )?)),
@@ -182,4 +192,10 @@ fn scan_of<'a>(
         | Kind::Fork { .. }
         | Kind::Join => Ok(Scan::Unscanned),
     }
+}
+
+// Returns whether a tandem ends sooner as one whole piece: if all ready stations were tandems in blocks,
+// their passes would be at least as many as the workers.
+fn is_sooner_whole(workers: u32, stations: u32, block: u32) -> bool {
+    LEAST_BLOCK <= block && workers as u64 <= stations as u64 * TANDEM_PASSES
 }

@@ -1,10 +1,10 @@
--- The carries that are kept of a node, by its kind.
+-- The carries that are kept of a node, for each kind.
 use Rattle.std.specs.Prelude.{ℕ, List, []}
 use Rattle.mq_maxplus.specs.declared.mp.Mp.{Mp}
 use Rattle.mq_kept.specs.declared.checkpoints.Checkpoints.{Checkpoints}
 use Rattle.mq_kept.specs.declared.checkpoints.Checkpoints.TheVariants.{Delay, ForkJoin, Server, Split, Tandem, Nothing}
 
--- the carries of a server; none where there are those of another kind, or nothing is kept; the same of the others
+-- the kept carries of a server; empty if another kind's are kept, or nothing; then likewise for the other kinds
 abbrev pub server_carries : Checkpoints → List Mp
 server_carries Nothing = []
 server_carries (Server carries) = carries

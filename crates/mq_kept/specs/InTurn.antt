@@ -1,4 +1,4 @@
--- What a server, a tandem or a fork-join does behind the blocks that stay.
+-- What a server, a tandem or a fork-join does after the blocks that stay.
 use Rattle.std.specs.Prelude.{◌*◌, ◌++◌, ℕ, map, take}
 use Rattle.mq_core.specs.Sequences.{time_of_fate}
 use Rattle.mq_core.specs.declared.model.Fate.TheVariants.{Departs}
@@ -25,8 +25,8 @@ HasTail (Fork outputs) = ⊥
 HasTail Join = ⊥
 HasTail (Trunk servers demand) = ⊥
 
--- behind the blocks that stay a node of this kind, to which this comes, lets its jobs out at these times, in their order, by one output, and this is
--- kept of all its blocks then
+-- after the blocks that stay, a node of this kind, to which this comes, lets its jobs out at these times, in their order, by one
+-- output; and this is then kept of all its blocks
 pub record IsBehind (kind : Kind) (rows : Rows) (arrivals : Stream) (block : ℕ) (stays : Stays) (behind : Behind) : Type 0 where
   pub served : AreServed rows kind arrivals (take (stays.blocks * block) (map time_of_fate stays.fates.now) ++ behind.times.items)
   pub kept : IsKeptNode kind (coming_as rows arrivals) block (take (stays.blocks * block) stays.fates.now ++ map (λ time. Departs time) behind.times.items) behind.checkpoints

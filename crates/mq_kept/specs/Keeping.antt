@@ -18,7 +18,7 @@ pub record KeptRun : Type 0 where
   pub workers : ℕ
   pub block : ℕ
 
--- the rows are read for the plan, numbers in their limits, and the run is that of the event list, which isn't refused
+-- the rows are read for the plan, the numbers are within their limits, and the run is that of the event list and isn't refused
 pub record IsKeptRun (k : KeptRun) : Type 0 where
   pub read : IsReadFor k.plan.net k.rows
   pub some : 1 ≤ k.workers
@@ -28,7 +28,7 @@ pub record IsKeptRun (k : KeptRun) : Type 0 where
   pub is_run : IsRunOf k.plan k.rows k.run
   pub fine : refusal_of k.plan k.rows ≡ None
 
--- what the type keeps: this of its parts, that no stream has a time after 2^60, and what is kept of each node
+-- what the type keeps: these facts, that no stream has a time after 2^60, and what is kept of each node
 pub record IsKept (plan : Plan) (rows : Rows) (run : Run) (points : List Checkpoints) (workers block : ℕ) : Type 0 where
   pub whole : IsKeptRun (record { plan = plan; rows = rows; run = run; workers = workers; block = block })
   pub early : AreEarly run.outputs

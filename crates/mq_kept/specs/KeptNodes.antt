@@ -1,4 +1,4 @@
--- What is kept of a node beside its visits: the carries behind its blocks, by its kind.
+-- What is kept of a node besides its visits: the carries after its blocks, for each kind.
 use Rattle.std.specs.Prelude.{◌≡◌, ◌-◌, ℕ, if◌then◌else◌, List, length, Some, slice_get}
 use Rattle.mq_alike.specs.Again.{Coming, blocks_in, is_worked}
 use Rattle.mq_core.specs.declared.model.Fate.{Fate}
@@ -13,7 +13,8 @@ use Rattle.mq_kept.specs.Carries.{delay_carries, forkjoin_carries, server_carrie
 use Rattle.mq_kept.specs.declared.checkpoints.Checkpoints.{Checkpoints}
 use Rattle.mq_kept.specs.declared.stations.Stays.{Stays}
 
--- this is kept of a node of this kind to which this comes, and whose visits have these fates; of a source, a loss station, a fork, a join and a trunk group nothing is asked
+-- this is kept of a node of this kind, to which this comes and whose visits have these fates; for a source, a loss station, a
+-- fork, a join and a trunk group this requires nothing
 abbrev pub IsKeptNode : Kind → Coming → ℕ → List Fate → Checkpoints → Type 0
 IsKeptNode Source came block fates checkpoints = Unit {0}
 IsKeptNode (Server demand) came block fates checkpoints = IsKeptServer demand came block fates (server_carries checkpoints)
@@ -30,7 +31,7 @@ IsKeptNode (Trunk servers demand) came block fates checkpoints = Unit {0}
 abbrev pub coming_of : Rows → Visits → Coming
 coming_of rows seen = record { rows = rows; job = seen.job; arrive = seen.arrive }
 
--- this is kept of the nodes of a run over rows that has these visits
+-- this is kept of the nodes of a run over rows with these visits
 pub record AreCheckpoints (nodes : List Node) (rows : Rows) (block : ℕ) (visits : List Visits) (checkpoints : List Checkpoints) : Type 0 where
   pub count : length checkpoints ≡ length nodes
   pub each : (v : ℕ) (node : Node) (seen : Visits) (points : Checkpoints) → slice_get nodes v ≡ Some node → slice_get visits v ≡ Some seen → slice_get checkpoints v ≡ Some points →
@@ -40,10 +41,10 @@ pub record AreCheckpoints (nodes : List Node) (rows : Rows) (block : ℕ) (visit
 abbrev pub IsNodeOf : Plan → ℕ → Kind → Type 0
 IsNodeOf plan v kind = (node : Node) × (slice_get plan.net.nodes v ≡ Some node) × (node.kind ≡ kind)
 
--- so many first blocks of a node stay to which this came and now comes, by what is kept of it
+-- the first blocks of a node stay, to which `old` came and `new` comes, by what is kept of it
 abbrev pub IsStayingNode : Kind → Coming → Coming → ℕ → Stays → Type 0
 IsStayingNode kind old new block stays = IsKeptNode kind old block stays.fates.now stays.checkpoints.now × IsStaying kind old new block stays.blocks
 
--- how many blocks of a node with so many jobs are worked behind the first that stay
+-- the number of blocks of a node with this many jobs that are worked after the first ones, which stay
 abbrev pub blocks_behind : ℕ → Kind → ℕ → ℕ → ℕ
 blocks_behind block kind jobs first = if is_worked kind then blocks_in block jobs - first else 0

@@ -1,4 +1,4 @@
--- What one node gives that is done again, behind a kept run.
+-- What one node gives that is redone after a kept run.
 use Rattle.std.specs.Borrow.{Bor}
 use Rattle.std.specs.Prelude.{◌≡◌, ◌<◌, ◌^◌, ℕ, List, Option, Some, None, length, slice_get}
 use Rattle.mq_alike.specs.Again.{Coming, again_of, blocks_of, worked_of}
@@ -34,7 +34,8 @@ use Rattle.mq_kept.specs.declared.former.NodeLists.{NodeLists}
 use Rattle.mq_kept.specs.declared.former.Nodes.{Nodes}
 use Rattle.mq_kept.specs.declared.nodes.NodeRun.{NodeRun}
 
--- the run of a plan over rows that were read for it, which isn't refused, with what is kept of its nodes; no stream has a time after 2^60
+-- the run of a plan over rows that were read for it, which isn't refused, with what is kept of its nodes; no stream has a time
+-- after 2^60
 pub record AreKept (plan : Plan) (rows : Rows) (block : ℕ) (run : Run) (points : List Checkpoints) : Type 0 where
   pub read : IsReadFor plan.net rows
   pub is_run : IsRunOf plan rows run
@@ -47,28 +48,28 @@ pub record IsNodeKept (plan : Plan) (rows : Rows) (block v : ℕ) (lists : NodeL
   pub known : IsWorkedOut plan rows (record { number = v; ending = OnTime lists.visits lists.streams })
   pub checkpoints : (node : Node) → slice_get plan.net.nodes v ≡ Some node → IsKeptNode node.kind (coming_of rows lists.visits) block lists.visits.fate lists.checkpoints
 
--- the rows of the kept run, where one is kept
+-- the rows of the kept run, if one is kept
 abbrev pub earlier_rows : Rows → Option (Bor FormerRows) → Option Rows
 earlier_rows rows None = None
 earlier_rows rows (Some former) = Some (rows_before former.now rows)
 
--- the former rows fit in, where a run is kept
+-- the former rows have room in the rows, if a run is kept
 abbrev pub RowsFit : Rows → Option (Bor FormerRows) → Type 0
 RowsFit rows None = Unit {0}
 RowsFit rows (Some former) = IsFormerOf former.now rows
 
--- what is kept of a node before it is worked out: nothing before the first run
+-- what is kept of a node before it is computed: nothing before the first run
 abbrev pub IsNodeBefore : Plan → Option Rows → ℕ → ℕ → NodeLists → Type 0
 IsNodeBefore plan None block v lists = lists ≡ no_lists
 IsNodeBefore plan (Some old) block v lists = IsReadFor plan.net old × IsNodeKept plan old block v lists
 
--- what is kept of all nodes before the first is worked out; no stream has a time after 2^60
+-- what is kept of all nodes before the first is computed; no stream has a time after 2^60
 pub record AreNodesBefore (plan : Plan) (old : Option Rows) (block : ℕ) (nodes : Nodes) : Type 0 where
   pub count : AreNodes (length plan.net.nodes) nodes
   pub each : (v : ℕ) (lists : NodeLists) → HasLists nodes v lists → IsNodeBefore plan old block v lists
   pub early : AreEarly nodes.outputs.items
 
--- what came to a node before of which this is kept: nothing where no run is kept
+-- what came to a node of which this is kept, in the kept run: nothing if no run is kept
 abbrev pub kept_rows : Rows → Option Rows → Rows
 kept_rows rows None = rows
 kept_rows rows (Some old) = old
@@ -81,7 +82,7 @@ abbrev pub HasStayed : Plan → Option Rows → Rows → ℕ → Type 0
 HasStayed plan None rows v = ⊥
 HasStayed plan (Some old) rows v = (out : ℕ) → stream_from ((run_of plan old).stations v) out ≡ stream_from ((run_of plan rows).stations v) out
 
--- of what a node reads, the nodes that are told to be unchanged sent the same before
+-- of the nodes that a node reads, those marked as unchanged sent the same before
 abbrev pub HaveStayed : Plan → Option Rows → Rows → List Former → ℕ → Type 0
 HaveStayed plan old rows formers v =
     (node : Node) (port : ℕ) (input : Input) → slice_get plan.net.nodes v ≡ Some node → slice_get node.inputs port ≡ Some input → slice_get formers input.node ≡ Some Same → HasStayed plan old rows input.node
@@ -94,7 +95,8 @@ coming_to plan rows v = record {
   arrive = arrives_of ((run_of plan rows).stations v).visits;
 }
 
--- how many blocks of a node are done again to which this came before, how many of them are worked, and how many it has
+-- the number of blocks of a node, to which `old` came, that are redone; the number of these that are worked; and the number of
+-- all its blocks
 abbrev pub again_behind : Arriving → Coming → ℕ → ℕ
 again_behind s old v = again_of s.block (slice_get s.plan.now.net.nodes v) old (coming_to s.plan.now s.rows.now v)
 
@@ -104,8 +106,8 @@ worked_behind s old v = worked_of s.block (slice_get s.plan.now.net.nodes v) old
 abbrev pub blocks_at : Arriving → ℕ → ℕ
 blocks_at s v = blocks_of s.block (slice_get s.plan.now.net.nodes v) (coming_to s.plan.now s.rows.now v)
 
--- what a node gives of which this was kept is what the run has, with what is kept of it, and its two numbers; it can come back, and where it is told to be
--- unchanged the same leaves it
+-- a node gives what the run has, with what is kept of it, and its two numbers; it can be restored to what was kept; and if it is
+-- marked as unchanged, the same leaves it
 pub record IsNodeRun (s : Arriving) (old : Option Rows) (lists : NodeLists) (v : ℕ) (gives : NodeRun) : Type 0 where
   pub kept : IsNodeKept s.plan.now s.rows.now s.block v gives.lists
   pub back : lists_before gives.former gives.lists ≡ lists
@@ -128,7 +130,7 @@ IsFaultOf ending (Over fault) = ending ≡ TooMany fault
 IsFaultOf ending (Past fault) = ending ≡ TooLate fault
 IsFaultOf ending Memory = ⊥
 
--- these blocks of a node stay to which this came in a run
+-- these blocks of a node stay, to which `old` came in some run
 abbrev pub IsStayingAt : Held → Stays → Type 0
 IsStayingAt held stays =
     (node : Node) → slice_get held.plan.now.net.nodes held.number ≡ Some node →

@@ -7,7 +7,7 @@ use Rattle.mq_kept.specs.declared.former.NodeLists.{NodeLists}
 use Rattle.mq_kept.specs.declared.source_runs.Edited.{Edited}
 use Rattle.mq_kept.specs.declared.source_runs.Edited.TheVariants.{Done, AsBefore}
 
--- it gives what the run has; or its lists are as they were
+-- the source gives what the run has, or its lists are as they were
 abbrev pub IsEdited : Arriving → Rows → NodeLists → ℕ → Edited → Type 0
 IsEdited s old lists v (Done gives) = IsNodeRun s (Some old) lists v gives
 IsEdited s old lists v (AsBefore same) = same ≡ lists

@@ -1,4 +1,4 @@
--- What comes to a source after edits of rows, behind the visits that stay.
+-- What comes to a source after edits of rows, following the visits that stay.
 use Rattle.std.specs.Prelude.{◌≡◌, ◌<◌, ◌≤◌, ℕ, List, Some, drop, filter, length, nat_lt, slice_get, take}
 use Rattle.std.specs.List.{AllByRecursion, zip}
 use Rattle.mq_core.specs.Sequences.{rows_at}
@@ -14,14 +14,15 @@ use Rattle.mq_exits.specs.declared.working.Ending.TheVariants.{OnTime}
 use Rattle.mq_kept.specs.KeptNodes.{IsNodeOf}
 use Rattle.mq_kept.specs.declared.former.NodeLists.{NodeLists}
 
--- this is kept of a source of a plan that was worked out over the rows of before edits; those rows and those of now are read for the plan
+-- what is kept of a source of a plan, computed over the rows of before edits; those rows and the present ones are read for the
+-- plan
 pub record IsKeptSource (plan : Plan) (former : FormerRows) (rows : Rows) (v : ℕ) (lists : NodeLists) : Type 0 where
   pub source : IsNodeOf plan v Source
   pub read : IsReadFor plan.net rows
   pub earlier : IsReadFor plan.net (rows_before former rows)
   pub known : IsWorkedOut plan (rows_before former rows) (record { number = v; ending = OnTime lists.visits lists.streams })
 
--- so many first times are earlier than each row of a source that edits may have changed: as it was, and as it is
+-- the first `first` times are earlier than each row of a source that edits may have changed, as it was and as it is
 pub record ComeBefore (v : ℕ) (former : FormerRows) (rows : Rows) (times : List ℕ) (first : ℕ) : Type 0 where
   pub within : first ≤ length times
   pub bound : ℕ
@@ -33,7 +34,7 @@ pub record ComeBefore (v : ℕ) (former : FormerRows) (rows : Rows) (times : Lis
 abbrev pub staying_behind : ℕ → ℕ → Visits → List (ℕ × ℕ)
 staying_behind first row visits = filter (λ (p : ℕ × ℕ). nat_lt p.1 row) (zip (drop first visits.arrive) (drop first visits.job))
 
--- so many first jobs and times of two lists are the same; the next ones, where both have some, are not
+-- the first n jobs and times of two lists are the same; the next ones, if both have some, are not
 pub record AreFirstSame (jobs times jobs' times' : List ℕ) (n : ℕ) : Type 0 where
   pub within : n ≤ length jobs
   pub within' : n ≤ length jobs'

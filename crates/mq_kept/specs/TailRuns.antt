@@ -1,4 +1,4 @@
--- Servers, tandems and fork-joins of which the first blocks stay: their last visits are edited in place.
+-- Servers, tandems and fork-joins whose first blocks stay: their last visits are edited in place.
 use Rattle.std.specs.Prelude.{◌≡◌, ◌*◌, ◌++◌, ◌≤◌, ℕ, List, Some, length, map, slice_get, take}
 use Rattle.mq_alike.specs.Again.{alike}
 use Rattle.mq_core.specs.Theorems.{IsReadFor}
@@ -20,7 +20,7 @@ use Rattle.mq_kept.specs.declared.former.NodeLists.{NodeLists}
 use Rattle.mq_kept.specs.declared.nodes.NodeRun.{NodeRun}
 use Rattle.mq_kept.specs.declared.tails.FormerTail.{FormerTail}
 
--- this is kept of a node of this kind in an earlier run, of which so many first blocks stay; no fewer jobs come now
+-- these lists are kept of a node of this kind from an earlier run, and its first `first` blocks stay; no fewer jobs come now
 pub record IsTailStaying (load : Load) (kind : Kind) (first : ℕ) (lists : NodeLists) : Type 0 where
   pub node : Node
   pub there : slice_get load.plan.now.net.nodes load.number ≡ Some node
@@ -33,13 +33,14 @@ pub record IsTailStaying (load : Load) (kind : Kind) (first : ℕ) (lists : Node
   pub same : first * load.block ≤ alike kind (coming_of earlier lists.visits) (coming_as load.rows.now load.arrivals.now)
   pub longer : length lists.visits.job ≤ length load.arrivals.now.job
 
--- behind the blocks that stay it lets its jobs out at these times, in their order, by one output, and this is kept of its blocks then
+-- after the blocks that stay, the node lets its jobs out at these times, in their order, by one output; and this is then kept of
+-- its blocks
 pub record IsTailServed (load : Load) (kind : Kind) (first : ℕ) (lists : NodeLists) (departs : List ℕ) (points : Checkpoints) : Type 0 where
   pub stays : IsTailStaying load kind first lists
   pub served : AreServed load.rows.now kind load.arrivals.now (take (first * load.block) (departures_in lists) ++ departs)
   pub kept : IsKeptNode kind (coming_as load.rows.now load.arrivals.now) load.block (take (first * load.block) lists.visits.fate ++ map (λ time. Departs time) departs) points
 
--- it gives what the run has, with what is kept of it, and these numbers; its last visits come back
+-- the node gives what the run has, with what is kept of it, and these numbers; its last visits can be restored
 pub record IsTailRun (load : Load) (lists : NodeLists) (again all : ℕ) (gives : NodeRun) : Type 0 where
   pub tail : FormerTail
   pub points : Checkpoints

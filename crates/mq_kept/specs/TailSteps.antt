@@ -1,4 +1,4 @@
--- What the steps keep by which the last visits to a node are edited.
+-- What holds after each step by which the last visits to a node are edited.
 use Rattle.std.specs.Prelude.{◌≡◌, ◌+◌, ◌++◌, ◌∷◌, ◌≤◌, ℕ, List, [], length, map, take, Some}
 use Rattle.mq_core.specs.Laws.{Rises}
 use Rattle.mq_core.specs.OnceOut.{founds_of}
@@ -12,7 +12,7 @@ use Rattle.mq_stations.specs.Late.{late_told}
 use Rattle.mq_kept.specs.Tails.{departures_in}
 use Rattle.mq_kept.specs.declared.former.NodeLists.{NodeLists}
 
--- the visits to a node all depart, at these times, in the order in which they came, by one output
+-- all visits to a node depart, at these times, in the order in which they came, by one output
 pub record AreInTurn (lists : NodeLists) (departs : List ℕ) : Type 0 where
   pub arrives : length lists.visits.arrive ≡ length lists.visits.job
   pub even : length departs ≡ length lists.visits.job
@@ -20,8 +20,8 @@ pub record AreInTurn (lists : NodeLists) (departs : List ℕ) : Type 0 where
   pub founds : lists.visits.found ≡ founds_of lists.visits.arrive lists.visits.fate
   pub streams : lists.streams ≡ record { job = lists.visits.job; time = departs } ∷ []
 
--- visits of these jobs, which come and depart at these times, can stand behind the first so many, in the place of no more: neither
--- time falls
+-- visits of these jobs, which come and depart at these times, can follow the first `from` visits, replacing no more than there
+-- are of them: neither arrivals nor departures fall
 pub record IsNextTail (from : ℕ) (jobs times departs : List ℕ) (lists : NodeLists) : Type 0 where
   pub times_even : length times ≡ length jobs
   pub departs_even : length departs ≡ length jobs
@@ -37,24 +37,24 @@ IsRefused bound v departs (Over fault) = ⊥
 IsRefused bound v departs (Past fault) = first_of (sequence_late_from bound v 0 (map (λ time. Departs time) departs)) ≡ Some (late_told fault)
 IsRefused bound v departs Memory = Unit {0}
 
--- a stream has no more items than these behind the first so many
+-- a stream has no more items after the first `from` than these
 pub record IsShorter (from : ℕ) (jobs times : List ℕ) (stream : Stream) : Type 0 where
   pub job_within : from ≤ length stream.job
   pub time_within : from ≤ length stream.time
   pub job : length stream.job ≤ from + length jobs
   pub time : length stream.time ≤ from + length times
 
--- the first so many items of a list are as they were, and it isn't shorter
+-- the first `from` items of a list are as they were, and the list isn't shorter
 pub record KeepsFirst {X : Type 0} (from : ℕ) (old new : List X) : Type 0 where
   pub first : take from new ≡ take from old
   pub longer : length old ≤ length new
 
--- so are those of a stream
+-- the same holds for both lists of a stream
 pub record StreamKeepsFirst (from : ℕ) (old new : Stream) : Type 0 where
   pub job : KeepsFirst from old.job new.job
   pub time : KeepsFirst from old.time new.time
 
--- and of the only stream of some
+-- the same holds for the only stream of a list
 pub record OnlyKeepsFirst (from : ℕ) (old new : List Stream) : Type 0 where
   pub was : Stream
   pub stream : Stream
@@ -62,7 +62,7 @@ pub record OnlyKeepsFirst (from : ℕ) (old new : List Stream) : Type 0 where
   pub new_is : new ≡ stream ∷ []
   pub first : StreamKeepsFirst from was stream
 
--- and of all that is kept of a node with one output
+-- the same holds for everything that is kept of a node with one output; its checkpoints are as they were
 pub record ListsKeepFirst (from : ℕ) (old new : NodeLists) : Type 0 where
   pub job : KeepsFirst from old.visits.job new.visits.job
   pub arrive : KeepsFirst from old.visits.arrive new.visits.arrive

@@ -1,4 +1,5 @@
--- The last visits to a node whose jobs leave in the order in which they came, by one output: how they are edited in place, and put back.
+-- The last visits to a node whose jobs leave in the order in which they came, by one output: how they are edited in place, and
+-- restored.
 use Rattle.std.specs.Prelude.{◌≡◌, ◌+◌, ◌++◌, ◌∷◌, ◌≤◌, ℕ, List, [], length, map, take, Some, slice_get}
 use Rattle.mq_core.specs.Sequences.{time_of_fate}
 use Rattle.mq_core.specs.Theorems.{IsReadFor}
@@ -17,16 +18,16 @@ use Rattle.mq_kept.specs.declared.tails.FormerTail.{FormerTail}
 abbrev pub departures_in : NodeLists → List ℕ
 departures_in lists = map time_of_fate lists.visits.fate
 
--- what comes to a node behind its first so many visits: these jobs, at these times
+-- what comes to a node: its first `from` visits, then these jobs at these times
 abbrev pub coming_behind : ℕ → Visits → List ℕ → List ℕ → Stream
 coming_behind from visits jobs times = record { job = take from visits.job ++ jobs; time = take from visits.arrive ++ times }
 
--- all jobs of a station of the plan depart at these times, by position, and it is of a kind whose jobs keep their order
+-- all jobs of a station of the plan depart at these times, by position, and its kind is one whose jobs keep their order
 abbrev pub AreServedAt : Plan → Rows → ℕ → Stream → List ℕ → Type 0
 AreServedAt plan rows v arrivals departs = (node : Node) → slice_get plan.net.nodes v ≡ Some node → AreServed rows node.kind arrivals departs
 
--- in a run over rows these jobs come to a node behind its first so many visits, and depart, at these times, in the order in which
--- they came, by one output; there are no fewer than those that are kept of it
+-- in a run over rows, these jobs come to a node after its first `from` visits and depart, at these times, in the order in which
+-- they came, by one output; there are no fewer visits than are kept of the node
 pub record IsTailFor (plan : Plan) (rows : Rows) (v : ℕ) (lists : NodeLists) (from : ℕ) (jobs times departs : List ℕ) : Type 0 where
   pub times_even : length times ≡ length jobs
   pub departs_even : length departs ≡ length jobs
@@ -36,7 +37,7 @@ pub record IsTailFor (plan : Plan) (rows : Rows) (v : ℕ) (lists : NodeLists) (
   pub loaded : IsLoaded plan rows v (coming_behind from lists.visits jobs times)
   pub served : AreServedAt plan rows v (coming_behind from lists.visits jobs times) (take from (departures_in lists) ++ departs)
 
--- they stand behind the first so many visits now, in the place of the others, and in what left
+-- these jobs now follow the first `from` visits, in place of the others, and also in what left
 pub record IsTailPut (from : ℕ) (jobs times departs : List ℕ) (old new : NodeLists) : Type 0 where
   pub job : new.visits.job ≡ take from old.visits.job ++ jobs
   pub arrive : new.visits.arrive ≡ take from old.visits.arrive ++ times
@@ -44,11 +45,11 @@ pub record IsTailPut (from : ℕ) (jobs times departs : List ℕ) (old new : Nod
   pub streams : new.streams ≡ record { job = take from old.visits.job ++ jobs; time = take from (departures_in old) ++ departs } ∷ []
   pub checkpoints : new.checkpoints ≡ old.checkpoints
 
--- a stream whose last items were these, behind as many first ones
+-- a stream with its first `from` items, followed by these
 abbrev pub stream_before : ℕ → List ℕ → List ℕ → Stream → Stream
 stream_before from job time stream = record { job = take from stream.job ++ job; time = take from stream.time ++ time }
 
--- what was kept of a node before its last visits were edited, by what is kept now; its checkpoints are as they are
+-- what was kept of a node before its last visits were edited, given what is kept now; its checkpoints stay
 abbrev pub tail_before : FormerTail → NodeLists → NodeLists
 tail_before former lists =
     record {
@@ -63,12 +64,12 @@ tail_before former lists =
       checkpoints = lists.checkpoints;
     }
 
--- the stream has as many items as these behind the first so many, and more perhaps
+-- the stream has at least as many items after the first `from` as these
 pub record HasRoom (from : ℕ) (jobs times : List ℕ) (stream : Stream) : Type 0 where
   pub job : from + length jobs ≤ length stream.job
   pub time : from + length times ≤ length stream.time
 
--- the former visits fit in, and what left of them: no list is shorter now
+-- the former visits, and what left of them, have room: no list is shorter now
 pub record IsTailOf (former : FormerTail) (lists : NodeLists) : Type 0 where
   pub job : former.from + length former.job ≤ length lists.visits.job
   pub arrive : former.from + length former.arrive ≤ length lists.visits.arrive

@@ -1,4 +1,4 @@
-// A run that is done again in the place of a kept one, one node after another by rank.
+// A run that is redone in place of a kept one, one node after another by rank.
 ghost use Rattle.std.specs.Prelude.{◌≡◌, ◌+◌, ◌<◌, ◌≤◌, ◌^◌, All, length, slice_set, IfErr, IfOk, OnOk};
 ghost use Rattle.mq_alike.specs.Again.{all_blocks};
 ghost use Rattle.mq_core.specs.Theorems.{IsReadFor};
@@ -22,13 +22,13 @@ use std::mem::replace;
 use std::sync::ledger::Ledger;
 use std::thread::Threads;
 
-/// How much an edit did again.
+/// How much of a run an edit redid.
 #[derive(Clone, Copy, PartialEq, Eq)]
 pub struct Redone {
-    /// How many blocks stand from the first difference on, over all nodes whose blocks are counted: sources, servers, delays,
-    /// splits, tandems and fork-joins. Of a node without a difference none.
+    /// The number of blocks from the first difference on, summed over the nodes whose blocks are counted: sources,
+    /// servers, delays, splits, tandems and fork-joins. A node without a difference adds none.
     pub again: u64,
-    /// How many blocks these nodes have.
+    /// The number of all blocks of these nodes.
     pub all: u64,
 }
 
@@ -40,15 +40,15 @@ pub struct NewRun {
     pub redone: Redone,
 }
 
-/// Why there is no run, with what was kept of the nodes.
+/// Why there is no run, and what was kept of the nodes.
 #[derive(Drop)]
 pub struct RunRefusal {
     pub fault: RunFault,
     pub nodes: Nodes,
 }
 
-/// The run of a plan over these rows, in the place of the kept one: node after node by rank, each behind the blocks that
-/// stay. Where it is refused all nodes come back to what they had.
+/// Returns the run of a plan over these rows, in place of the kept one: node after node by rank, each after the blocks
+/// that stay. If the run is refused, all nodes are restored to what they had.
 pub fn run_again<R: Threads + Sync, L: Ledger>(
     rt: &R,
     alloc: Global,
@@ -112,16 +112,16 @@ pub fn run_again<R: Threads + Sync, L: Ledger>(
     Ok(new_run(worked))
 }
 
-// The nodes, of which those that are worked out so far have what the new run has, and how much of it was done again.
+// The nodes, and how much of the run was redone. The nodes computed so far have what the new run has.
 #[derive(Drop)]
 struct SoFar {
     nodes: Nodes,
-    // How each node comes back to what it had.
+    // For each node, how it is restored to what it had.
     formers: Vec<Former>,
     redone: Redone,
 }
 
-// Puts down what a node gives.
+// Stores what a node gives.
 fn put(worked: &mut SoFar, number: u32, gives: NodeRun)
     requires nodes { AreNodes (length worked.old.formers.items) worked.old.nodes }
     requires inside { number < length worked.old.formers.items }
@@ -134,12 +134,12 @@ fn put(worked: &mut SoFar, number: u32, gives: NodeRun)
     let at = number as usize;
     worked.redone.again += gives.again;
     worked.redone.all += gives.all;
-    // A call of `drop` lets go of what stood there: it is proved once for a type.
+    // A call of `drop` releases what was there, because a call is proved only once per type.
     drop(put_at(&mut worked.nodes, at, gives.lists));
     drop(replace(&mut worked.formers[at], gives.former));
 }
 
-// There is no run, for this cause: the nodes come back to what they had.
+// There is no run, for this cause: the nodes are restored to what they had.
 fn undone(alloc: Global, worked: SoFar, fault: RunFault) -> RunRefusal
     requires nodes { AreNodes (length worked.formers.items) worked.nodes }
     requires fit { AllFit worked.nodes worked.formers.items }
@@ -156,7 +156,7 @@ fn undone(alloc: Global, worked: SoFar, fault: RunFault) -> RunRefusal
     RunRefusal { fault, nodes }
 }
 
-// All nodes are worked out.
+// All nodes are computed.
 fn new_run(worked: SoFar) -> NewRun
     ensures visits { result.run.visits ≡ worked.nodes.visits.items }
     ensures outputs { result.run.outputs ≡ worked.nodes.outputs.items }

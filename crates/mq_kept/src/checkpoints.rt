@@ -1,4 +1,4 @@
-// What is kept of a node beside its visits and streams: from where its jobs can be gone through again.
+// What is kept of a node besides its visits and streams: where the computation of its jobs can start again.
 ghost use Rattle.std.specs.Prelude.{◌≡◌};
 ghost use Rattle.mq_kept.specs.Carries.{delay_carries, forkjoin_carries, server_carries, split_carries, split_outs, tandem_carries};
 
@@ -6,25 +6,25 @@ use mq_base::List;
 use mq_maxplus::Mp;
 use mq_tandem::Latest;
 
-/// The checkpoints of a node, from which its jobs can be gone through again: the carry behind each block of them.
+/// The checkpoints of a node, from which its jobs can be computed again: the carry after each of their blocks.
 #[derive(Drop)]
 pub enum Checkpoints {
-    /// None: the jobs of a source depart as they come, and all other nodes that have none are worked out whole.
+    /// None: the jobs of a source depart as they come, and all other nodes without checkpoints are computed whole.
     Nothing,
-    /// Of a server the last departure.
+    /// For a server, the last departure.
     Server(List<Mp>),
-    /// Of a delay the departure of its last job.
+    /// For a delay, the departure of the last job.
     Delay(List<u64>),
-    /// Of a tandem the latest departures from its stages.
+    /// For a tandem, the latest departures from its stages.
     Tandem(List<Latest>),
-    /// Of a fork-join the latest departure from each of its servers.
+    /// For a fork-join, the latest departure from each server.
     ForkJoin(List<[u64; 8]>),
-    /// Of a split the output of the last job of each block, and the output of each job, by position.
+    /// For a split, the output of the last job of each block, and the output of each job, by position.
     Split { carries: List<u8>, outs: List<u8> },
 }
 
 impl Checkpoints {
-    /// Of a server the last departure behind each block, in ticks: none for another kind, and where nothing is kept.
+    /// Returns a server's last departure after each block, in ticks; nothing for another kind, or if nothing is kept.
     pub fn server(&self) -> &[Mp]
         ensures { result.now ≡ server_carries self.now }
     {
@@ -35,7 +35,8 @@ impl Checkpoints {
         }
     }
 
-    /// Of a delay the departure of the last job of each block, in ticks: none for another kind, and where nothing is kept.
+    /// Returns the departure of the last job of each block of a delay, in ticks; nothing for another kind, or if
+    /// nothing is kept.
     pub fn delay(&self) -> &[u64]
         ensures { result.now ≡ delay_carries self.now }
     {
@@ -46,7 +47,8 @@ impl Checkpoints {
         }
     }
 
-    /// Of a tandem the latest departures from its stages behind each block: none for another kind, and where nothing is kept.
+    /// Returns the latest departures from a tandem's stages after each block; nothing for another kind, or if nothing
+    /// is kept.
     pub fn tandem(&self) -> &[Latest]
         ensures { result.now ≡ tandem_carries self.now }
     {
@@ -57,8 +59,8 @@ impl Checkpoints {
         }
     }
 
-    /// Of a fork-join the latest departure from each of its servers behind each block, in ticks, in eight places: none for
-    /// another kind, and where nothing is kept.
+    /// Returns the latest departure from each server of a fork-join after each block, in ticks, eight numbers per
+    /// block; nothing for another kind, or if nothing is kept.
     pub fn forkjoin(&self) -> &[[u64; 8]]
         ensures { result.now ≡ forkjoin_carries self.now }
     {
@@ -69,7 +71,7 @@ impl Checkpoints {
         }
     }
 
-    /// Of a split the output of the last job of each block: none for another kind, and where nothing is kept.
+    /// Returns the output of the last job of each block of a split; nothing for another kind, or if nothing is kept.
     pub fn split(&self) -> &[u8]
         ensures { result.now ≡ split_carries self.now }
     {
@@ -80,7 +82,7 @@ impl Checkpoints {
         }
     }
 
-    /// Of a split the output of each job, by position: none for another kind, and where nothing is kept.
+    /// Returns the output of each job of a split, by position; nothing for another kind, or if nothing is kept.
     pub fn outs(&self) -> &[u8]
         ensures { result.now ≡ split_outs self.now }
     {

@@ -1,4 +1,4 @@
-// What is kept of the nodes, and how they come back to what they had before an edit.
+// What is kept of the nodes, and how they are restored to what they had before an edit.
 ghost use Rattle.std.specs.Prelude.{◌≡◌, ◌<◌, ◌≤◌, All, length, IfOk};
 ghost use Rattle.mq_kept.specs.Formers.{AllFit, AreNodes, AreNothing, AreSameNodes, CanComeBack, FitsIn, HasLists, IsPut, lists_before, no_lists, with_checkpoints};
 ghost use Rattle.mq_kept.specs.Tails.{IsTailOf, tail_before};
@@ -16,12 +16,12 @@ use std::mem::replace;
 #[derive(Drop)]
 pub struct NodeLists {
     pub visits: Visits,
-    /// What left it, by output.
+    /// What left the node, by output.
     pub streams: List<Stream>,
     pub checkpoints: Checkpoints,
 }
 
-/// What is kept of all nodes, by order of declaration.
+/// What is kept of all nodes, in the order of declaration.
 #[derive(Drop)]
 pub struct Nodes {
     pub visits: Vec<Visits>,
@@ -29,19 +29,19 @@ pub struct Nodes {
     pub checkpoints: Vec<Checkpoints>,
 }
 
-/// How a node comes back to what it had before an edit.
+/// How a node is restored to what it had before an edit.
 #[derive(Drop)]
 pub enum Former {
-    /// It has what it had.
+    /// It still has what it had.
     Same,
-    /// Its lists were made anew: these are the former ones.
+    /// All its lists are new: these are the former ones.
     Whole(NodeLists),
-    /// Its last visits were edited in place, and its checkpoints made anew: these are the former ones.
+    /// Its last visits were edited in place, and its checkpoints are new: these are the former ones.
     Tail(FormerTail, Checkpoints),
 }
 
 impl Former {
-    /// What the node had before that has these lists now. It takes no memory.
+    /// Returns what the node had before, given the lists that it has now. Takes no memory.
     pub fn put_back(self, alloc: Global, now: NodeLists) -> NodeLists
         requires { FitsIn self now }
         ensures { result ≡ lists_before self now }
@@ -57,7 +57,7 @@ impl Former {
     }
 }
 
-// What a node had before whose last visits were these, and whose checkpoints.
+// Returns what a node had before, given its former last visits and its former checkpoints.
 fn tail_back(
     alloc: Global,
     tail: &FormerTail,
@@ -73,7 +73,7 @@ fn tail_back(
     lists
 }
 
-/// Nothing is kept of a node.
+/// Returns the lists of a node of which nothing is kept.
 pub fn no_lists(alloc: Global) -> NodeLists
     ensures { result ≡ no_lists }
 {
@@ -89,7 +89,7 @@ pub fn no_lists(alloc: Global) -> NodeLists
     }
 }
 
-/// Nothing is kept of so many nodes.
+/// Returns `count` nodes of which nothing is kept.
 pub fn no_nodes(alloc: Global, count: usize) -> Result<Nodes, OutOfMemory>
     ensures count { IfOk result (AreNodes count) }
     ensures nothing { IfOk result AreNothing }
@@ -110,7 +110,7 @@ pub fn no_nodes(alloc: Global, count: usize) -> Result<Nodes, OutOfMemory>
     })
 }
 
-/// So many nodes have what they had.
+/// Returns a list that says of each of `count` nodes that it still has what it had.
 pub fn all_same(alloc: Global, count: usize) -> Result<Vec<Former>, OutOfMemory>
     ensures count { IfOk result (λ formers. length formers.items ≡ count) }
     ensures same { IfOk result (λ formers. All (λ former. former ≡ Same) formers.items) }
@@ -122,7 +122,7 @@ pub fn all_same(alloc: Global, count: usize) -> Result<Vec<Former>, OutOfMemory>
     Ok(formers)
 }
 
-/// Puts these lists at a node, and gives those that it had.
+/// Puts these lists at a node, and returns those that it had.
 pub fn put_at(nodes: &mut Nodes, at: usize, lists: NodeLists) -> NodeLists
     requires visits { at < length nodes.old.visits.items }
     requires outputs { at < length nodes.old.outputs.items }
@@ -137,7 +137,7 @@ pub fn put_at(nodes: &mut Nodes, at: usize, lists: NodeLists) -> NodeLists
     }
 }
 
-/// Puts back what each node had before. It takes no memory.
+/// Restores each node to what it had before. Takes no memory.
 pub fn come_back(alloc: Global, nodes: &mut Nodes, formers: &mut [Former])
     requires count { AreNodes (length formers.old) nodes.old }
     requires fit { AllFit nodes.old formers.old }

@@ -1,4 +1,4 @@
-// A server, a tandem or a fork-join behind the blocks that stay.
+// A server, a tandem or a fork-join after the blocks that stay.
 ghost use Rattle.std.specs.Prelude.{◌≡◌, ◌+◌, ◌*◌, ◌≤◌, Some, length, slice_get, IfOk, OnOk};
 ghost use Rattle.mq_alike.specs.Again.{Coming as TheComing, blocks_in};
 ghost use Rattle.mq_core.specs.declared.model.Kind.TheVariants.{ForkJoin, Server, Tandem};
@@ -20,17 +20,17 @@ use mq_scan::{Blocks, cut};
 use std::alloc::Global;
 use std::sync::ledger::Ledger;
 
-/// What such a station does behind the blocks that stay.
+/// What a server, a tandem or a fork-join does after the blocks that stay.
 #[derive(Drop)]
 pub struct Behind {
-    /// When its jobs behind them depart, in ticks.
+    /// When the jobs after those blocks depart, in ticks.
     pub times: Vec<u64>,
-    /// What is kept of all its blocks.
+    /// What is kept of all blocks.
     pub checkpoints: Checkpoints,
 }
 
-/// What a server, a tandem or a fork-join does behind the blocks that stay. Of the jobs before it reads nothing. It refuses
-/// for want of memory alone.
+/// Returns what a server, a tandem or a fork-join does after the blocks that stay. Earlier jobs aren't read. Fails only
+/// if memory runs out.
 pub fn behind_first<L: Ledger>(
     alloc: Global,
     load: &Load,
@@ -59,7 +59,7 @@ pub fn behind_first<L: Ledger>(
     }
 }
 
-// A server.
+// Does what `behind_first` does, for a server.
 fn server_behind<L: Ledger>(
     alloc: Global,
     load: &Load,
@@ -96,7 +96,7 @@ fn server_behind<L: Ledger>(
     })
 }
 
-// A tandem.
+// Does what `behind_first` does, for a tandem.
 fn tandem_behind<L: Ledger>(
     alloc: Global,
     load: &Load,
@@ -133,7 +133,7 @@ fn tandem_behind<L: Ledger>(
     })
 }
 
-// A fork-join.
+// Does what `behind_first` does, for a fork-join.
 fn forkjoin_behind<L: Ledger>(
     alloc: Global,
     load: &Load,

@@ -43,8 +43,8 @@ impl<'p> Model for Kept<'p> {
 }
 
 impl<'p> Kept<'p> {
-    /// The run of a plan over the rows that were read for its network, kept with them. The block of every node has
-    /// `block` jobs, 64 to 65,536. It refuses as `run` does.
+    /// Returns the run of a plan over rows that were read for its network, kept with those rows. It is computed by
+    /// `workers` workers, 1 to 64, in blocks of `block` jobs, 64 to 65,536. Fails as `run` of `mq_engine` does.
     pub fn start<R: Threads + Sync>(
         rt: &R,
         alloc: Global,
@@ -75,12 +75,17 @@ impl<'p> Kept<'p> {
         })
     }
 
-    /// Makes these edits, in their order, in the kept rows, and does again what they touch: of each node whose blocks are
-    /// counted the blocks from its first difference on. It tells how many these are, and how many blocks there are in
-    /// all. Each block that is worked counts one step: no more than are told, since the jobs of a source depart as they
-    /// come. It refuses as `run` over the edited rows does. Then the kept rows and run are as before, and the steps
-    /// stay counted. A node without a difference isn't touched; what the others had stands beside the new run until it is
-    /// done.
+    /// Makes these edits, in order, in the kept rows, and redoes what they can change. Returns the number of blocks
+    /// from the first difference on, over the nodes whose blocks are counted, and the number of all their blocks.
+    /// Counts one step for each block that is worked; if it fails, at most that many. The blocks of sources aren't
+    /// worked, because a source's jobs depart as they come.
+    ///
+    /// Fails as `run` of `mq_engine` over the edited rows does. Then the kept rows and run are as before, and the steps
+    /// stay counted.
+    ///
+    /// A station without a difference stays as it is. A loss station or a trunk group with a difference is computed
+    /// whole, and so is a fork or a join if a node that it reads didn't stay as it was. What a changed node had is kept
+    /// until the new run is done. The clauses don't state this paragraph.
     pub fn edit<R: Threads + Sync, L: Ledger>(
         &mut self,
         rt: &R,
@@ -137,14 +142,14 @@ impl<'p> Kept<'p> {
         }
     }
 
-    /// The rows.
+    /// Returns the kept rows.
     pub fn rows(&self) -> &Rows
         ensures { result.now ≡ self.now.rows }
     {
         &self.rows
     }
 
-    /// The run over the rows.
+    /// Returns the run over the kept rows.
     pub fn run(&self) -> &Run
         ensures run { result.now ≡ self.now.run }
         ensures kept { IsKeptRun self.now }
@@ -153,7 +158,7 @@ impl<'p> Kept<'p> {
     }
 }
 
-// Takes what is kept of the nodes, and leaves none.
+// Takes what is kept of the nodes, and leaves nothing.
 fn taken(alloc: Global, run: &mut Run, checkpoints: &mut List<Checkpoints>) -> Nodes
     ensures visits { result.visits.items ≡ run.old.visits }
     ensures outputs { result.outputs.items ≡ run.old.outputs }
@@ -166,7 +171,7 @@ fn taken(alloc: Global, run: &mut Run, checkpoints: &mut List<Checkpoints>) -> N
     }
 }
 
-// Puts this in the place of what is kept of the nodes.
+// Replaces what is kept of the nodes.
 fn put(run: &mut Run, checkpoints: &mut List<Checkpoints>, nodes: Nodes)
     ensures visits { run.new.visits ≡ nodes.visits.items }
     ensures outputs { run.new.outputs ≡ nodes.outputs.items }
@@ -177,7 +182,7 @@ fn put(run: &mut Run, checkpoints: &mut List<Checkpoints>, nodes: Nodes)
     drop(replace(checkpoints, List::from_vec(nodes.checkpoints)));
 }
 
-// A run of which nothing was kept yet, with a counter of its own.
+// Returns a first run, of which nothing is kept yet, with a new counter.
 fn begun<R: Threads + Sync, L: Ledger>(
     rt: &R,
     alloc: Global,

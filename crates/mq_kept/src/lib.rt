@@ -1,4 +1,4 @@
-//! A run that is kept with its rows, so that edits of them do again only what they can touch.
+//! A run that is kept with its rows, so that edits of the rows redo only what they can change.
 #![tactic(auto)]
 
 mod again;

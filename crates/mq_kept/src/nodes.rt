@@ -1,4 +1,4 @@
-// One node of a run that is done again, when all that it reads is done.
+// One node of a run that is redone, once everything that it reads is done.
 ghost use Rattle.std.specs.Borrow.{Bor};
 ghost use Rattle.std.specs.Prelude.{◌≡◌, ◌<◌, ◌≤◌, ◌+◌, ◌∷◌, ◌⊎◌, ◌==◌, ◌&&◌, ◌^◌, [], ℕ, false, true, if◌then◌else◌, length, slice_get, slice_index, Err, IfErr, IfOk, IfSome, None, Ok, OnOk, Some};
 ghost use Rattle.mq_alike.specs.Again.{alike, blocks_in, is_counted};
@@ -42,12 +42,12 @@ use std::alloc::Global;
 use std::sync::ledger::Ledger;
 use std::thread::Threads;
 
-/// The way back to the kept run, behind which a node is worked out.
+/// What is known of the kept run when a node is computed: how to return to it.
 #[derive(Clone, Copy)]
 pub struct FormerRun<'a> {
-    /// How the rows come back to those of it, where a run is kept.
+    /// How the rows return to those of the kept run, if a run is kept.
     pub earlier: Option<&'a FormerRows>,
-    /// How each node comes back to what it had in it, by node.
+    /// For each node, how it is restored to what it had in the kept run.
     pub formers: &'a [Former],
 }
 
@@ -55,21 +55,22 @@ pub struct FormerRun<'a> {
 #[derive(Drop)]
 pub struct NodeRun {
     pub lists: NodeLists,
-    /// How it comes back to what it had before.
+    /// How the node is restored to what it had before.
     pub former: Former,
-    /// How many of its blocks were done again, and how many there are: none of a node whose blocks aren't counted.
+    /// The number of its blocks that were redone, and of all its blocks; both are 0 if the blocks of the node aren't
+    /// counted.
     pub again: u64,
     pub all: u64,
 }
 
-/// Why a node gives nothing, with what it had before.
+/// Why a node gives nothing, and what it had before.
 #[derive(Drop)]
 pub struct NodeRefusal {
     pub fault: RunFault,
     pub lists: NodeLists,
 }
 
-/// What the one node gives that is ready, of which this was kept.
+/// Returns what the one ready node gives, of which `lists` was kept.
 pub fn node_run<R: Threads + Sync, L: Ledger>(
     rt: &R,
     alloc: Global,
@@ -109,7 +110,7 @@ pub fn node_run<R: Threads + Sync, L: Ledger>(
     }
 }
 
-// What a fork or a join gives: what it gave where all that it reads has stayed.
+// Returns what a fork or a join gives: what it gave before, if every node that it reads has stayed as it was.
 fn apart_run<R: Threads + Sync>(
     rt: &R,
     alloc: Global,
@@ -141,7 +142,7 @@ fn apart_run<R: Threads + Sync>(
     changed_run(now, lists, 0, 0)
 }
 
-// Whether a run is kept, in which each port of a node reads the same.
+// Whether a run is kept, and each node that this one reads has what it had.
 fn reads_the_same(past: &FormerRun, node: &Node) -> bool
     requires { (port : ℕ) (input : Port) → slice_get node.now.inputs port ≡ Some input → input.node < length past.now.formers.now }
     ensures kept { result ≡ true → (former : Bor TheFormer) × (past.now.earlier ≡ Some former) }
@@ -159,7 +160,7 @@ fn reads_the_same(past: &FormerRun, node: &Node) -> bool
     true
 }
 
-/// What a node of this kind gives that has no difference: it stays as it is.
+/// Returns what a node of this kind without a difference gives: the node stays as it is.
 pub fn unchanged_run(kind: &Kind, lists: NodeLists, block: u32) -> NodeRun
     requires few { length lists.visits.job ≤ 1048576 }
     requires some { 1 ≤ block }
@@ -179,7 +180,7 @@ pub fn unchanged_run(kind: &Kind, lists: NodeLists, block: u32) -> NodeRun
     }
 }
 
-// What a node gives whose lists were made anew, of whose blocks so many are done again.
+// Returns what a node with new lists gives, and the numbers of redone and of all blocks.
 fn changed_run(
     now: Result<NodeLists, RunFault>,
     lists: NodeLists,
@@ -200,7 +201,7 @@ fn changed_run(
     }
 }
 
-// The lists of a fork or a join, made anew.
+// Computes the lists of a fork or a join.
 fn apart_lists<R: Threads + Sync>(
     rt: &R,
     alloc: Global,
@@ -221,8 +222,8 @@ fn apart_lists<R: Threads + Sync>(
     lists_by(the_only(results), Checkpoints::Nothing)
 }
 
-// What a station gives: a source its lists edited in place, where a run is kept; they are made anew where few visits would stay,
-// or fewer come.
+// Returns what a station gives. The lists of a source are edited in place if a run is kept; they are computed whole if
+// few visits would stay or fewer come.
 fn station_run<R: Threads + Sync, L: Ledger>(
     rt: &R,
     alloc: Global,
@@ -259,7 +260,7 @@ fn station_run<R: Threads + Sync, L: Ledger>(
     }
 }
 
-// How the rows come back to those of the kept run, where a run is kept and the node is a source.
+// Returns how the rows return to those of the kept run, if a run is kept and the node is a source.
 fn edits_of_source<'a>(past: &FormerRun<'a>, kind: &Kind) -> Option<&'a FormerRows>
     ensures { IfSome result (λ former. (kind.now ≡ Source) × (past.now.earlier ≡ Some former)) }
 {
@@ -277,7 +278,8 @@ fn edits_of_source<'a>(past: &FormerRun<'a>, kind: &Kind) -> Option<&'a FormerRo
     }
 }
 
-// What a station gives: where it has a difference its lists are edited in place, or made anew where that can't be.
+// Returns what a station gives. If it has a difference, its lists are edited in place, or replaced if that isn't
+// possible.
 fn whole_run<R: Threads + Sync, L: Ledger>(
     rt: &R,
     alloc: Global,
@@ -345,7 +347,7 @@ fn whole_run<R: Threads + Sync, L: Ledger>(
     changed_run(now, lists, again, all)
 }
 
-// What came to the one station that is ready.
+// Returns what came to the one ready station.
 fn held_at<'a, R: Threads + Sync>(
     rt: &R,
     alloc: Global,
@@ -379,7 +381,7 @@ fn held_at<'a, R: Threads + Sync>(
     })
 }
 
-// How many first visits to a node are the same as the kept ones: none where no run is kept.
+// Returns the number of first visits to a node that are the same as the kept ones: 0 if no run is kept.
 fn alike_at(past: &FormerRun, rows: &Rows, kind: &Kind, lists: &NodeLists, arrivals: &Stream) -> u32
     requires none { past.now.earlier ≡ None → lists.now.visits.job ≡ [] }
     requires earlier { HaveDemands (kept_rows rows.now (earlier_rows rows.now past.now.earlier)) kind.now lists.now.visits.job }
@@ -395,7 +397,8 @@ fn alike_at(past: &FormerRun, rows: &Rows, kind: &Kind, lists: &NodeLists, arriv
     }
 }
 
-// Whether a run is kept in which a node has no difference, of whose visits so many are the same as the kept ones.
+// Whether a run is kept in which a node has no difference, given the number of its visits that are the same as the kept
+// ones.
 fn is_unchanged(past: &FormerRun, same: u32, visits: u32, count: u32) -> bool
     ensures yes { result ≡ true → ((former : Bor TheFormer) × (past.now.earlier ≡ Some former)) × (same ≡ visits) × (same ≡ count) }
     ensures no { result ≡ false → (past.now.earlier ≡ None) ⊎ (((same == visits) && (same == count)) ≡ false) }
@@ -403,15 +406,15 @@ fn is_unchanged(past: &FormerRun, same: u32, visits: u32, count: u32) -> bool
     past.earlier.is_some() && same == visits && same == count
 }
 
-// Whether a run is kept, in which a node of this kind can be edited in place: it doesn't become shorter. Where less than half
-// stays it is made anew, on all workers.
+// Whether a run is kept, a node of this kind can be edited in place, and it doesn't become shorter. If less than half
+// of its visits stay, its lists are computed whole instead; all workers share what follows from the departures.
 fn can_redo_tail(past: &FormerRun, kind: &Kind, same: u32, visits: u32, count: u32) -> bool
     ensures { result ≡ true → ((former : Bor TheFormer) × (past.now.earlier ≡ Some former)) × HasTail kind.now × (visits ≤ count) }
 {
     past.earlier.is_some() && has_tail(kind) && visits <= count && count / 2 <= same
 }
 
-// The lists of a station that is gone through again.
+// Returns the lists of a station that is redone.
 fn worked_lists<R: Threads + Sync, L: Ledger>(
     rt: &R,
     alloc: Global,
@@ -440,7 +443,7 @@ fn worked_lists<R: Threads + Sync, L: Ledger>(
     left_lists(rt, alloc, workers, held, reworked)
 }
 
-// The lists of a station when all its jobs have left.
+// Returns the lists of a station once all its jobs have left.
 fn left_lists<R: Threads + Sync>(
     rt: &R,
     alloc: Global,
@@ -469,7 +472,7 @@ fn left_lists<R: Threads + Sync>(
     lists_by(node_result, checkpoints)
 }
 
-// How a station ended when all its jobs have left.
+// Returns how a station ended once all its jobs have left.
 fn result_of<R: Threads + Sync>(
     rt: &R,
     alloc: Global,
@@ -492,7 +495,7 @@ fn result_of<R: Threads + Sync>(
     Ok(the_only(results))
 }
 
-// The result of the only node.
+// Returns the result of the only node.
 fn the_only(results: List<NodeResult>) -> NodeResult
     requires { length results ≡ 1 }
     ensures { results ≡ result ∷ [] }
@@ -504,7 +507,7 @@ fn the_only(results: List<NodeResult>) -> NodeResult
     result
 }
 
-// The lists of a node that ended so.
+// Returns the lists of a node with this result.
 fn lists_by(node_result: NodeResult, checkpoints: Checkpoints) -> Result<NodeLists, RunFault>
     ensures ends { IfOk result (λ lists. node_result.ending ≡ OnTime lists.visits lists.streams) }
     ensures checkpoints { IfOk result (λ lists. lists.checkpoints ≡ checkpoints) }

@@ -1,4 +1,4 @@
-// What a source gives whose rows were edited: the lists that are kept of it, edited in place.
+// What a source gives whose rows were edited: its kept lists, edited in place.
 ghost use Rattle.std.specs.Prelude.{◌≡◌, ◌+◌, ◌<◌, ◌≤◌, IfErr, IfOk, Some};
 ghost use Rattle.mq_alike.specs.Again.{alike};
 ghost use Rattle.mq_core.specs.Theorems.{IsReadFor};
@@ -25,18 +25,18 @@ use mq_scan::cut;
 use std::alloc::Global;
 use std::mem::replace;
 
-/// What becomes of the lists that are kept of a source.
+/// What becomes of the kept lists of a source.
 #[derive(Drop)]
 pub enum Edited {
     /// They are edited: this is what the source gives.
     Done(NodeRun),
-    /// They are as they were: less than half of the visits would stay, or they would become shorter.
+    /// They are as they were, because less than half of the visits would stay, or the lists would become shorter.
     AsBefore(NodeLists),
 }
 
-/// What a source gives, of which these lists are kept from before edits of rows. Where less than half of the visits come before the rows
-/// that may have changed, or fewer come, nothing is done: to make the lists anew takes no longer. It refuses for want of memory, or
-/// for a visit that departs after the bound; then its lists are as they were.
+/// Returns what a source gives, given the lists that are kept of it from before edits of rows. Does nothing if less
+/// than half of the visits come before the rows that may have changed, or if fewer jobs come now, because that would
+/// save little. Fails if a visit departs after the bound or memory runs out; then the lists are as they were.
 pub fn source_run(
     alloc: Global,
     arriving: &Arriving,
@@ -89,7 +89,7 @@ pub fn source_run(
     }
 }
 
-// What a source gives whose last visits are these.
+// Returns what a source gives, whose last visits are these.
 fn edited_run(
     alloc: Global,
     arriving: &Arriving,

@@ -1,4 +1,4 @@
-// What comes to a source after edits of rows, behind the visits that stay.
+// What comes to a source after edits of rows, following the visits that stay.
 ghost use Rattle.std.specs.Prelude.{◌≡◌, ◌+◌, ◌<◌, ◌≤◌, ◌++◌, ℕ, drop, length, take, IfOk};
 ghost use Rattle.std.specs.List.{AllByRecursion};
 ghost use Rattle.mq_alike.specs.Again.{alike};
@@ -23,17 +23,18 @@ use mq_engine::core_laws;
 use mq_merge::merge_two;
 use std::alloc::Global;
 
-/// What comes to a source after edits of rows: first what came before, up to the first difference, and behind it these.
+/// What comes to a source after edits of rows: what came before, up to the first difference, and then these jobs.
 #[derive(Drop)]
 pub struct SourceTail {
-    /// How many first jobs come as before, at the same times.
+    /// The number of first jobs that come as before, at the same times.
     pub from: usize,
-    /// What comes behind them.
+    /// What comes after those jobs.
     pub arrivals: Stream,
 }
 
-/// What comes to a source after edits of rows, by the lists that are kept of it, where so many of its first visits come before each row
-/// that may have changed. It looks at no row before the first that was edited, and at none of those visits. It refuses for want of memory alone.
+/// Returns what comes to a source after edits of rows, given the lists that are kept of it. The first `first` visits
+/// come before each row that may have changed. Reads no row before the first edited one, and none of those first
+/// visits. Fails only if memory runs out.
 pub fn source_tail(
     alloc: Global,
     former: &FormerRows,
@@ -66,8 +67,8 @@ pub fn source_tail(
     })
 }
 
-/// How many first visits to a source come before each of its rows that may have changed, as it was and as it is. It looks at no row
-/// before the first that was edited, and finds the visits by halves.
+/// Returns the number of first visits to a source that come before each of its rows that may have changed, as it was
+/// and as it is. Reads no row before the first edited one, and finds the visits by binary search.
 pub fn before_changes(former: &FormerRows, rows: &Rows, number: u32, times: &[u64]) -> usize
     requires was { length former.now.rows.source ≡ length former.now.rows.time }
     requires is { length rows.now.source ≡ length rows.now.time }
@@ -89,7 +90,7 @@ pub fn before_changes(former: &FormerRows, rows: &Rows, number: u32, times: &[u6
     earlier_than(times, was.min(is))
 }
 
-// No row of a source among these is earlier: the greatest number where there is none.
+// Returns a time such that no row of a source among these is earlier: the greatest number if the source has none.
 fn least_time(number: u32, source: &[u32], time: &[u64]) -> u64
     requires { length source.now ≡ length time.now }
     ensures { (job : ℕ) → AllByRecursion (λ (p : ℕ × ℕ). result ≤ p.0) (rows_at number job source.now time.now) }
@@ -103,7 +104,7 @@ fn least_time(number: u32, source: &[u32], time: &[u64]) -> u64
     least
 }
 
-// How many first times are earlier than this one.
+// Returns the number of first times that are earlier than this bound.
 fn earlier_than(times: &[u64], bound: u64) -> usize
     requires { Rises (λ a b. a ≤ b) times.now }
     ensures within { result ≤ length times.now }
@@ -113,7 +114,8 @@ fn earlier_than(times: &[u64], bound: u64) -> usize
     times.partition_point(|time| *time < bound)
 }
 
-// What comes to a source behind its first visits: of the others those of rows before this one, and the rows from it on.
+// Returns what comes to a source after its first visits: the other visits whose rows are before this one, and the rows
+// from it on.
 fn arrivals_from(
     alloc: Global,
     row: u32,
@@ -141,7 +143,7 @@ fn arrivals_from(
     arrivals
 }
 
-// The visits behind the first whose jobs are rows before this one.
+// Returns the visits after the first ones whose jobs are rows before this one.
 fn staying_behind(
     alloc: Global,
     row: u32,
@@ -169,7 +171,7 @@ fn staying_behind(
     })
 }
 
-// How many of these jobs, which came at these times, are the first arrivals, at the same times.
+// Returns the number of these jobs, which came at these times, that are also the first arrivals, at the same times.
 fn same_arrivals(jobs: &[u32], times: &[u64], arrivals: &Stream) -> usize
     requires came { length times.now ≡ length jobs.now }
     requires arrivals { length arrivals.now.time ≡ length arrivals.now.job }
@@ -184,7 +186,7 @@ fn same_arrivals(jobs: &[u32], times: &[u64], arrivals: &Stream) -> usize
     both
 }
 
-// A list without its first items. It takes no memory.
+// Returns a list without its first items. Takes no memory.
 fn without_first<T: Copy + Drop>(items: List<T>, count: usize) -> List<T>
     requires { count ≤ length items }
     ensures { result ≡ drop count items }

@@ -1,5 +1,5 @@
-// A station whose arrivals differ from those of the kept run: it keeps the blocks before the first difference, and does
-// the others again.
+// A station whose arrivals differ from those of the kept run: it keeps the blocks before the first difference, and
+// redoes the others.
 ghost use Rattle.std.specs.Prelude.{◌≡◌, ◌+◌, ◌≤◌, Some, length, slice_get, IfOk, OnOk};
 ghost use Rattle.mq_alike.specs.Again.{Coming as TheComing, blocks_in};
 ghost use Rattle.mq_core.specs.Came.{came_in};
@@ -29,23 +29,23 @@ use std::thread::Threads;
 /// What stays of a node's kept run.
 #[derive(Clone, Copy)]
 pub struct Stays<'a> {
-    /// How its kept visits end.
+    /// The fates of its kept visits.
     pub fates: &'a Fates,
     /// What is kept of its blocks.
     pub checkpoints: &'a Checkpoints,
-    /// How many first blocks stay.
+    /// The number of first blocks that stay.
     pub blocks: u32,
 }
 
-/// What is known of a station that was gone through again, when all its jobs have left.
+/// What is known of a station that was redone, once all its jobs have left.
 #[derive(Drop)]
 pub struct Reworked {
     pub completion: Completion,
     pub checkpoints: Checkpoints,
 }
 
-/// What is known of a station that is gone through again behind the blocks that stay. A loss station and a trunk group
-/// are worked out anew, and the jobs of a source depart as they come. It refuses for want of memory alone.
+/// Returns what is known of a station that is redone after the blocks that stay. A loss station and a trunk group are
+/// computed whole, and the jobs of a source depart as they come. Fails only if memory runs out.
 pub fn work_again<R: Threads + Sync, L: Ledger>(
     rt: &R,
     alloc: Global,
@@ -76,7 +76,7 @@ pub fn work_again<R: Threads + Sync, L: Ledger>(
     }
 }
 
-// A server, a tandem or a fork-join.
+// Redoes a server, a tandem or a fork-join.
 fn in_turn_again<R: Threads + Sync, L: Ledger>(
     rt: &R,
     alloc: Global,
@@ -107,7 +107,7 @@ fn in_turn_again<R: Threads + Sync, L: Ledger>(
     }
 }
 
-// A delay.
+// Redoes a delay.
 fn delay_again<R: Threads + Sync, L: Ledger>(
     rt: &R,
     alloc: Global,
@@ -147,7 +147,7 @@ fn delay_again<R: Threads + Sync, L: Ledger>(
     departed(rt, alloc, workers, load, done.times, checkpoints)
 }
 
-// What is known of a station whose jobs depart at these times, in ticks, with its checkpoints.
+// Returns what is known of a station whose jobs depart at these times, in ticks, with its checkpoints.
 fn departed<R: Threads + Sync>(
     rt: &R,
     alloc: Global,
@@ -180,7 +180,7 @@ fn departed<R: Threads + Sync>(
     }
 }
 
-// A split.
+// Redoes a split.
 fn split_again<L: Ledger>(
     alloc: Global,
     load: &Load,
@@ -223,7 +223,7 @@ fn split_again<L: Ledger>(
     })
 }
 
-// A station of whose blocks nothing is kept.
+// Computes a station of whose blocks nothing is kept.
 fn worked_anew<R: Threads + Sync>(
     rt: &R,
     alloc: Global,

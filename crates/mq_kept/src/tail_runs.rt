@@ -1,4 +1,4 @@
-// A server, a tandem or a fork-join of which the first blocks stay: its last visits are edited in place.
+// A server, a tandem or a fork-join whose first blocks stay: its last visits are edited in place.
 ghost use Rattle.std.specs.Prelude.{◌≡◌, ◌+◌, ◌≤◌, length, true, IfErr, IfOk, OnErr, OnOk};
 ghost use Rattle.mq_alike.specs.Again.{blocks_in};
 ghost use Rattle.mq_core.specs.declared.model.Kind.{Kind as TheKind};
@@ -23,7 +23,8 @@ use std::alloc::Global;
 use std::mem::replace;
 use std::sync::ledger::Ledger;
 
-/// Whether a node of this kind can be edited in place behind its first blocks.
+/// Returns whether a node of this kind can be edited in place after its first blocks: a server, a tandem or a
+/// fork-join.
 pub fn has_tail(kind: &Kind) -> bool
     ensures { result ≡ true → HasTail kind.now }
 {
@@ -34,7 +35,8 @@ pub fn has_tail(kind: &Kind) -> bool
     }
 }
 
-/// What such a node gives that is edited in place, of which so many first blocks stay, of whose blocks so many are done again.
+/// Edits such a node in place after its first `first` blocks, and returns what it gives, with the numbers of redone and
+/// of all blocks. Fails if a visit departs after the bound or memory runs out; then its lists are as before.
 pub fn tail_run<L: Ledger>(
     alloc: Global,
     load: &Load,
@@ -66,8 +68,8 @@ pub fn tail_run<L: Ledger>(
     }
 }
 
-// Edits such a node in place, of which so many first blocks stay, and gives what it had before behind them. It refuses where a
-// visit departs after the bound, and for want of memory; then its lists are as before.
+// Edits such a node in place after its first `first` blocks, and returns what it had there. Fails if a visit departs
+// after the bound or memory runs out; then its lists are as before.
 fn tail_again<L: Ledger>(
     alloc: Global,
     load: &Load,
@@ -99,8 +101,8 @@ fn tail_again<L: Ledger>(
     put
 }
 
-// Puts the departures behind so many first blocks in a node that keeps its order, and these checkpoints, and gives what it had
-// before.
+// Puts these departures, after the first `first` blocks, and these checkpoints into a node whose jobs keep their order,
+// and returns what it had before.
 fn tail_put(
     alloc: Global,
     load: &Load,

@@ -1,5 +1,5 @@
-// The last visits to a node whose jobs leave in the order in which they came, by one output: they are edited in place, and
-// put back.
+// The last visits to a node whose jobs leave in the order in which they came, by one output: they are edited in place,
+// and restored.
 ghost use Rattle.std.specs.Prelude.{◌≡◌, ◌++◌, ◌∷◌, ◌≤◌, [], drop, length, map, take, IfErr, IfOk, None, OnErr, OnOk};
 ghost use Rattle.mq_core.specs.Laws.{Rises};
 ghost use Rattle.mq_core.specs.OnceOut.{founds_of};
@@ -24,21 +24,21 @@ use mq_stats::found_piece_in_order;
 use std::alloc::Global;
 use std::mem::replace;
 
-/// The last visits to a node, and what left it of them, as they were before an edit.
+/// The last visits to a node, and what left it of those jobs, as they were before an edit.
 #[derive(Drop)]
 pub struct FormerTail {
-    /// How many visits stand before them.
+    /// The number of visits before them.
     pub from: usize,
     pub job: List<u32>,
-    /// When they came, in ticks.
+    /// When the visits came, in ticks.
     pub arrive: List<u64>,
     pub found: List<u32>,
-    /// When they depart, in ticks.
+    /// When the visits depart, in ticks.
     pub departs: List<u64>,
 }
 
 impl FormerTail {
-    /// Puts them back. It takes no memory.
+    /// Restores these visits. Takes no memory.
     pub fn put_back(&self, alloc: Global, lists: &mut NodeLists)
         requires { IsTailOf self.now lists.old }
         ensures { lists.new ≡ tail_before self.now lists.old }
@@ -52,8 +52,9 @@ impl FormerTail {
     }
 }
 
-/// Puts visits of these jobs, which come and depart at these times, in ticks, in the place of all from `from` on, of which
-/// there are no more. It gives the former ones. Where one departs after the bound, or memory runs out, the lists are as before.
+/// Replaces the visits from `from` on, at most as many as there are new ones, by visits of these jobs, which come and
+/// depart at these times, in ticks. Returns the former visits. Fails if one departs after the bound or memory runs out;
+/// then the lists are as before.
 pub fn edit_tail(
     alloc: Global,
     plan: &Plan,
@@ -97,7 +98,7 @@ pub fn edit_tail(
     }
 }
 
-// The visits from one on, as they are.
+// Returns a copy of the visits from one on.
 fn former_tail(alloc: Global, lists: &NodeLists, from: usize) -> Result<FormerTail, OutOfMemory>
     requires in_turn { AreInTurn lists.now (departures_in lists.now) }
     requires within { from ≤ length lists.now.visits.job }
@@ -132,7 +133,7 @@ fn former_tail(alloc: Global, lists: &NodeLists, from: usize) -> Result<FormerTa
     })
 }
 
-// The items from an index on once more.
+// Returns a copy of the items from an index on.
 fn behind<T: Copy + Drop>(
     alloc: Global,
     items: &List<T>,
@@ -145,8 +146,8 @@ fn behind<T: Copy + Drop>(
     Ok(List::from_vec(last))
 }
 
-// Puts visits of these jobs, which come and depart at these times, in the place of those from one on. Where it refuses, those
-// before that one are as they were.
+// Replaces the visits from one on by visits of these jobs, which come and depart at these times. If it fails, the
+// earlier visits are as they were.
 fn put_tail(
     alloc: Global,
     bound: u64,
@@ -180,7 +181,7 @@ fn put_tail(
     Ok(())
 }
 
-// The same, but for how many jobs each found, late or not.
+// Replaces all but the number of jobs that each visit found, even if a visit departs too late.
 fn put_columns(
     alloc: Global,
     lists: &mut NodeLists,
@@ -201,7 +202,7 @@ fn put_columns(
     put_stream(alloc, &mut lists.streams, from, jobs, departs)
 }
 
-// How many jobs each visit found from one on, of all arrivals and departures, by position.
+// Replaces the number of jobs that each visit from one on found, given all arrivals and departures, by position.
 fn put_founds(
     alloc: Global,
     found: &mut List<u32>,
@@ -223,8 +224,7 @@ fn put_founds(
     found.replace_from(from, last.as_slice())
 }
 
-// Puts these jobs and times in the place of those from one on, in the only stream. Where memory runs out, those before that one
-// are as they were.
+// Replaces the jobs and times from one on in the only stream. If memory runs out, the earlier ones are as they were.
 fn put_stream(
     alloc: Global,
     streams: &mut List<Stream>,
@@ -242,8 +242,7 @@ fn put_stream(
     done
 }
 
-// Puts these jobs and times in the place of those of a stream from one on. Where memory runs out, those before that one are as
-// they were.
+// Replaces the jobs and times from one on in a stream. If memory runs out, the earlier ones are as they were.
 fn put_items(
     stream: &mut Stream,
     from: usize,
@@ -258,7 +257,7 @@ fn put_items(
     stream.time.replace_from(from, times)
 }
 
-// The same without taking memory, where there are as many of them at least.
+// Restores the jobs and times from one on in the only stream, which has at least as many. Takes no memory.
 fn put_stream_back(
     alloc: Global,
     streams: &mut List<Stream>,

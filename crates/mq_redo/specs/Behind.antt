@@ -8,7 +8,7 @@ use Rattle.mq_redo.specs.declared.behind.Last.TheVariants.{All, Copied}
 abbrev pub stream_behind : ℕ → Stream → Stream
 stream_behind from stream = record { job = drop from stream.job; time = drop from stream.time }
 
--- what comes, as a stream
+-- these jobs, as a stream
 abbrev pub stream_in : Last → Stream
 stream_in (All stream) = stream.now
 stream_in (Copied stream) = stream

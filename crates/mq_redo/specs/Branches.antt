@@ -1,11 +1,11 @@
--- The servers of a fork-join in one list, branch after branch, as the rows tell them.
+-- The servers of a fork-join in one list, branch after branch, and what the rows say that jobs ask for there.
 use Rattle.std.specs.Prelude.{Bool, true, false, ℕ, zero, suc, List, [], ◌∷◌, map, replicate}
 use Rattle.std.specs.List.{flat_map}
 use Rattle.mq_core.specs.Handling.{demand_of_job}
 use Rattle.mq_core.specs.declared.model.Demand.{Demand}
 use Rattle.mq_core.specs.declared.model.Rows.{Rows}
 
--- of the servers of a branch of so many, whether each is the first
+-- for each of the servers of a branch, whether it is the first
 abbrev pub begins_with : ℕ → List Bool
 begins_with zero = []
 begins_with (suc n) = true ∷ replicate n false

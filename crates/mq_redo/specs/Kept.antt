@@ -1,4 +1,4 @@
--- What is kept of a node whose jobs are worked block by block, by its kind, and which of its blocks stay.
+-- What is kept of a node whose jobs are computed block by block, for each kind, and which of its blocks stay.
 use Rattle.std.specs.Prelude.{◌≡◌, ◌*◌, ◌≤◌, ℕ, List, fold, length, map, max, replicate, slice_index}
 use Rattle.mq_alike.specs.Again.{Coming, alike}
 use Rattle.mq_core.specs.Handling.{demand_of_job}
@@ -28,7 +28,8 @@ use Rattle.mq_tandem.specs.Rows.{job_matrix, none_kept}
 abbrev pub coming_as : Rows → Stream → Coming
 coming_as rows arrivals = record { rows = rows; job = arrivals.job; arrive = arrivals.time }
 
--- what the job at an index makes of the carry before it: of the last departure from a server, the departure from a delay, the latest departures from the stages of a tandem and the servers of a fork-join, the output of a split
+-- what the job at an index makes of the carry before it: the last departure from a server, the departure from a delay, the latest
+-- departures from the stages of a tandem or the servers of a fork-join, the output of a split
 abbrev pub server_does : Demand → Coming → ℕ → Mp → Mp
 server_does demand came k last = affine_act (job came.arrive (map (demand_of_job came.rows demand) came.job) k) last
 
@@ -44,7 +45,7 @@ forkjoin_does branches came k last = job_run (slice_index came.arrive k) 0 (begi
 abbrev pub split_does : Route → Coming → ℕ → ℕ → ℕ
 split_does route came k last = own_only (output_at route (slice_index (map (route_value came.rows route) came.job) k) k) last
 
--- what is kept of a station to which this comes: the fates of its visits, and the carry behind each block of so many
+-- what is kept of a station to which this comes: the fates of its visits, and the carry after each block of `block` jobs
 abbrev pub IsKeptServer : Demand → Coming → ℕ → List Fate → List Mp → Type 0
 IsKeptServer demand came block fates carries = IsKeptStation mp_or_zero (server_does demand came) Void (length came.arrive) block fates carries
 
@@ -58,16 +59,17 @@ IsKeptTandem stages came block fates carries =
 abbrev pub IsKeptForkJoin : List (List Demand) → Coming → ℕ → List Fate → List (List ℕ) → Type 0
 IsKeptForkJoin branches came block fates carries = IsKeptStation (fold max 0) (forkjoin_does branches came) (replicate 8 0) (length came.arrive) block fates carries
 
--- what is kept of a split to which this comes: the output of each job, and of the last of each block
+-- what is kept of a split to which this comes: the output of each job, and of the last job of each block
 abbrev pub IsKeptSplit : Route → Coming → ℕ → List ℕ → List ℕ → Type 0
 IsKeptSplit route came block outs carries = IsKeptScan as_is (split_does route came) 0 (length came.job) block outs carries
 
--- so many first blocks of a node of this kind stay, to which this came and now comes: all their visits are the same
+-- the first `first` blocks of a node of this kind stay, to which `old` came and `new` comes: all their visits are the same
 pub record IsStaying (kind : Kind) (old new : Coming) (block first : ℕ) : Type 0 where
   pub even : length old.arrive ≡ length old.job
   pub same : first * block ≤ alike kind old new
 
--- an earlier run of a server, a tandem or a fork-join had these fates and carries, and so many first blocks of it stay, where this comes now
+-- an earlier run of a server, a tandem or a fork-join had these fates and carries, and its first `first` blocks stay now that
+-- `new` comes
 abbrev pub IsServerStaying : Demand → Coming → ℕ → ℕ → List Fate → List Mp → Type 0
 IsServerStaying demand new block first fates carries = (old : Coming) × IsKeptServer demand old block fates carries × IsStaying (Server demand) old new block first
 

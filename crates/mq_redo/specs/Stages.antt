@@ -1,4 +1,4 @@
--- What the jobs of a tandem ask for, its places, and the time that is read of the latest departures.
+-- What the jobs of a tandem ask for, its places, and the time read from the latest departures.
 use Rattle.std.specs.Prelude.{ℕ, List, map}
 use Rattle.mq_core.specs.Handling.{demand_of_job}
 use Rattle.mq_core.specs.declared.model.Rows.{Rows}

@@ -6,7 +6,7 @@ use mq_base::{List, OutOfMemory};
 use mq_core::Stream;
 use std::alloc::Global;
 
-/// What comes to a node from some job on: all of a stream, or a copy of its last items.
+/// What comes to a node from some job on: a whole stream, or a copy of its last items.
 #[derive(Drop)]
 pub enum Last<'a> {
     All(&'a Stream),
@@ -14,7 +14,7 @@ pub enum Last<'a> {
 }
 
 impl<'a> Last<'a> {
-    /// It, as a stream.
+    /// Returns these jobs as a stream.
     pub fn stream(&self) -> &Stream
         ensures { result.now ≡ stream_in self.now }
     {
@@ -25,7 +25,7 @@ impl<'a> Last<'a> {
     }
 }
 
-/// The items of a stream from an index on, up to which there are as many. It refuses for want of memory alone.
+/// Returns the items of a stream from an index on, which is at most the stream's length. Fails only if memory runs out.
 pub fn last_of<'a>(alloc: Global, stream: &'a Stream, from: u32) -> Result<Last<'a>, OutOfMemory>
     requires job { from ≤ length stream.now.job }
     requires time { from ≤ length stream.now.time }
@@ -43,8 +43,8 @@ pub fn last_of<'a>(alloc: Global, stream: &'a Stream, from: u32) -> Result<Last<
     }))
 }
 
-/// The carry before the job behind so many first blocks, of which these are the carries, and perhaps of others: where there
-/// is no such block that at the start.
+/// Returns the carry before the first job after the first `first` blocks: the item of `carries` for the last of those
+/// blocks, or `start` if `first` is 0. `carries` may go on with the carries of later blocks.
 pub fn carry_before<C: Copy>(carries: &[C], first: u32, start: C) -> C
     requires { first ≤ length carries.now }
     ensures { slice_get (start ∷ carries.now) first ≡ Some result }

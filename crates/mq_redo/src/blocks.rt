@@ -1,4 +1,4 @@
-// Blocks of a scan that are done again, from the carry behind those that stay.
+// Blocks of a scan that are redone, from the carry after the blocks that stay.
 ghost use Rattle.std.specs.Prelude.{◌≡◌, ℕ, ◌+◌, ◌-◌, ◌*◌, ◌<◌, ◌≤◌, ◌++◌, All, length, map, IfOk, OnOk};
 ghost use Rattle.mq_scan.specs.Folds.{carries_after, fold_to};
 ghost use Rattle.mq_redo.specs.Doing.{AreDone, AreStaying, MayAct};
@@ -11,15 +11,15 @@ use std::sync::ledger::Ledger;
 /// The first blocks of a station's jobs, which are done.
 #[derive(Drop)]
 pub struct Done<C> {
-    /// What is read of the carry after each of their jobs: when the jobs depart, in ticks.
+    /// What is read from the carry after each of their jobs: at a station the job's departure, in ticks.
     pub times: Vec<u64>,
-    /// The carry behind each block.
+    /// The carry after each block.
     pub carries: Vec<C>,
 }
 
-/// The carry after each job of a block that is done again, from one index up to another, where `carry` is the one
-/// before them. There is one job at least, and at most 65,536. It counts one step, also where memory runs out, and
-/// refuses for want of memory alone.
+/// Returns the carry after each job of a block that is redone: the jobs from one index up to another, at least one and
+/// at most 65,536, given the carry before them. Counts one step, even if memory runs out, which is the only way it
+/// fails.
 pub fn redo_block<P: Step, L: Ledger>(
     alloc: Global,
     step: &P,
@@ -39,8 +39,8 @@ pub fn redo_block<P: Step, L: Ledger>(
     Ok(after)
 }
 
-// The carry after each job of a block, from one index up to another, where `carry` is the one before them, on which they may
-// act in turn. It counts one step, also where memory runs out, and refuses for want of memory alone.
+// Returns the carry after each job of a block, from one index up to another, given a carry on which the jobs may act in
+// turn. Counts one step, even if memory runs out, which is the only way it fails.
 fn through_block<P: Step, L: Ledger>(
     alloc: Global,
     step: &P,
@@ -65,7 +65,7 @@ fn through_block<P: Step, L: Ledger>(
     Ok(List::from_vec(after))
 }
 
-// Appends what is read of the carries after jobs.
+// Appends what is read from the carry after each job.
 fn push_read<P: Timed>(
     step: &P,
     after: &List<P::Carry>,
@@ -80,9 +80,9 @@ fn push_read<P: Timed>(
     Ok(())
 }
 
-// All blocks of a cut of a station's jobs, where the first are done and `before` is the carry before all of them: those behind
-// the first are done one after another. Each of these counts one step, also where memory runs out. It refuses for want of
-// memory alone.
+// Does the blocks of a cut of a station's jobs after the first ones, which are done, one after another, and returns all
+// blocks. `before` is the carry before all jobs. Counts one step for each block that it does; if memory runs out, which
+// is the only way it fails, at most that many.
 fn redone<P: Timed, L: Ledger>(
     alloc: Global,
     step: &P,
@@ -111,7 +111,7 @@ fn redone<P: Timed, L: Ledger>(
         Some(carry) => *carry,
         None => before,
     };
-    // Calls of `drop` in place of `?`: each is proved once for a type.
+    // These are calls of `drop` instead of `?`, because a call is proved only once per type.
     'parts: for b in first..count {
         let (from, to) = blocks.range(b);
         let Ok(after) = through_block(alloc, step, from, to, carry, steps) else {
@@ -136,8 +136,8 @@ fn redone<P: Timed, L: Ledger>(
     Ok(Done { times, carries })
 }
 
-/// All blocks of a cut of the last jobs of a station, which are done one after another from the carry before the first of
-/// them. Each counts one step, also where memory runs out. It refuses for want of memory alone.
+/// Returns all blocks of a cut of a station's last jobs, done one after another from the carry before the first of
+/// those jobs. Counts one step for each block; if memory runs out, which is the only way it fails, at most that many.
 pub fn redone_last<P: Timed, L: Ledger>(
     alloc: Global,
     step: &P,
@@ -161,9 +161,10 @@ pub fn redone_last<P: Timed, L: Ledger>(
     redone(alloc, step, blocks, before, Done { times, carries }, steps)
 }
 
-/// All blocks of a cut of a station's jobs, where so many first blocks of an earlier run stay: `times` is what was read
-/// of the carries of their jobs, and `carries` has the carry behind each of them, and perhaps behind others. The blocks
-/// behind them are done again, each with one step, also where memory runs out. It refuses for want of memory alone.
+/// Returns all blocks of a cut of a station's jobs, if the first `first` blocks of an earlier run stay. `times` is what
+/// was read from the carries of the jobs in those blocks, and `carries` begins with the carry after each of those
+/// blocks. The later blocks are redone. Counts one step for each of them; if memory runs out, which is the only way it
+/// fails, at most that many.
 pub fn redone_behind<P: Timed, L: Ledger>(
     alloc: Global,
     step: &P,

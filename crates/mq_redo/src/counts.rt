@@ -1,4 +1,4 @@
-// How many blocks of a node are done again.
+// The number of blocks of a node that are redone.
 ghost use Rattle.std.specs.Prelude.{◌≡◌, ◌==◌, ◌&&◌, ◌+◌, ◌-◌, ◌/◌, ◌≤◌, if◌then◌else◌};
 ghost use Rattle.mq_alike.specs.Again.{blocks_in, is_counted};
 
@@ -17,15 +17,16 @@ fn is_counted(kind: &Kind) -> bool
     }
 }
 
-// Whether so many first visits, which are the same in two runs, are all in both.
+// Whether the first `same` visits, which are the same in two runs, are all visits of both runs.
 fn is_unchanged(same: u32, visits: u32, now: u32) -> bool
     ensures { result ≡ ((same == visits) && (same == now)) }
 {
     same == visits && same == now
 }
 
-/// How many blocks of a node of this kind are done again, and how many it has: 0 of a node whose blocks aren't counted.
-/// So many first visits are the same as in the kept run, in which the node has `visits`.
+/// Returns the number of blocks of a node of this kind that are redone, and the number of all its blocks; both are 0 if
+/// the blocks of this kind aren't counted. The first `same` visits are those of the kept run, in which the node has
+/// `visits`.
 pub fn counted(kind: &Kind, blocks: &Blocks, same: u32, visits: u32) -> (u32, u32)
     requires { same ≤ blocks.now.n }
     ensures again { result.0 ≡ (if is_counted kind.now then (if (same == visits) && (same == blocks.now.n) then 0 else blocks_in blocks.now.block blocks.now.n - same / blocks.now.block) else 0) }
@@ -40,7 +41,7 @@ pub fn counted(kind: &Kind, blocks: &Blocks, same: u32, visits: u32) -> (u32, u3
     (blocks.blocks - same / blocks.block, blocks.blocks)
 }
 
-/// Law. The blocks of a cut are as many as hold its indices. It does nothing when it runs.
+/// Law. A cut has as many blocks as hold its indices. Does nothing when it runs.
 pub fn blocks_hold(blocks: &Blocks)
     ensures { blocks.now.blocks ≡ blocks_in blocks.now.block blocks.now.n }
 {

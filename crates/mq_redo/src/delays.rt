@@ -1,4 +1,4 @@
-// A delay, behind the blocks that stay.
+// A delay, after the blocks that stay.
 ghost use Rattle.std.specs.Prelude.{◌≡◌, ◌+◌, ◌*◌, ◌≤◌, length, map, IfOk, OnOk};
 ghost use Rattle.mq_alike.specs.Again.{Coming as TheComing};
 ghost use Rattle.mq_core.specs.declared.model.Fate.TheVariants.{Departs};
@@ -18,9 +18,9 @@ use mq_scan::Blocks;
 use std::alloc::Global;
 use std::sync::ledger::Ledger;
 
-/// When all jobs depart from a delay, in ticks, and the departure of the last job of each block, where so many first
-/// blocks of an earlier run stay, of which these are the fates and the last departures. It refuses for want of
-/// memory alone.
+/// Returns the departure of each job from a delay, in ticks, and the departure of the last job of each block, if the
+/// first `first` blocks of an earlier run stay. `fates` and `carries` are that run's: the fates of all its visits, and
+/// the last departure of each of its blocks. Fails only if memory runs out.
 pub fn delayed_again<L: Ledger>(
     alloc: Global,
     rows: &Rows,

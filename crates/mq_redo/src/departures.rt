@@ -1,4 +1,4 @@
-// Departures of an earlier run, which stay where its jobs are the same.
+// Departures of an earlier run, which stay if its jobs are the same.
 ghost use Rattle.std.specs.Prelude.{◌≡◌, ◌+◌, ◌*◌, ◌<◌, ◌≤◌, ◌^◌, ◌++◌, ℕ, List as Items, length, map, take, IfOk, OnOk};
 ghost use Rattle.mq_core.specs.declared.model.Fate.TheVariants.{Departs};
 ghost use Rattle.mq_redo.specs.Doing.{AreDone};
@@ -11,8 +11,8 @@ use mq_scan::{Blocks, Timed};
 use std::alloc::Global;
 use std::sync::ledger::Ledger;
 
-// When the first of these visits depart, all of which do, in ticks, with room for so many. It refuses for want of memory
-// alone.
+// Returns the departures of the first `count` of these visits, all of which depart, in ticks, with room for `room`
+// departures. Fails only if memory runs out.
 fn first_departures(
     alloc: Global,
     fates: &Fates,
@@ -33,9 +33,9 @@ fn first_departures(
     Ok(times)
 }
 
-/// When all jobs of a station depart, in ticks, and the carry behind each block of them, where so many first blocks of
-/// an earlier run stay: `fates` and `carries` are those of all its visits and blocks. The other blocks are done again,
-/// each with one step, also where memory runs out. It refuses for want of memory alone.
+/// Returns the departure of each job of a station, in ticks, and the carry after each block, if the first `first`
+/// blocks of an earlier run stay. `fates` and `carries` are those of all that run's visits and blocks. The later blocks
+/// are redone. Counts one step for each of them; if memory runs out, which is the only way it fails, at most that many.
 pub fn departures_behind<P: Timed, L: Ledger>(
     alloc: Global,
     step: &P,
@@ -59,8 +59,8 @@ pub fn departures_behind<P: Timed, L: Ledger>(
     redone_behind(alloc, step, blocks, times, carries, first, steps)
 }
 
-/// When all jobs of a station depart, in ticks: so many first ones as the fates of their visits tell, and those behind them at
-/// these times. It refuses for want of memory alone.
+/// Returns the departure of each job of a station, in ticks: of the first `count` jobs by the fates of their visits,
+/// then `times`. Fails only if memory runs out.
 pub fn all_departures(
     alloc: Global,
     fates: &Fates,
@@ -78,8 +78,8 @@ pub fn all_departures(
     Ok(all)
 }
 
-/// The carry behind each block of a station: of so many first ones as they were kept, and of those behind them as they were done
-/// again. The times stay those behind. It refuses for want of memory alone.
+/// Returns the carry after each block of a station: the first `first` of those that were kept, then those that were
+/// redone. The times stay as they are in `done`. Fails only if memory runs out.
 pub fn all_carries<C: Copy + Drop>(
     alloc: Global,
     kept: &[C],
@@ -106,7 +106,7 @@ pub fn all_carries<C: Copy + Drop>(
     }
 }
 
-// The first carries of these, and others behind them.
+// Returns the first `first` of the kept carries, followed by the last ones.
 fn first_and_last<C: Copy + Drop>(
     alloc: Global,
     kept: &[C],

@@ -1,4 +1,4 @@
-// A fork-join, behind the blocks that stay.
+// A fork-join, after the blocks that stay.
 ghost use Rattle.std.specs.Prelude.{◌≡◌, ◌+◌, ◌*◌, ◌≤◌, ◌++◌, ℕ, List as Items, length, map, take, IfOk, OnOk};
 ghost use Rattle.std.specs.List.{flat_map};
 ghost use Rattle.mq_core.specs.Handling.{demand_of_job};
@@ -23,9 +23,9 @@ use mq_stations::branch_demands;
 use std::alloc::Global;
 use std::sync::ledger::Ledger;
 
-/// When the jobs behind so many first blocks depart from a fork-join, in ticks, and the latest departure from each of its
-/// servers behind each of their blocks, where those first blocks of an earlier run stay, of which these are the latest
-/// departures. Of the other jobs it reads nothing. It refuses for want of memory alone.
+/// Returns the departures of the jobs after the first `first` blocks from a fork-join, in ticks, and after each later
+/// block the latest departure from each server. Those first blocks of an earlier run stay, and `carries` begins with
+/// the latest departures after each of them. Only the later jobs are read. Fails only if memory runs out.
 pub fn branched_behind<L: Ledger>(
     alloc: Global,
     rows: &Rows,
@@ -75,7 +75,7 @@ pub fn branched_behind<L: Ledger>(
     done
 }
 
-// The same, of the jobs behind those blocks and what they ask for.
+// Does the work of `branched_behind` for `behind`, the jobs after those blocks, given what they ask for.
 fn branched_last<L: Ledger>(
     alloc: Global,
     rows: &Rows,
@@ -113,7 +113,7 @@ fn branched_last<L: Ledger>(
     redone_last(alloc, &step, &cut(step.count(), blocks.block), carry, steps)
 }
 
-// Of each server, branch after branch, whether it is the first of its branch.
+// Returns for each server, branch after branch, whether it is the first of its branch.
 fn branch_begins(alloc: Global, branches: &List<List<Demand>>) -> Result<List<bool>, OutOfMemory>
     ensures { IfOk result (λ begins. begins ≡ begins_of branches.now) }
 {
@@ -124,7 +124,7 @@ fn branch_begins(alloc: Global, branches: &List<List<Demand>>) -> Result<List<bo
     Ok(List::from_vec(begins))
 }
 
-// The same of a branch of so many servers, behind the others.
+// Appends for each of the servers of a branch whether it is the first.
 fn push_begins(begins: &mut Vec<bool>, servers: usize) -> Result<(), OutOfMemory>
     ensures { IfOk result (λ _. begins.new.items ≡ begins.old.items ++ begins_with servers) }
 {

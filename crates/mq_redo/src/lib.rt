@@ -1,4 +1,4 @@
-//! The blocks of a station that are done again, behind those of a kept run that stay.
+//! The blocks of a station that are redone, after those of a kept run that stay.
 #![tactic(auto)]
 
 mod behind;

@@ -1,4 +1,4 @@
-// A server, behind the blocks that stay.
+// A server, after the blocks that stay.
 ghost use Rattle.std.specs.Prelude.{◌≡◌, ◌+◌, ◌*◌, ◌≤◌, ◌++◌, ℕ, List as Items, length, map, take, IfOk, OnOk};
 ghost use Rattle.mq_core.specs.declared.model.Fate.{Fate as TheFate};
 ghost use Rattle.mq_core.specs.declared.model.Fate.TheVariants.{Departs};
@@ -18,9 +18,9 @@ use mq_server::ServerStep;
 use std::alloc::Global;
 use std::sync::ledger::Ledger;
 
-/// When the jobs behind so many first blocks depart from a server, in ticks, and the last departure behind each of their
-/// blocks, where those first blocks of an earlier run stay, of which these are the last departures. Of the other jobs it
-/// reads nothing. It refuses for want of memory alone.
+/// Returns the departures of the jobs after the first `first` blocks from a server, in ticks, and the last departure of
+/// each later block. Those first blocks of an earlier run stay, and `carries` begins with the last departure of each of
+/// them. Only the later jobs are read. Fails only if memory runs out.
 pub fn served_behind<L: Ledger>(
     alloc: Global,
     rows: &Rows,

@@ -1,4 +1,4 @@
-// A split, behind the blocks that stay.
+// A split, after the blocks that stay.
 ghost use Rattle.std.specs.Prelude.{◌≡◌, ◌+◌, ◌*◌, ◌<◌, ◌≤◌, ◌^◌, All, length, map, take, IfOk, OnOk};
 ghost use Rattle.mq_alike.specs.Again.{Coming as TheComing};
 ghost use Rattle.mq_core.specs.declared.model.Fate.TheVariants.{Departs};
@@ -28,8 +28,8 @@ pub struct Rerouted {
     pub streams: List<Stream>,
 }
 
-/// What leaves a split, where so many first blocks of an earlier run stay, of which these are the outputs of all jobs and
-/// of the last of each block. It refuses for want of memory alone.
+/// Returns what leaves a split, if the first `first` blocks of an earlier run stay. `outs` and `carries` are that
+/// run's: the outputs of all its jobs, and of the last job of each block. Fails only if memory runs out.
 pub fn routed_again<L: Ledger>(
     alloc: Global,
     rows: &Rows,
@@ -57,7 +57,7 @@ pub fn routed_again<L: Ledger>(
     let values = values_of(alloc, rows, route, arrivals.job.as_slice())?;
     let step = RouteStep::new(route, &values);
     done_are_kept(&step);
-    // Calls of `drop` in place of `?`: each is proved once for a type.
+    // These are calls of `drop` instead of `?`, because a call is proved only once per type.
     let Ok(stay) = first_outs(alloc, outs, first * blocks.block, jobs) else {
         drop(values);
         return Err(OutOfMemory);
@@ -89,7 +89,7 @@ pub fn routed_again<L: Ledger>(
     })
 }
 
-// The first of these outputs, as they are read of carries, with room for so many.
+// Returns the first `count` of these outputs, as wide as they are read from carries, with room for `room` outputs.
 fn first_outs(alloc: Global, outs: &[u8], count: u32, room: u32) -> Result<Vec<u64>, OutOfMemory>
     requires { count ≤ length outs.now }
     ensures { IfOk result (λ first. first.items ≡ take count outs.now) }
@@ -101,7 +101,7 @@ fn first_outs(alloc: Global, outs: &[u8], count: u32, room: u32) -> Result<Vec<u
     Ok(first)
 }
 
-// Outputs that were read of carries, each in a byte.
+// Returns outputs that were read from carries, each in a byte.
 fn narrow_outs(alloc: Global, outs: &[u64]) -> Result<Vec<u8>, OutOfMemory>
     requires { All (λ out. out < 2 ^ 8) outs.now }
     ensures { IfOk result (λ narrow. narrow.items ≡ outs.now) }

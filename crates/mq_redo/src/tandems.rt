@@ -1,4 +1,4 @@
-// A tandem, behind the blocks that stay.
+// A tandem, after the blocks that stay.
 ghost use Rattle.std.specs.Prelude.{◌≡◌, ◌+◌, ◌*◌, ◌≤◌, ◌++◌, ℕ, List as Items, length, map, take, IfOk, OnOk};
 ghost use Rattle.mq_core.specs.Handling.{demand_of_job};
 ghost use Rattle.mq_core.specs.declared.model.Fate.{Fate as TheFate};
@@ -20,9 +20,9 @@ use mq_tandem::{Latest, TandemStep};
 use std::alloc::Global;
 use std::sync::ledger::Ledger;
 
-/// When the jobs behind so many first blocks depart from a tandem, in ticks, and the latest departures from its stages behind
-/// each of their blocks, where those first blocks of an earlier run stay, of which these are the latest departures. Of the
-/// other jobs it reads nothing. It refuses for want of memory alone.
+/// Returns the departures of the jobs after the first `first` blocks from a tandem, in ticks, and after each later
+/// block the latest departures from the stages. Those first blocks of an earlier run stay, and `carries` begins with
+/// the latest departures after each of them. Only the later jobs are read. Fails only if memory runs out.
 pub fn staged_behind<L: Ledger>(
     alloc: Global,
     rows: &Rows,
@@ -72,7 +72,7 @@ pub fn staged_behind<L: Ledger>(
     done
 }
 
-// The same, of the jobs behind those blocks and what they ask for.
+// Does the work of `staged_behind` for `behind`, the jobs after those blocks, given what they ask for.
 fn staged_last<L: Ledger>(
     alloc: Global,
     rows: &Rows,
@@ -110,7 +110,7 @@ fn staged_last<L: Ledger>(
     redone_last(alloc, &step, &cut(step.count(), blocks.block), carry, steps)
 }
 
-// What each stage asks for.
+// Returns what each stage asks for.
 fn stage_demands(alloc: Global, stages: &List<Stage>) -> Result<List<Demand>, OutOfMemory>
     ensures { IfOk result (λ asked. asked ≡ map (λ stage. stage.demand) stages.now) }
 {
@@ -121,7 +121,7 @@ fn stage_demands(alloc: Global, stages: &List<Stage>) -> Result<List<Demand>, Ou
     Ok(asked)
 }
 
-// How many jobs each stage holds.
+// Returns the number of jobs that each stage can hold.
 fn stage_places(alloc: Global, stages: &List<Stage>) -> Result<List<u8>, OutOfMemory>
     ensures { IfOk result (λ places. places ≡ places_of stages.now) }
 {

@@ -5,6 +5,7 @@ mod Putting
 mod Kept
 mod Passing
 mod Begins
+mod Alone
 mod Columns
 mod Mapping
 mod Running

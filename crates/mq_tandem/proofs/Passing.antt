@@ -66,7 +66,7 @@ passing-ends all counts demands many time rows row stage l h =
     sym (take-append-drop row rows) ∙ (sym (ap (λ left. take row rows ++ passed time left (drop stage demands) (drop row rows)) (drop_all stage counts l)) ∙ h.so_far)
 
 -- where what a job makes of the rows fits, so does the end of its service at a stage
-pub served-fits : (all : List Mp) (counts demands : List ℕ) (many : ℕ) (time : Mp) (rows : List Mp) (row stage count demand : ℕ) → slice_get counts stage ≡ Some count → slice_get demands stage ≡ Some demand → 1 ≤ count → ((row : ℕ) → Fits (entry all row)) → Passing all counts demands many time rows row stage →
+pub served-fits : (all : List Mp) (counts demands : List ℕ) (many : ℕ) (time : Mp) (rows : List Mp) (row stage count demand : ℕ) → slice_get counts stage ≡ Some count → slice_get demands stage ≡ Some demand → 1 ≤ count → Fits (entry all row) → Passing all counts demands many time rows row stage →
     Fits (mp_plus (mp_max time (entry rows row)) (At demand))
 served-fits all counts demands many time rows row stage count demand c d some fits h =
     let more = drop (stage + 1) counts in
@@ -80,7 +80,7 @@ served-fits all counts demands many time rows row stage count demand c d some fi
     ap (λ xs. entry xs row) (sym h.so_far ∙ ap (λ xs. take row rows ++ xs) (at-stage counts demands time rows row stage count demand c d))
     ∙ (ap (entry (take row rows ++ (take count (leave ∷ drop row rows) ++ rest))) (let e : row ≡ length (take row rows) + 0 = omega arith in e)
     ∙ (get_or-append-add (take row rows) (take count (leave ∷ drop row rows) ++ rest) 0 Void ∙ first count leave (drop row rows) rest some)) in
-    fits-left (mp_plus (mp_max time (entry rows row)) (At demand)) (room_row more (drop (row + count) rows)) (subst Fits is (fits row))
+    fits-left (mp_plus (mp_max time (entry rows row)) (At demand)) (room_row more (drop (row + count) rows)) (subst Fits is fits)
   where
     first : (count : ℕ) (x : Mp) (xs rest : List Mp) → 1 ≤ count → entry (take count (x ∷ xs) ++ rest) 0 ≡ x
     first zero x xs rest l = absurd (omega arith)
@@ -89,4 +89,4 @@ served-fits all counts demands many time rows row stage count demand c d some fi
 -- and its arrival
 pub came-fits : (all : List Mp) (counts demands : List ℕ) (many : ℕ) (came : Mp) (rows : List Mp) (count demand : ℕ) → slice_get counts 0 ≡ Some count → slice_get demands 0 ≡ Some demand → 1 ≤ count → ((row : ℕ) → Fits (entry all row)) → Passing all counts demands many came rows 0 0 → Fits came
 came-fits all counts demands many came rows count demand c d some fits h =
-    fits-left came (entry rows 0) (fits-before (mp_max came (entry rows 0)) demand (served-fits all counts demands many came rows 0 0 count demand c d some fits h))
+    fits-left came (entry rows 0) (fits-before (mp_max came (entry rows 0)) demand (served-fits all counts demands many came rows 0 0 count demand c d some (fits 0) h))

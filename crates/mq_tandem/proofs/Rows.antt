@@ -15,6 +15,10 @@ pub rows-begin : (places : List ℕ) → 1 ≤ length places → 2 + sum (drop 1
 rows-begin [] l = absurd (omega arith)
 rows-begin (count ∷ more) l = let e = sum-cons 1 more in omega arith
 
+pub zero-some : (places : List ℕ) → 2 ≤ length places → 1 ≤ zero_row places
+zero-some [] l = absurd (omega arith)
+zero-some (count ∷ more) l = let e = sum-cons 1 more in omega arith
+
 pub rows-next : (places : List ℕ) (rows stage count all : ℕ) → slice_get places stage ≡ Some count → rows + sum (drop stage places) ≡ all → rows + count + sum (drop (stage + 1) places) ≡ all
 rows-next places rows stage count all at h =
     let e : sum (drop stage places) ≡ count + sum (drop (stage + 1) places) = ap sum (drop_at places stage count at) ∙ sum-cons count (drop (stage + 1) places) in

@@ -1,4 +1,4 @@
--- Laws that the step's ghost members cite: the sums of a tandem's scan fit a u64.
+-- Laws for the ghost members of the step: the sums of a tandem's scan fit a u64.
 use Rattle.std.proofs.Common.{◌≡◌, ℕ, zero, suc, ◌+◌, ◌-◌, ◌*◌, ◌^◌, ◌<◌, ◌≤◌, List, [], ◌∷◌, ◌++◌, All, get_or, length, take, drop, map, sum, refl, sym, ap, ◌∙◌, subst, arith}
 use Rattle.std.specs.Prelude.{slice_get}
 use Rattle.std.proofs.Math.Seq.{drop-append-add}
@@ -19,7 +19,7 @@ use Rattle.mq_scan.specs.Folds.{span, fold_to}
 use Rattle.mq_tandem.specs.Rows.{kept, zero_row, room_row, passed, job_act, job_matrix, none_kept, IsTandemLoad}
 use Rattle.mq_tandem.specs.Linear.{matrix-acts, length-job}
 
--- One job. No departure is later than what came, or is kept, and the demands.
+-- One job. A departure is at most the latest of the arrival and the kept departures, plus the demands.
 room-within : (more : List ℕ) (rows : List Mp) (b : ℕ) → All (IsWithin b) rows → IsWithin b (room_row more rows)
 room-within [] rows b h = tt
 room-within (count ∷ more) rows b h = entry-within rows (count - 1) b h
@@ -47,7 +47,7 @@ passed-within limit done (count ∷ more) (demand ∷ demands) came rows c h d =
     (All-take (IsWithin all) count (time ∷ rows) (All-cons (IsWithin all) time rows (within-more time (limit + (done + 1) * 2 ^ 36) all (omega arith) now) (all-within rows limit all (omega arith) h)))
     (subst (λ (n : ℕ). All (IsWithin (limit + n * 2 ^ 36)) (passed time more demands (drop count rows))) many (passed-within limit (done + 1) more demands time (drop count rows) now behind (All-tail (λ n. n ≤ 2 ^ 36) demand demands d)))
 
--- what stands behind the departures stays
+-- rows after the departures stay
 passed-behind : (counts demands : List ℕ) (came : Mp) (rows : List Mp) → sum counts ≤ length rows → drop (sum counts) (passed came counts demands rows) ≡ drop (sum counts) rows
 passed-behind [] demands came rows l = refl
 passed-behind (count ∷ more) [] came rows l = refl
@@ -71,7 +71,7 @@ small-demands arrive (column ∷ more) at h =
     first [] k = omega arith
     first (time ∷ times) k = All-head (λ demand. demand ≤ 2 ^ 36) time times k
 
--- What is kept: as many rows as there are, in their limit, and a zero or nothing behind them.
+-- The kept departures: their number, their limit, and a zero or minus infinity in the last row.
 pub record IsKept (places : List ℕ) (limit : ℕ) (rows : List Mp) : Type 0 where
   pub size : length rows ≡ zero_row places + 1
   pub within : All (IsWithin limit) rows
@@ -81,7 +81,7 @@ pub record AreKept (places : List ℕ) (limit : ℕ) (columns : List (List Mp)) 
   pub size : length columns ≡ zero_row places + 1
   pub each : All (IsKept places limit) columns
 
--- as many stages keep departures as there are
+-- one number of kept departures per stage
 pub length-kept : (places : List ℕ) → length (kept places) ≡ length places
 length-kept [] = refl
 length-kept (count ∷ more) = refl
@@ -123,7 +123,7 @@ module _ (arrive : List ℕ) (demands : List (List ℕ)) (places : List ℕ) (lo
       let more : 2 ^ 60 + n * 2 ^ 38 + 2 ^ 38 ≡ 2 ^ 60 + suc n * 2 ^ 38 = omega arith in
       subst (λ (z : ℕ × List Mp). IsKept places z.0 z.1) (λ i. (more i, sym (matrix-acts places arrive demands n (Fold n) before.size) i)) (job-kept n (2 ^ 60 + n * 2 ^ 38) (Fold n) (omega arith) (omega arith) before)
 
-  -- the rows stay as many
+  -- the number of rows stays
   pub folds_size : (rows : ℕ) → rows ≡ zero_row places + 1 → (n : ℕ) → n ≤ length arrive → length (Fold n) ≡ rows
   folds_size rows e n l = (fold-kept n l).size ∙ sym e
 
@@ -169,7 +169,7 @@ module _ (arrive : List ℕ) (demands : List (List ℕ)) (places : List ℕ) (lo
       let more : 2 ^ 60 + suc n * 2 ^ 38 + 2 ^ 38 ≡ 2 ^ 60 + suc (suc n) * 2 ^ 38 = omega arith in
       subst (λ (b : ℕ). AreKept places b (Span from (suc n))) more (then-kept (from + suc n) (2 ^ 60 + suc n * 2 ^ 38) (Span from n) (omega arith) (omega arith) before)
 
-  -- what is kept may act on what is kept
+  -- a matrix within one limit may act on departures within another
   kept-acts : (a b : ℕ) (columns : List (List Mp)) (rows : List Mp) → a + b < 2 ^ 64 → AreKept places a columns → IsKept places b rows → CanMatrixAct columns rows
   kept-acts a b columns rows l h k = may-act a b columns rows l (k.size ∙ sym h.size) (All-weaker (IsKept places a) (All (IsWithin a)) (λ column c. c.within) columns h.each) k.within
 

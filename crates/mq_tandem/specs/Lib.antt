@@ -1,5 +1,6 @@
 pub mod Stages
 pub mod Rows
+pub mod Bare
 pub mod Padded
 pub mod Linear
 pub mod Bounds

@@ -1,4 +1,4 @@
--- Laws that the step's ghost members rest on: what a job makes of what is kept is linear, and so its matrix acts as it does.
+-- Laws for the ghost members of the step: a job acts linearly on the kept departures, so its matrix acts as the job does.
 use Rattle.std.proofs.Common.{◌≡◌, ℕ, zero, suc, ◌+◌, ◌-◌, ◌≤◌, List, [], ◌∷◌, ◌++◌, get_or, length, min, take, drop, map, sum, refl, sym, ap, ◌∙◌, arith}
 use Rattle.std.proofs.lemmas.List.{take-map, drop-map, map-append, length-take, length-drop, length-append}
 use Rattle.mq_base.proofs.lemmas.Lists.{sum-cons}
@@ -80,7 +80,7 @@ passed-plus (count ∷ more) (demand ∷ demands) x c us =
     ∙ ((λ i. take-map (mp_plus x) count (t ∷ us) i ++ passed-plus more demands x t (drop count us) i)
     ∙ sym (map-append (mp_plus x) (take count (t ∷ us)) (passed t more demands (drop count us))))
 
--- the rows stay as many
+-- the number of rows stays
 pub length-passed : (counts demands : List ℕ) (came : Mp) (rows : List Mp) → sum counts ≤ length rows → length (passed came counts demands rows) ≡ length rows
 length-passed [] demands came rows l = refl
 length-passed (count ∷ more) [] came rows l = refl
@@ -111,7 +111,7 @@ module _ (places arrive : List ℕ) (demands : List (List ℕ)) (at : ℕ) where
       ap (λ (came : Mp). passed came (kept places) (firsts (map (drop at) demands)) (vec_plus x us)) (ap (λ (y : Mp). mp_plus y a) (entry-vplus x us z) ∙ plus-assoc x (entry us z) a)
       ∙ passed-plus (kept places) (firsts (map (drop at) demands)) x (mp_plus (entry us z) a) us
 
-  -- its matrix acts as it does
+  -- its matrix acts as the job does
   pub matrix-acts : (rows : List Mp) → length rows ≡ zero_row places + 1 → matrix_act (job_matrix places arrive demands at) rows ≡ Act rows
   matrix-acts rows e = is-matrix (zero_row places + 1) Act act-max act-plus rows (omega arith) e
 

@@ -1,7 +1,7 @@
 -- The stages of a tandem.
 use Rattle.std.specs.Prelude.{◌≡◌, ◌≤◌, All, ℕ, List, length, drop}
 
--- What a tandem can have: 2 to 4 stages, with a list of demands each, and 1 to 4 places at each but the first.
+-- A tandem has 2 to 4 stages, each with a list of demands, and 1 to 4 places at each stage after the first.
 pub record AreStages (places : List ℕ) (demands : List (List ℕ)) : Type 0 where
   pub some : 2 ≤ length places
   pub few : length places ≤ 4

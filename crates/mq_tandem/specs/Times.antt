@@ -1,4 +1,4 @@
--- Laws that the step's ghost members cite: what is kept are times, none minus infinity.
+-- Laws for the ghost members of the step: the kept departures are times, and none is minus infinity.
 use Rattle.std.proofs.Common.{◌≡◌, ℕ, zero, suc, ◌+◌, ◌≤◌, List, [], ◌∷◌, All, get_or, length, take, drop, map, sym, ap, ◌∙◌, subst, arith}
 use Rattle.std.proofs.lemmas.List.Elements.{All-append, All-cons, All-drop, All-get_or, All-replicate, All-take}
 use Rattle.mq_core.specs.Recurrences.{firsts}
@@ -47,7 +47,7 @@ module _ (arrive : List ℕ) (demands : List (List ℕ)) (places : List ℕ) (lo
       subst (All IsTime) (sym (matrix-acts places arrive demands n (Fold n) size))
       (passed-times (kept places) (firsts (map (drop n) demands)) came (Fold n) (plus-time (entry (Fold n) (zero_row places)) (get_or arrive n 0) (All-get_or IsTime (Fold n) (zero_row places) Void (omega arith) before)) before)
 
-  -- the summary of a range acts as its jobs in turn
+  -- the summary of a range acts like its jobs one after another
   span-acts : (from n : ℕ) → matrix_act (Span from n) (Fold from) ≡ Fold (from + n + 1)
   span-acts from zero = let e : suc from ≡ from + 0 + 1 = omega arith in ap Fold e
   span-acts from (suc n) =

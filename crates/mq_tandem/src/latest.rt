@@ -1,4 +1,4 @@
-// The latest departures from the stages of a tandem, as numbers alone.
+// The latest departures from the stages of a tandem, as plain numbers.
 ghost use Rattle.std.specs.Prelude.{◌≡◌, ◌-◌, ◌<◌, ◌≤◌, ◌∷◌, ◌++◌, All, drop, length, replicate, slice_set, take};
 ghost use Rattle.mq_maxplus.specs.declared.mp.Mp.TheVariants.{At};
 ghost use Rattle.mq_maxplus.specs.Matrices.{entry};
@@ -7,9 +7,9 @@ ghost use Rattle.mq_tandem.specs.Rows.{IsTime};
 use mq_maxplus::{Mp, Vector};
 use std::marker::Model;
 
-/// What a job of a tandem leaves to the next: the latest departures from its stages, in ticks, those
-/// of a stage the latest first, and a zero behind them all. They are 1 to 14 numbers, none of which
-/// is minus infinity.
+/// What a job of a tandem leaves to the next job: the latest departures from the stages, in ticks.
+/// Those of a stage come latest first, and a zero follows all of them. They are 1 to 14 numbers, and
+/// none is minus infinity.
 #[derive(Clone, Copy)]
 pub struct Latest {
     rows: u8,
@@ -27,7 +27,7 @@ impl Model for Latest {
 
     ghost view = { λ l. map At (take l.rows l.times) };
 
-    // Behind the last row there are zeros.
+    // Zeros follow the last row.
     ghost invariant = { λ l. ArePadded l.rows l.times };
 
     ghost inverse = { λ xs. record { rows = length xs; times = map mp_or_zero xs ++ replicate (14 - length xs) 0 } };
@@ -36,7 +36,7 @@ impl Model for Latest {
 }
 
 impl Latest {
-    // Zeros in so many rows, 1 to 14.
+    // Returns zeros, in 1 to 14 rows.
     pub(crate) fn zeros(rows: u8) -> Latest
         requires some { 1 ≤ rows }
         requires few { rows ≤ 14 }
@@ -48,7 +48,7 @@ impl Latest {
         }
     }
 
-    // The numbers of a vector, none of which is minus infinity.
+    // Returns the numbers of a vector that has no minus infinity.
     pub(crate) fn of(rows: &Vector) -> Latest
         requires few { length rows.now ≤ 14 }
         requires times { All IsTime rows.now }
@@ -61,7 +61,7 @@ impl Latest {
         all
     }
 
-    /// The same as a vector.
+    /// Returns these departures as a vector, with one entry per row.
     pub fn vector(&self) -> Vector
         ensures same { result ≡ self.now }
         ensures few { length result ≤ 14 }
@@ -89,7 +89,7 @@ impl Latest {
         self.times[row as usize] = time;
     }
 
-    // Puts a departure in front of those of a stage, of which the earliest falls off.
+    // Puts a departure before those of a stage. The earliest of the stage is dropped.
     #[inline]
     pub(crate) fn put(&mut self, row: u8, behind: u8, time: u64)
         requires some { row ≤ behind }

@@ -1,5 +1,5 @@
-//! The tandem: servers in series, each but the first with a number of places, the one in service
-//! among them.
+//! The tandem: servers in series with finite buffers. Each server after the first has a number of
+//! places, one of which is for the job in service.
 #![tactic(auto)]
 
 ghost use Rattle.std.specs.Prelude.{◌≡◌, All, [], length, map, IfOk};
@@ -11,6 +11,7 @@ ghost use Rattle.mq_scan.specs.Folds.{carries_after};
 ghost use Rattle.mq_tandem.specs.Stages.{AreStages};
 ghost use Rattle.mq_tandem.specs.Rows.{job_matrix, kept, last_row, none_kept};
 
+mod both;
 mod latest;
 mod likeness;
 mod runs;
@@ -24,19 +25,19 @@ use mq_scan::scan_times;
 use std::alloc::Global;
 pub use step::TandemStep;
 
-// How many jobs of a scan are a block.
+// How many jobs are in a block of a scan.
 const BLOCK: u32 = 4096;
 
-/// When each job leaves the last stage of a tandem: one departure a job, by position, in ticks.
-/// Each stage serves the jobs one by one in the order of the stream, and a job that is done stays
-/// at its server until the next stage has room for it (production blocking): until the job that
-/// came there as many before it as the stage has places has left. It is a scan of the max-plus
-/// matrices that the jobs make of the latest departures (Greenberg, Lubachevsky and Mitrani, 1991).
+/// Computes when each job leaves the last stage of a tandem: one departure per job, by position, in
+/// ticks. Each stage serves its jobs one at a time, in the order of the stream. A finished job stays
+/// at its server until the next stage has room (production blocking): if that stage has k places,
+/// until the job that came to it k jobs earlier has left. The method is a scan of max-plus matrices,
+/// by which jobs act on the latest departures (Greenberg, Lubachevsky and Mitrani, 1991).
 ///
-/// There is one list of demands a stage, with one demand a job, in ticks of service. `places` says
-/// how many jobs each stage holds, with the one in service: there are 2 to 4 stages, and each after
-/// the first has 1 to 4 places; the first has room for all, and its count isn't looked at. It
-/// refuses for want of memory alone.
+/// `demands` has one list per stage, with one demand per job, in ticks of service. `places` says how
+/// many jobs each stage holds, including the one in service. There are 2 to 4 stages, and each after
+/// the first holds 1 to 4 jobs. The first has room for all jobs, and its number is ignored. The only
+/// error is out of memory.
 pub fn tandem_departures(
     alloc: Global,
     stream: &Stream,
@@ -50,7 +51,7 @@ pub fn tandem_departures(
     scan_times(alloc, &TandemStep::new(stream, demands, places), BLOCK)
 }
 
-/// Law. The carries of the fold of a tandem's jobs, of each the time, are its departures.
+/// Law. The times of the carries, in the fold of a tandem's jobs, are the tandem's departures.
 pub fn carries_hold_departures(step: &TandemStep)
     ensures { map (λ rows. mp_or_zero (entry rows (last_row (kept step.now.places.now)))) (carries_after matrix_act (none_kept step.now.places.now) (job_matrix step.now.places.now step.now.arrive.now step.now.demands.now) 0 (length step.now.arrive.now)) ≡ tandem_departs step.now.places.now (map (λ _. []) step.now.places.now) step.now.arrive.now step.now.demands.now }
 {

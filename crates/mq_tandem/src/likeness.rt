@@ -7,8 +7,8 @@ ghost use Rattle.mq_tandem.specs.Rows.{mp_minus};
 
 use mq_maxplus::{Mp, Vector};
 
-// By how much a vector is above another, where it is by the same number in each row; the number is
-// that of this row.
+// Returns the difference of two vectors, if `high` is above `low` by the same number in each row. The
+// number is read in this row.
 pub(crate) fn rise(low: &Vector, high: &Vector, row: u8) -> Option<u64>
     requires same { length low.now ≡ length high.now }
     requires row { row < length low.now }
@@ -42,7 +42,7 @@ fn is_sum(low: Mp, by: u64, high: Mp) -> bool
     }
 }
 
-// Adds a number in each row.
+// Adds a number to each row.
 pub(crate) fn raise(rows: &mut Vector, by: u64)
     requires { (row : ℕ) → Fits (mp_plus (At by) (entry rows.old row)) }
     ensures raised { rows.new ≡ vec_plus (At by) rows.old }
@@ -53,7 +53,7 @@ pub(crate) fn raise(rows: &mut Vector, by: u64)
     }
 }
 
-// Takes a number away in each row.
+// Subtracts a number from each row.
 pub(crate) fn lower(rows: &mut Vector, by: u64)
     ensures lowered { rows.new ≡ map (mp_minus by) rows.old }
     ensures size { length rows.new ≡ length rows.old }

@@ -1,17 +1,19 @@
-// What runs of jobs make of the columns of a matrix.
-ghost use Rattle.std.specs.Prelude.{◌≡◌, ℕ, ◌+◌, ◌-◌, ◌<◌, ◌≤◌, [], ◌∷◌, ◌++◌, All, drop, length, map, slice_index_or, sum, take};
+// How runs of jobs act on the columns of a matrix.
+ghost use Rattle.std.specs.Prelude.{◌≡◌, ℕ, ◌+◌, ◌-◌, ◌<◌, ◌≤◌, [], ◌∷◌, ◌++◌, All, IfSome, drop, length, map, slice_index_or, sum, take};
 ghost use Rattle.mq_maxplus.specs.Maxplus.{Fits};
 ghost use Rattle.mq_maxplus.specs.Matrices.{entry};
 ghost use Rattle.mq_tandem.specs.Rows.{job_act, ran, room_row, RunFits};
+ghost use Rattle.mq_tandem.specs.Bare.{AreBoth};
 
 use crate::TandemStep;
+use crate::both::Both;
 use crate::likeness::{lower, raise, rise};
 use crate::step::kept_of;
 use mq_base::List;
 use mq_maxplus::{Matrix, Mp, Vector};
 
 impl<'a> TandemStep<'a> {
-    // Lets the job at an index act on a column.
+    // Applies the job at an index to a column.
     fn pass(&self, rows: &mut Vector, at: usize)
         requires inside { at < length self.now.arrive.now }
         requires size { length rows.old ≡ self.now.rows }
@@ -32,7 +34,7 @@ impl<'a> TandemStep<'a> {
         }
     }
 
-    // Lets the jobs of a range act on a column.
+    // Applies the jobs of a range to a column.
     fn run(&self, rows: &mut Vector, from: usize, to: usize)
         requires order { from ≤ to }
         requires inside { to ≤ length self.now.arrive.now }
@@ -46,7 +48,7 @@ impl<'a> TandemStep<'a> {
         }
     }
 
-    // Lets the jobs of a range act on each column of a matrix. There is one at least.
+    // Applies the jobs of a range, at least one, to each column of a matrix.
     pub(crate) fn run_each(&self, all: &mut Matrix, from: usize, to: usize)
         requires some { from < to }
         requires inside { to ≤ length self.now.arrive.now }
@@ -56,16 +58,50 @@ impl<'a> TandemStep<'a> {
         ensures size { length all.new ≡ length all.old }
     {
         let old = *all;
+        let both = self.both_behind(&old, from, to);
         for index in 0..self.rows {
-            let column = self.column_behind(&old, all, index, from, to);
+            let column = self.column_at(&both, &old, all, index, from, to);
             all.set_column(index, &column);
         }
     }
 
-    // What the jobs of a range make of a column of a matrix, where what they make of the earlier ones is
-    // known. Columns that differ by a number do so behind the jobs too: the columns of a tandem's
-    // matrices come to do so after few jobs, all but that of the zero (the memory of a max-plus product
-    // is short), and then no more than two of them have to be gone through.
+    // Returns what the jobs of a range make of a column. For the first and the last column, that may be
+    // known already.
+    fn column_at(
+        &self,
+        both: &Option<Both>,
+        old: &Matrix,
+        now: &Matrix,
+        index: u8,
+        from: usize,
+        to: usize,
+    ) -> Vector
+        requires some { from < to }
+        requires inside { to ≤ length self.now.arrive.now }
+        requires index { index < self.now.rows }
+        requires old { length old.now ≡ self.now.rows }
+        requires now { length now.now ≡ self.now.rows }
+        requires fits { All (RunFits self.now.places.now self.now.arrive.now self.now.demands.now from (to - from)) old.now }
+        requires done { take index now.now ≡ take index (map (ran self.now.places.now self.now.arrive.now self.now.demands.now from (to - from)) old.now) }
+        requires both { IfSome both.now (AreBoth self.now.places.now self.now.arrive.now self.now.demands.now from (to - from) old.now) }
+        ensures acted { result ≡ ran self.now.places.now self.now.arrive.now self.now.demands.now from (to - from) (slice_index_or old.now index []) }
+        ensures size { length result ≡ self.now.rows }
+    {
+        if let Some(both) = both {
+            if index == 0 {
+                return both.first;
+            }
+            if index + 1 == self.rows {
+                return both.zero;
+            }
+        }
+        self.column_behind(old, now, index, from, to)
+    }
+
+    // Returns what the jobs of a range make of a column of a matrix. What they make of the earlier columns
+    // is known. If two columns differ by a number, they still do so after the jobs. In a tandem's matrices
+    // that happens after few jobs, for all columns but that of the zero (the memory of a max-plus product
+    // is short). From then on the jobs go through two columns only.
     fn column_behind(&self, old: &Matrix, now: &Matrix, index: u8, from: usize, to: usize) -> Vector
         requires some { from < to }
         requires inside { to ≤ length self.now.arrive.now }
@@ -95,8 +131,8 @@ impl<'a> TandemStep<'a> {
     }
 }
 
-// When a stage after the first, whose departures begin at a row of a column, has room for one more;
-// behind the last there is always room.
+// Returns when a stage after the first has room for another job. Its departures begin at this row of a
+// column. After the last stage there is always room.
 #[inline]
 fn room_behind(rows: &Vector, places: &List<u8>, stage: usize, row: u8) -> Mp
     requires room { All (λ count. 1 ≤ count) (drop stage places.now) }
@@ -111,7 +147,7 @@ fn room_behind(rows: &Vector, places: &List<u8>, stage: usize, row: u8) -> Mp
     }
 }
 
-// Puts a departure in front of those of a stage, of which the earliest falls off.
+// Puts a departure before those of a stage. The earliest of the stage is dropped.
 #[inline]
 fn put_latest(rows: &mut Vector, row: u8, behind: u8, time: Mp)
     requires some { row ≤ behind }

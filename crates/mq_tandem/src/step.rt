@@ -1,4 +1,4 @@
-// A tandem's jobs, which act on the latest departures one after another.
+// A tandem's jobs as a scan: they act on the latest departures one after another.
 ghost use Rattle.std.specs.Prelude.{◌≡◌, ℕ, ◌+◌, ◌-◌, ◌<◌, ◌≤◌, All, Some, drop, length, slice_get, sum};
 ghost use Rattle.mq_core.specs.Sequences.{IsSoundLoad};
 ghost use Rattle.mq_maxplus.specs.Maxplus.{mp_or_zero, Fits};
@@ -17,25 +17,22 @@ use mq_core::Stream;
 use mq_maxplus::Matrix;
 use mq_scan::{Step, Timed};
 
-// How many jobs a column goes through, at least and at most, before it is looked whether columns have
-// become alike.
-const SHORTEST_RUN: u32 = 16;
+// The least number of jobs in a run. After each run, columns are compared again.
+const SHORTEST_RUN: u32 = 4;
 
-const LONGEST_RUN: u32 = 256;
-
-/// The jobs of a tandem, which act on the latest departures from its stages one after another: on the
-/// last one of the first stage, and on as many of each other as it has places, those of a stage the
-/// latest first, with a zero behind them all. Before the first job each of them is 0. Jobs together
-/// are a matrix (Greenberg, Lubachevsky and Mitrani, 1991).
+/// The jobs of a tandem as a scan. One after another they act on the latest departures: the last one
+/// from the first stage, and from each other stage as many as it has places. Those of a stage come
+/// latest first, and a zero follows all of them. Before the first job each of them is 0. Several jobs
+/// together are a matrix (Greenberg, Lubachevsky and Mitrani, 1991).
 #[derive(Clone, Copy)]
 pub struct TandemStep<'a> {
-    /// When the jobs come, by position, in ticks.
+    /// The arrival time of each job, by position, in ticks.
     pub arrive: &'a List<u64>,
-    /// What they need at each stage, by position, in ticks of service.
+    /// The demands at each stage, by position, in ticks of service.
     pub demands: &'a List<Asked<'a>>,
-    /// How many jobs each stage holds.
+    /// The number of jobs that each stage holds, including the one in service.
     pub places: &'a List<u8>,
-    // How many departures are kept, and the zero.
+    // The number of departures that are kept, plus one for the zero.
     pub(crate) rows: u8,
     // The row of the latest departure from the last stage.
     pub(crate) last: u8,
@@ -47,10 +44,10 @@ pub struct TandemStep<'a> {
 }
 
 impl<'a> TandemStep<'a> {
-    /// The jobs of a stream. There is one list of demands a stage, with one demand a job, in ticks of
-    /// service. `places` says how many jobs each stage holds, with the one in service: there are 2 to
-    /// 4 stages, and each after the first has 1 to 4 places; the first has room for all, and its count
-    /// isn't looked at. It takes no memory.
+    /// Returns the jobs of a stream as a scan. `demands` has one list per stage, with one demand per
+    /// job, in ticks of service. `places` says how many jobs each stage holds, including the one in
+    /// service. There are 2 to 4 stages, and each after the first holds 1 to 4 jobs. The first has room
+    /// for all jobs, and its number is ignored. It takes no memory.
     pub fn new(
         stream: &'a Stream,
         demands: &'a List<Asked<'a>>,
@@ -72,7 +69,7 @@ impl<'a> TandemStep<'a> {
         }
     }
 
-    // Lets the job at an index go through the stages, by the latest departures.
+    // Takes the job at an index through the stages, and updates the latest departures.
     fn serve(&self, latest: &mut Latest, at: usize)
         requires inside { at < length self.now.arrive.now }
         requires size { length latest.old ≡ self.now.rows }
@@ -91,19 +88,19 @@ impl<'a> TandemStep<'a> {
     }
 }
 
-// Where the next run of a range ends. It has as many jobs as all runs before it, 16 at least and 256 at
-// most: columns become alike after few jobs, and then long runs spare looks.
+// Returns where the next run of a range ends. It has as many jobs as all runs before it, and at least 4.
+// After few jobs nearly all columns differ by numbers, and then long runs save comparisons.
 fn run_end(from: u32, at: u32, to: u32) -> u32
     requires begun { from ≤ at }
     requires some { at < to }
     ensures more { at < result }
     ensures within { result ≤ to }
 {
-    let run = (at - from).clamp(SHORTEST_RUN, LONGEST_RUN);
+    let run = (at - from).max(SHORTEST_RUN);
     if to - at < run { to } else { at + run }
 }
 
-// How many departures of all stages are kept, and the zero.
+// Returns the number of departures that are kept, of all stages, plus one for the zero.
 fn rows_of(places: &List<u8>) -> u8
     requires some { 1 ≤ length places.now }
     requires few { length places.now ≤ 4 }
@@ -118,7 +115,7 @@ fn rows_of(places: &List<u8>) -> u8
     rows
 }
 
-// How many departures of a stage are kept.
+// Returns the number of departures of a stage that are kept.
 #[inline]
 pub(crate) fn kept_of(places: &List<u8>, stage: usize) -> u8
     requires { stage < length places.now }
@@ -127,10 +124,10 @@ pub(crate) fn kept_of(places: &List<u8>, stage: usize) -> u8
     if stage == 0 { 1 } else { *places.get(stage) }
 }
 
-// When a stage after the first, whose departures begin at a row, has room for one more; behind the
-// last there is always room.
+// Returns when a stage after the first has room for another job. Its departures begin at `row`. After
+// the last stage there is always room.
 #[inline]
-fn room_at(latest: &Latest, places: &List<u8>, stage: usize, row: u8) -> u64
+pub(crate) fn room_at(latest: &Latest, places: &List<u8>, stage: usize, row: u8) -> u64
     requires room { All (λ count. 1 ≤ count) (drop stage places.now) }
     requires inside { row + sum (drop stage places.now) < length latest.now }
     requires few { length latest.now ≤ 14 }
@@ -192,7 +189,8 @@ impl<'a> Step for TandemStep<'a> {
         Latest::of(&rows)
     }
 
-    // A job's matrix has few entries that aren't void: it acts on the columns as it does on departures.
+    // Most entries of a job's matrix are void, so the job goes through each column as it does through
+    // departures, and no matrix is made of it.
     fn extend(&self, sum: &mut Matrix, from: u32, to: u32)
         requires order { from ≤ to }
         requires inside { to ≤ length self.now.arrive.now }
@@ -229,7 +227,7 @@ impl<'a> Timed for TandemStep<'a> {
 
     ghost can_time = { λ s carry. length carry ≡ s.rows };
 
-    // The latest departure from the last stage.
+    // Returns the latest departure from the last stage.
     fn time(&self, carry: &Latest) -> u64 {
         carry.get(self.last)
     }

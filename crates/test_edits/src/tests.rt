@@ -1,6 +1,6 @@
 // Traces that are run, edited and reported again, over files and sinks in memory.
 use mq_base::OutOfMemory;
-use mq_edit::{EditFault, EditOutcome, OverFault, PastFault, edit_trace};
+use mq_edit::{EditFault, EditOutcome, ModelFault, OverFault, PastFault, TraceFault, edit_trace};
 use mq_outside::{MemFile, MemFiles, MemSink};
 use std::alloc::Global;
 use std::test::Fail;
@@ -12,14 +12,14 @@ const MODEL: &[u8] = b"model 1\nsource src\nserver desk d from src\n";
 
 const TRACE: &[u8] = b"source,time,d\nsrc,0,4\nsrc,1,1\nsrc,2,3\n";
 
-// What the edit `add src 3 2` gives.
+// The report after the edit `add src 3 2`.
 const REPORT: &[u8] = b"mpsim report 2\njobs 4 span 10\n\
     node src source in 4 out 4 lost 0 held 0 wait 0 max 0 p50 0 p90 0 p99 0 busy 0 area 0 peak 0 util -\n\
     node desk server in 4 out 4 lost 0 held 0 wait 11 max 5 p50 3 p90 5 p99 5 busy 10 area 21 peak 4 util 1.0000\n\
     exit desk.0 4 sojourn 21\n\
     again 2 of 2 blocks\n";
 
-// A line, so many times.
+// A line, and how many times it is repeated.
 #[derive(Clone, Copy)]
 struct Repeated<'a> {
     line: &'a [u8],
@@ -31,8 +31,9 @@ const NO_MORE: Repeated<'static> = Repeated {
     count: 0,
 };
 
-// A call: its words; the texts of the model, the trace and the edits, and what comes behind the latter two; and the number of the
-// read that fails, from 1, where of number 0 none does. And how it ends, with its status, and what the two outputs gain.
+// A call: its words; the texts of the model, the trace and the edits, with lines appended to the last two; and the
+// number of the read that fails, from 1, or 0 if none does. Then how it ends: its outcome, its status, and what the two
+// outputs gain.
 #[derive(Clone, Copy)]
 struct Case<'a> {
     words: &'a [&'a str],
@@ -69,7 +70,7 @@ fn push_file(
     Ok(())
 }
 
-// Adds the three files of a call. The answer has the number of the read that fails.
+// Appends the three files of a call. Returns the number of the read that fails.
 fn push_files(
     alloc: Global,
     files: &mut Vec<MemFile>,
@@ -81,8 +82,8 @@ fn push_files(
     Ok(Vec::from_slice(alloc, &[case.read])?)
 }
 
-// Whether the call ends so over these files, where the put of this number on the report's sink fails and the sink then has this.
-// Puts take 16 bytes each, and there is room for all that comes.
+// Whether the call ends as the case says over these files, if the put with this number on the report's sink fails;
+// `written` is what that sink then contains. Puts take 16 bytes each, and there is room for all that comes.
 fn ends_over<R: Threads + Sync>(
     rt: &R,
     alloc: Global,
@@ -104,7 +105,7 @@ fn ends_over<R: Threads + Sync>(
     Ok(so)
 }
 
-// The same over files of its own.
+// Whether the call does so over new files.
 fn ends<R: Threads + Sync>(
     rt: &R,
     alloc: Global,
@@ -127,7 +128,7 @@ fn ends<R: Threads + Sync>(
     }
 }
 
-// Whether each of these calls ends so, where no put fails.
+// Whether each of these calls ends as its case says, if no put fails.
 fn all_end<R: Threads + Sync>(
     rt: &R,
     alloc: Global,
@@ -155,7 +156,7 @@ const ADDED: Case<'static> = Case {
     err: b"",
 };
 
-// Behind 64 bytes it is the rest of the greatest text of edits, which has 16,777,216 bytes.
+// After 64 bytes, the rest of the longest text of edits, which has 16,777,216 bytes.
 const SPACES: Repeated<'static> = Repeated {
     line: b"                                                                ",
     count: 262_143,
@@ -177,12 +178,12 @@ const UNWRITTEN: Case<'static> = Case {
     ..ADDED
 };
 
-// How many bytes stand before each put of the report: 264 before the last line, which is put by itself.
+// The number of bytes before each put of the report: 264 before the last line, which has puts of its own.
 const BEFORE: &[usize] = &[
     0, 16, 32, 48, 64, 80, 96, 112, 128, 144, 160, 176, 192, 208, 224, 240, 256, 264, 280,
 ];
 
-// Whether a first part is written where a put fails, whichever does.
+// Whether a first part of the report is written if a put fails, for each put.
 fn all_puts_fail<R: Threads + Sync>(rt: &R, alloc: Global) -> Result<bool, OutOfMemory> {
     for at in 0..BEFORE.len() {
         let Some(first) = REPORT.get(..BEFORE[at]) else {
@@ -210,7 +211,7 @@ const REFUSED: Case<'static> = Case {
     ..ADDED
 };
 
-// Five forks in a row make 1,024 jobs of one. So 1,025 rows are too many visits.
+// Five forks in a row make 1,024 jobs from one. So 1,025 rows are too many visits.
 const FORKS: &[u8] =
     b"model 2\nsource s\nfork a 4 from s\nfork b 4 from a a.1 a.2 a.3\nfork c 4 from b b.1 b.2 b.3\n\
     fork d 4 from c c.1 c.2 c.3\nfork e 4 from d d.1 d.2 d.3\ndelay w =0 from e e.1 e.2 e.3\n";
@@ -220,7 +221,7 @@ const OVER: OverFault = OverFault {
     count: 1_049_600,
 };
 
-// The trace has so many rows.
+// The trace itself has that many rows.
 const OVER_BEFORE: Case<'static> = Case {
     model: FORKS,
     trace: b"source,time\n",
@@ -285,6 +286,40 @@ const FAULTS: &[Case<'static>] = &[
         err: b"mpedit: cannot read file 3\n",
         ..ADDED
     },
+    // In the model's third line, an input names no node, or there is no input.
+    Case {
+        model: b"model 1\nsource src\nserver desk d from till\n",
+        outcome: EditOutcome::Model(ModelFault::UnknownInput { line: 3, input: 0 }),
+        status: 3,
+        out: b"",
+        err: b"mpedit: model line 3: input 0 unknown\n",
+        ..ADDED
+    },
+    Case {
+        model: b"model 1\nsource src\nserver desk d from\n",
+        outcome: EditOutcome::Model(ModelFault::BadLine { line: 3, word: 5 }),
+        status: 3,
+        out: b"",
+        err: b"mpedit: model line 3: word 5 not allowed\n",
+        ..ADDED
+    },
+    // The header lacks the model's column, or a field of the second record isn't a number.
+    Case {
+        trace: b"source,time,e\nsrc,0,4\n",
+        outcome: EditOutcome::Trace(TraceFault::MissingColumn { column: 0 }),
+        status: 4,
+        out: b"",
+        err: b"mpedit: trace header: column d missing\n",
+        ..ADDED
+    },
+    Case {
+        trace: b"source,time,d\nsrc,0,4\nsrc,1,one\n",
+        outcome: EditOutcome::Trace(TraceFault::BadNumber { row: 2, field: 3 }),
+        status: 4,
+        out: b"",
+        err: b"mpedit: trace record 2: field 3 is not a number in range\n",
+        ..ADDED
+    },
     Case {
         edits: b"\nadd src 3\n",
         outcome: EditOutcome::Edits(EditFault::BadLine { line: 2, word: 4 }),
@@ -312,7 +347,7 @@ const FAULTS: &[Case<'static>] = &[
         err: b"mpedit: edits line 2: not allowed\n",
         ..REFUSED
     },
-    // A byte more than the greatest text.
+    // One byte more than the longest text.
     Case {
         edits: b"add src 3 2                                                      ",
         more_edits: SPACES,
@@ -320,7 +355,7 @@ const FAULTS: &[Case<'static>] = &[
         err: b"mpedit: edits: too long\n",
         ..REFUSED
     },
-    // The desk's last job leaves at 8, and the one that is added at 10.
+    // The desk's last job leaves at 8, and the job that the edit adds at 10.
     Case {
         model: b"model 1\nbound 7\nsource src\nserver desk d from src\n",
         outcome: EditOutcome::Past {
@@ -351,7 +386,7 @@ const FAULTS: &[Case<'static>] = &[
         err: b"mpedit: node desk position 3 passes the bound at time 10 after the edits\n",
         ..ADDED
     },
-    // The trace has too many rows, or it has one and the edits add as many as are too many with it.
+    // The trace has too many rows; or it has one, and the edits add enough to make too many.
     OVER_BEFORE,
     Case {
         more_rows: Repeated {

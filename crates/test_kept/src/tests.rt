@@ -1,4 +1,4 @@
-// Kept runs beside runs from nothing.
+// Compares kept runs with whole runs over the same rows.
 mod calls;
 mod cases;
 mod draws;

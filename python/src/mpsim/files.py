@@ -1,15 +1,25 @@
 """Reads and writes whole files, and prints messages on stderr."""
 
+from __future__ import annotations
+
 import contextlib
+import io
 import os
 import re
 import secrets
 import stat
 import sys
+from typing import TYPE_CHECKING
+
+if TYPE_CHECKING:
+    from collections.abc import Iterable, Iterator, Mapping, Sequence
+    from typing import TextIO
+
+    from .shapes import Path
 
 
 @contextlib.contextmanager
-def named(path):
+def named(path: Path | None) -> Iterator[None]:
     """Adds a file's name to errors raised in the block, which reading and writing leave out."""
     try:
         yield
@@ -21,13 +31,13 @@ def named(path):
         raise
 
 
-def bytes_of(path):
+def bytes_of(path: Path) -> bytes:
     """Returns the bytes of a file or a pipe. Raises OSError with its name."""
     with named(path), open(path, "rb") as file:
         return file.read()
 
 
-def text_of(path):
+def text_of(path: Path) -> str:
     """Returns the text of a model. Bytes in comments that aren't UTF-8 are kept (surrogateescape). Raises OSError with the name, and ValueError for
     invalid bytes elsewhere."""
     text = bytes_of(path).decode("utf-8-sig", "surrogateescape")
@@ -37,53 +47,51 @@ def text_of(path):
     return text
 
 
-_TEXT = {"encoding": "utf-8", "errors": "surrogateescape", "newline": ""}
-
-
-def _is_whole(path):
+def _is_whole(path: Path) -> bool:
     """Returns whether a path is a regular file, existing or not. Pipes, devices and open descriptors are written directly."""
     is_open = os.path.abspath(path).startswith(("/dev/std", "/dev/fd/", "/proc/"))
     return not is_open and (os.path.isfile(path) or not os.path.exists(path))
 
 
-def judge_outputs(outputs, inputs):
+def judge_outputs(outputs: Sequence[str | None], inputs: Mapping[str, Iterable[str | None]]) -> None:
     """Checks the paths of outputs (None if unused) before anything is read or written. `inputs` maps what a file is to its paths (list of str or
     None). Raises ValueError if two outputs go to one file, if an output would overwrite an input under any name, or if a name is empty."""
     if "" in outputs:
         raise ValueError("the name of an output file is empty")
-    outputs = list(filter(None, outputs))
-    if len(set(map(os.path.realpath, outputs))) < len(outputs):
-        raise ValueError(f"{', '.join(outputs)}: two outputs can't go to one file")
-    for path in filter(os.path.isfile, outputs):
-        for what, paths in inputs.items():
-            if any(read and os.path.isfile(read) and os.path.samefile(path, read) for read in paths):
+    paths = [path for path in outputs if path]
+    if len({os.path.realpath(path) for path in paths}) < len(paths):
+        raise ValueError(f"{', '.join(paths)}: two outputs can't go to one file")
+    for path in filter(os.path.isfile, paths):
+        for what, read in inputs.items():
+            if any(it and os.path.isfile(it) and os.path.samefile(path, it) for it in read):
                 raise ValueError(f"{path}: this is the {what}, which is never overwritten")
 
 
 @contextlib.contextmanager
-def all_written(*paths):
+def all_written(*paths: str | None) -> Iterator[list[TextIO | None]]:
     """Opens a file for each of these paths, as `written` does; None for None. The files appear under their names once all are complete."""
     with contextlib.ExitStack() as stack:
-        files = [path and stack.enter_context(written(path)) for path in paths]
+        files = [stack.enter_context(written(path)) if path else None for path in paths]
         yield files
         for path, file in zip(paths, files):
-            with named(path):
-                file and file.flush()
+            if file:
+                with named(path):
+                    file.flush()
 
 
 @contextlib.contextmanager
-def written(path=None):
+def written(path: Path | None = None) -> Iterator[TextIO]:
     """Opens a text file that appears under its name once it is complete. If the block raises an exception, a file of that name stays as it was and
     nothing else is left behind. Without a path it is standard output. Bytes that weren't UTF-8 when read (surrogateescape) are written unchanged."""
     if path is None:
-        with contextlib.suppress(AttributeError):
+        if isinstance(sys.stdout, io.TextIOWrapper):
             sys.stdout.reconfigure(errors="surrogateescape", newline="")
         with named("standard output"):
             yield sys.stdout
             sys.stdout.flush()
     elif not _is_whole(path):
         # Append, so that a redirected /dev/stdout keeps what is already there.
-        with named(path), open(path, "a", **_TEXT) as file:
+        with named(path), open(path, "a", encoding="utf-8", errors="surrogateescape", newline="") as file:
             yield file
     else:
         # A link is kept; its target is written.
@@ -92,20 +100,21 @@ def written(path=None):
         file = None
         try:
             with named(path):
-                file = open(_begun(part, path), "w", **_TEXT)
+                file = open(_begun(part, path), "w", encoding="utf-8", errors="surrogateescape", newline="")
                 yield file
                 file.close()
             os.replace(part, path)
         except BaseException:
             # The file is thrown away, so a failing write doesn't matter.
-            with contextlib.suppress(OSError, AttributeError):
-                file.close()
+            with contextlib.suppress(OSError):
+                if file is not None:
+                    file.close()
             with contextlib.suppress(OSError):
                 os.unlink(part)
             raise
 
 
-def _begun(part, path):
+def _begun(part: str, path: str) -> int:
     """Opens a new file with the permissions of the file that it will replace."""
     try:
         handle = os.open(part, os.O_WRONLY | os.O_CREAT | os.O_EXCL, 0o666)

@@ -1,14 +1,22 @@
 """Passes inputs to a program: files by their paths, everything else through memory, which has a name under /proc."""
 
+from __future__ import annotations
+
 import contextlib
 import csv
 import itertools
 import os
 import re
 from collections.abc import Iterable, Mapping
-from typing import NamedTuple, Tuple
+from typing import TYPE_CHECKING, NamedTuple, Tuple, cast
 
 from .model import Model, columns
+
+if TYPE_CHECKING:
+    from collections.abc import Callable, Iterator, Sequence
+    from typing import BinaryIO
+
+    from .shapes import EditsInput, Frame, ModelInput, Record, TraceInput
 
 
 class Set(NamedTuple):
@@ -25,7 +33,7 @@ class Set(NamedTuple):
     time: int
     values: Tuple[int, ...] = ()
 
-    def __str__(self):
+    def __str__(self) -> str:
         return " ".join(map(str, ("set", _whole(self.record), *_row_of(self))))
 
 
@@ -42,23 +50,23 @@ class Add(NamedTuple):
     time: int
     values: Tuple[int, ...] = ()
 
-    def __str__(self):
+    def __str__(self) -> str:
         return " ".join(map(str, ("add", *_row_of(self))))
 
 
-def _row_of(edit):
+def _row_of(edit: Set | Add) -> list[object]:
     """Returns the words of an edit's row: the source, the time and the values."""
     if isinstance(edit.values, (str, bytes, Mapping)) or not isinstance(edit.values, Iterable):
         raise TypeError(f"the values of an edit are numbers, in the order of the model's columns, not {type(edit.values).__name__}: {edit!r}")
     return [edit.source, _whole(edit.time), *map(_whole, edit.values)]
 
 
-def records_of(lines):
+def records_of(lines: Iterable[str]) -> Iterator[tuple[str, list[str]]]:
     """Yields pairs of a record's text (str), including line ends, and its fields (list of str), from the lines of a trace, starting with the header.
     Empty lines are skipped, as in the program. Raises csv.Error if Python's reader can't parse a field."""
     kept = []
 
-    def each():
+    def each() -> Iterator[str]:
         for line in lines:
             kept.append(line)
             yield line
@@ -72,20 +80,23 @@ def records_of(lines):
 class _Line:
     """Replaces the file of a CSV writer, which then returns the text of a row."""
 
-    write = staticmethod(str)
+    def write(self, text: str) -> str:
+        return text
 
 
-def row_writer():
+def row_writer() -> Callable[[Iterable[object]], str]:
     """Returns a function that makes the text of a CSV row, without its line end. The line end that is cut off makes every version of Python quote
     carriage returns too."""
-    write = csv.writer(_Line, lineterminator="\r\n").writerow
-    return lambda row: write(row)[:-2]
+    write = csv.writer(_Line(), lineterminator="\r\n").writerow
+    return lambda row: str(write(row))[:-2]
 
 
 class Input:
     """A file for a program: a given path, or what `write` puts into a file in memory, which lasts until `close`."""
 
-    def __init__(self, path=None, write=None):
+    _memory: int | None
+
+    def __init__(self, path: str | None = None, write: Callable[[BinaryIO], object] | None = None) -> None:
         self.path, self._memory = path, None
         if write is not None:
             self._memory = os.memfd_create("mpsim")
@@ -97,22 +108,23 @@ class Input:
                 raise
 
     @property
-    def word(self):
+    def word(self) -> str:
         """The name to give to the program. A leading dash would make it an option."""
         if self._memory is not None:
             return f"/proc/self/fd/{self._memory}"
-        return f"./{self.path}" if self.path.startswith("-") else self.path
+        path = self.path or ""
+        return f"./{path}" if path.startswith("-") else path
 
     @property
-    def handles(self):
+    def handles(self) -> list[int]:
         """The open files that the program must inherit: the memory, or the one named by a path such as /dev/fd/63, which a shell makes for
         <(command)."""
         if self._memory is not None:
             return [self._memory]
-        found = re.fullmatch(r"/(?:dev|proc/self)/fd/(\d{1,9})", self.path)
+        found = re.fullmatch(r"/(?:dev|proc/self)/fd/(\d{1,9})", self.path or "")
         return [int(found[1])] if found and int(found[1]) > 2 else []
 
-    def text(self):
+    def text(self) -> str | None:
         """Returns the text (str) if the file can be read again, unlike a pipe; else None. Bytes that aren't UTF-8 are kept (surrogateescape)."""
         with contextlib.suppress(OSError, ValueError):
             if os.path.isfile(self.word):
@@ -120,135 +132,135 @@ class Input:
                     return file.read().removeprefix("\ufeff")
         return None
 
-    def line(self, number):
+    def line(self, number: int) -> str | None:
         """Returns a line of a model or of edits, from 1, or None."""
         text = self.text()
         lines = text.split("\n") if text else []
         return lines[number - 1].removesuffix("\r") if 0 < number <= len(lines) else None
 
-    def _records(self):
+    def _records(self) -> Iterator[tuple[str, list[str]]]:
         """Yields pairs of a record's text and its fields, if the file can be read again."""
         if os.path.isfile(self.word):
             with open(self.word, encoding="utf-8-sig", errors="surrogateescape", newline="") as file:
                 for text, fields in records_of(file):
                     yield text.strip("\r\n"), fields
 
-    def _record(self, number):
+    def _record(self, number: int) -> tuple[str, list[str]] | None:
         with contextlib.suppress(OSError, ValueError, csv.Error):
             return next(itertools.islice(self._records(), number, None), None)
         return None
 
-    def record(self, number):
+    def record(self, number: int) -> str | None:
         """Returns the text of a record of a trace (from 1, the header is 0), or None."""
         found = self._record(number)
         return found and found[0]
 
-    def column(self, field):
+    def column(self, field: int) -> str | None:
         """Returns the name of a column of a trace, from 1, or None."""
         found = self._record(0)
         return found[1][field - 1] if found and field <= len(found[1]) else None
 
-    def close(self):
+    def close(self) -> None:
         """Frees the memory."""
         if self._memory is not None:
             os.close(self._memory)
             self._memory = None
 
 
-def _given(value):
+def _given(value: str | bytes | bytearray | os.PathLike[str]) -> Input:
     """Returns the input for a text, bytes or a path. Texts of models, traces and edits contain a line feed, and paths hardly ever do."""
     if isinstance(value, str) and "\n" in value:
-        return Input(write=lambda file: file.write(value.encode(errors="surrogateescape")))
+        value = value.encode(errors="surrogateescape")
     if isinstance(value, (bytes, bytearray)):
-        return Input(write=lambda file: file.write(value))
+        text = bytes(value)
+        return Input(write=lambda file: file.write(text))
     return Input(os.fsdecode(os.fspath(value)))
 
 
-def _is_given(value):
-    return isinstance(value, (str, bytes, bytearray, os.PathLike))
-
-
-def model_input(value):
+def model_input(value: ModelInput) -> Input:
     """Returns the input for a model: a Model, a text (str with a line feed, or bytes), or a path."""
     return _given(str(value) if isinstance(value, Model) else value)
 
 
-def model_text(value):
+def model_text(value: ModelInput) -> str:
     """Returns the text (str) of a Model, a text, bytes, or a file's path. Raises OSError if the file can't be read."""
     with contextlib.closing(model_input(value)) as given:
         if given.path is not None:
             with open(given.path, encoding="utf-8", errors="surrogateescape", newline="\n") as file:
                 return file.read().removeprefix("\ufeff")
-        return given.text()
+        return given.text() or ""
 
 
-def trace_input(value, model):
+def trace_input(value: TraceInput, model: Input) -> Input:
     """Returns the input for a trace: a path, a text, a data frame, or rows; `model` is an input too. Raises TypeError or ValueError for anything
     else."""
-    if _is_given(value):
+    if isinstance(value, (str, bytes, bytearray, os.PathLike)):
         return _given(value)
     if not isinstance(value, Iterable):
         raise TypeError(f"a trace is a path, a text, a data frame or rows, not {type(value).__name__}")
-    rows = _rows_of_frame(value) if hasattr(value, "columns") else _rows(iter(value), model)
+    rows = _rows_of_frame(cast("Frame", value)) if hasattr(value, "columns") else _rows(iter(cast("Iterable[Record]", value)), model)
     return Input(write=lambda file: _write_rows(file, rows))
 
 
-def edits_input(value):
+def edits_input(value: EditsInput) -> Input:
     """Returns the input for edits: a path, a text, which may be empty, or a list of Set, Add and lines. Raises TypeError for anything else."""
     if isinstance(value, str) and not value:
         return Input(write=lambda file: None)
-    if _is_given(value):
+    if isinstance(value, (str, bytes, bytearray, os.PathLike)):
         return _given(value)
     if isinstance(value, (Set, Add)) or not isinstance(value, Iterable):
         raise TypeError(f"edits are a path, a text, or a list of Set and Add, not {type(value).__name__}")
-    return Input(write=lambda file: file.writelines(f"{item}\n".encode() for item in map(_known_edit, value)))
+    edits = [_known_edit(item) for item in value]
+    return Input(write=lambda file: file.writelines(f"{item}\n".encode() for item in edits))
 
 
-def _known_edit(edit):
+def _known_edit(edit: object) -> Set | Add | str:
     if not isinstance(edit, (Set, Add, str)):
         raise TypeError(f"an edit is a Set, an Add or a line, not {type(edit).__name__}: {edit!r}")
     return edit
 
 
-def _first(names):
+def _first(names: Iterable[str]) -> list[str]:
     """Returns names of columns in the order that the program requires."""
     return ["source", "time"] + [name for name in names if name not in ("source", "time")]
 
 
-def _rows_of_frame(frame):
+def _rows_of_frame(frame: Frame) -> Iterable[Sequence[object]]:
     """Returns the header and the rows of a pandas or polars data frame."""
     names = list(frame.columns)
     for name in "source", "time":
         if name not in names:
             raise ValueError(f"the frame has no column {name!r}: {names}")
-    values = [frame[name] for name in _first(names)]
-    return itertools.chain([_first(names)], zip(*[value.tolist() if hasattr(value, "tolist") else value.to_list() for value in values]))
+    columns = [frame[name] for name in _first(names)]
+    values = [column.tolist() if hasattr(column, "tolist") else column.to_list() for column in columns]
+    return itertools.chain([_first(names)], zip(*values))
 
 
-def _rows(rows, model):
+def _rows(rows: Iterator[Record], model: Input) -> Iterable[Sequence[object]]:
     """Returns the header and the rows of mappings, named tuples, or sequences, whose first may be the header."""
     first = next(rows, None)
     if isinstance(first, Mapping):
-        header = _first(first)
-        return itertools.chain([header], (_of_mapping(it, header, number) for number, it in enumerate(itertools.chain([first], rows), 1)))
-    header = getattr(first, "_fields", None)
+        names = _first(first)
+        every = cast("Iterator[Mapping[str, object]]", itertools.chain([first], rows))
+        return itertools.chain([names], (_of_mapping(it, names, number) for number, it in enumerate(every, 1)))
+    header: Sequence[str] | None = getattr(first, "_fields", None)
     if header is None and (first is None or isinstance(first, str) or list(first[:2]) != ["source", "time"]):
         header = ["source", "time", *columns(model.text() or "")]
-    return itertools.chain([] if header is None else [header], [] if first is None else [first], rows)
+    return itertools.chain([] if header is None else [header], [] if first is None else [first], cast("Iterator[Sequence[object]]", rows))
 
 
-def _of_mapping(row, header, number):
+def _of_mapping(row: Mapping[str, object], header: Sequence[str], number: int) -> list[object]:
     if set(row) != set(header):
         raise ValueError(f"trace record {number} has the columns {list(row)}, but those before it have {header}")
     return [row[name] for name in header]
 
 
-def _whole(value):
+def _whole(value: object) -> object:
     """Converts whole floats to int: one missing value turns a whole column into floats. The program rejects all other floats."""
     return int(value) if isinstance(value, float) and value.is_integer() else value
 
 
-def _write_rows(file, rows):
+def _write_rows(file: BinaryIO, rows: Iterable[Sequence[object]]) -> None:
     text, line_of = _Text(file), row_writer()
     for number, row in enumerate(rows):
         if isinstance(row, (str, bytes)):
@@ -260,14 +272,16 @@ def _write_rows(file, rows):
 class _Text:
     """Collects the texts of rows and writes them in batches."""
 
-    def __init__(self, file):
+    texts: list[str]
+
+    def __init__(self, file: BinaryIO) -> None:
         self.file, self.texts = file, []
 
-    def write(self, text):
+    def write(self, text: str) -> None:
         self.texts.append(text)
         if len(self.texts) == 4096:
             self.flush()
 
-    def flush(self):
+    def flush(self) -> None:
         self.file.write("".join(self.texts).encode(errors="surrogateescape"))
         self.texts.clear()

@@ -1,5 +1,7 @@
 """The lines of a report, except job lines, as named tuples. docs/REPORT.md explains every field."""
 
+from __future__ import annotations
+
 from typing import NamedTuple, Optional
 
 # No job waits or is lost at these.
@@ -24,31 +26,31 @@ class Node(NamedTuple):
     lost: int
     held: Optional[int]
     wait: int
-    max: int
+    max: Optional[int]
     p50: Optional[int]
     p90: Optional[int]
     p99: Optional[int]
     busy: int
     area: int
-    peak: int
+    peak: Optional[int]
     util: Optional[float]
 
     @property
-    def mean_wait(self):
+    def mean_wait(self) -> float | None:
         """The mean wait of the visits that departed (float, ticks), known as Wq; None if none departed."""
         return self.wait / self.out if self.out else None
 
     @property
-    def mean_time(self):
+    def mean_time(self) -> float | None:
         """The mean time in the node of the visits that departed (float, ticks), known as W; None if none departed or some are held."""
         return self.area / self.out if self.out and not self.held else None
 
     @property
-    def share_lost(self):
+    def share_lost(self) -> float | None:
         """The share of the visits that were lost (float); None if there were none."""
         return self.lost / self.in_ if self.in_ else None
 
-    def figure(self, name):
+    def figure(self, name: str) -> int | float | None:
         """Returns a figure (int, float or None) by its name (str): a field of the line, such as "p90" or "in", or `mean_wait`, `mean_time` or
         `share_lost`. Raises AttributeError for another name.
 
@@ -59,10 +61,16 @@ class Node(NamedTuple):
         """
         if name not in FIGURES:
             raise AttributeError(f"a node has no figure {name!r}: it has {', '.join(FIGURES)}")
-        return getattr(self, "in_" if name == "in" else name)
+        value: int | float | None = getattr(self, "in_" if name == "in" else name)
+        return value
 
-    def line(self):
-        """Returns the line of the report (str), without its line feed."""
+    def line(self) -> str:
+        """Returns the line of the report (str), without its line feed.
+
+        >>> import mpsim
+        >>> mpsim.run("model 1\\nsource door\\n", [("door", 3)])["door"].line()[:36]
+        'node door source in 1 out 1 lost 0 h'
+        """
         words = (f"{word} {value}" for word, value in zip(NUMBERS, self[2:-1]) if value is not None)
         return f"node {self.name} {self.kind} {' '.join(words)} util {'-' if self.util is None else f'{self.util:.4f}'}"
 
@@ -75,7 +83,13 @@ FIGURES = [*NUMBERS, "mean_wait", "mean_time", "share_lost"]
 
 class Exit(NamedTuple):
     """An `exit` line: the node (str) and its output (int) that no node reads, the number of jobs that left there (int), and the sum of their times in
-    the network (int, ticks)."""
+    the network (int, ticks).
+
+    >>> import mpsim
+    >>> report = mpsim.run("model 1\\nsource door\\nserver desk =4 from door\\n", [("door", 0), ("door", 1)], jobs=True)
+    >>> report.exits[0]
+    Exit(name='desk', output=0, jobs=2, sojourn=11)
+    """
 
     name: str
     output: int
@@ -84,7 +98,12 @@ class Exit(NamedTuple):
 
 
 class Again(NamedTuple):
-    """The last line of an edited report: how many of all blocks were computed again (int)."""
+    """The last line of an edited report: how many of all blocks were computed again (int).
+
+    >>> import mpsim
+    >>> mpsim.edit("model 1\\nsource door\\nserver desk =4 from door\\n", [("door", 0)], [mpsim.Add("door", 9)]).again
+    Again(done=2, blocks=2)
+    """
 
     done: int
     blocks: int

@@ -1,30 +1,42 @@
 """Models: a builder that writes their text, texts that differ in values, and the nodes and columns in a text. The programs check models."""
 
+from __future__ import annotations
+
 import itertools
 import re
-from typing import NamedTuple, Tuple
+from typing import TYPE_CHECKING, NamedTuple, Tuple
+
+if TYPE_CHECKING:
+    from collections.abc import Hashable, Iterable, Sequence
 
 
 class Output:
-    """An output of a node, to be read by another node: `node[1]` is output 1 of the node whose output this is."""
+    """An output of a node, to be read by another node: `node[1]` is output 1 of the node whose output this is.
 
-    def __init__(self, name, number=0):
+    >>> import mpsim
+    >>> model = mpsim.Model()
+    >>> desk = model.loss("desk", 2, "talk", model.source("phone"))
+    >>> print(desk, desk[1])
+    desk desk.1
+    """
+
+    def __init__(self, name: str, number: int = 0) -> None:
         self.name, self.number = name, number
 
-    def __getitem__(self, number):
+    def __getitem__(self, number: int) -> Output:
         return Output(self.name, number)
 
     # An output isn't a sequence of outputs.
     __iter__ = None
 
-    def __str__(self):
+    def __str__(self) -> str:
         return f"{self.name}.{self.number}" if self.number else self.name
 
-    def __repr__(self):
+    def __repr__(self) -> str:
         return f"<Output {self.name}.{self.number}>"
 
 
-def _demand(value):
+def _demand(value: str | int) -> str:
     """Returns a service time as a model writes it: a column's name, or a number of ticks."""
     return value if isinstance(value, str) else f"={value}"
 
@@ -50,32 +62,60 @@ class Model:
     delay later =60 from desk.1
     """
 
-    def __init__(self, bound=None):
+    def __init__(self, bound: int | None = None) -> None:
         self._lines, self._version = [] if bound is None else [f"bound {bound}"], 1
 
-    def _add(self, kind, name, arguments, inputs, version=1):
+    def _add(self, kind: str, name: str, arguments: Iterable[object], inputs: Sequence[Output | str], version: int = 1) -> Output:
         self._version = max(self._version, version)
         words = [kind, name, *arguments, *(["from", *inputs] if inputs else [])]
         self._lines.append(" ".join(map(str, words)))
         return Output(name)
 
-    def source(self, name):
-        """Adds a source: the records of the trace that name it."""
+    def source(self, name: str) -> Output:
+        """Adds a source: the records of the trace that name it.
+
+        >>> import mpsim
+        >>> model = mpsim.Model()
+        >>> node = model.source("phone")
+        >>> str(model).splitlines()[-1]
+        'source phone'
+        """
         return self._add("source", name, [], [])
 
-    def server(self, name, demand, *inputs):
-        """Adds a single server, first come, first served."""
+    def server(self, name: str, demand: str | int, *inputs: Output | str) -> Output:
+        """Adds a single server, first come, first served.
+
+        >>> import mpsim
+        >>> model = mpsim.Model()
+        >>> node = model.server("desk", "talk", model.source("phone"))
+        >>> str(model).splitlines()[-1]
+        'server desk talk from phone'
+        """
         return self._add("server", name, [_demand(demand)], inputs)
 
-    def delay(self, name, demand, *inputs):
-        """Adds a delay: each job is served from its arrival on, without waiting."""
+    def delay(self, name: str, demand: str | int, *inputs: Output | str) -> Output:
+        """Adds a delay: each job is served from its arrival on, without waiting.
+
+        >>> import mpsim
+        >>> model = mpsim.Model()
+        >>> node = model.delay("walk", 60, model.source("phone"))
+        >>> str(model).splitlines()[-1]
+        'delay walk =60 from phone'
+        """
         return self._add("delay", name, [_demand(demand)], inputs)
 
-    def loss(self, name, places, demand, *inputs):
-        """Adds a single server with this many places, including the one in service. Output 1 has the lost jobs."""
+    def loss(self, name: str, places: int, demand: str | int, *inputs: Output | str) -> Output:
+        """Adds a single server with this many places, including the one in service. Output 1 has the lost jobs.
+
+        >>> import mpsim
+        >>> model = mpsim.Model()
+        >>> node = model.loss("desk", 2, "talk", model.source("phone"))
+        >>> str(model).splitlines()[-1]
+        'loss desk 2 talk from phone'
+        """
         return self._add("loss", name, [places, _demand(demand)], inputs)
 
-    def tandem(self, name, first, *stages_and_inputs):
+    def tandem(self, name: str, first: str | int, *stages_and_inputs: tuple[int, str | int] | Output | str) -> Output:
         """Adds servers in series with blocking: the service time of the first, a pair of places and service time for each other one, then the inputs.
 
         >>> import mpsim
@@ -87,10 +127,10 @@ class Model:
         stages = [stages_and_input for stages_and_input in stages_and_inputs if isinstance(stages_and_input, tuple)]
         arguments = [_demand(first)]
         for places, demand in stages:
-            arguments += ["/", places, _demand(demand)]
+            arguments += ["/", str(places), _demand(demand)]
         return self._add("tandem", name, arguments, [item for item in stages_and_inputs if not isinstance(item, tuple)])
 
-    def forkjoin(self, name, branches, *inputs):
+    def forkjoin(self, name: str, branches: Iterable[Iterable[str | int]], *inputs: Output | str) -> Output:
         """Adds a fork-join station: a job goes through all branches at once; a branch is a list of service times.
 
         >>> import mpsim
@@ -102,7 +142,9 @@ class Model:
         arguments = [word for branch in branches for word in ["|", *map(_demand, branch)]]
         return self._add("forkjoin", name, arguments[1:], inputs)
 
-    def split(self, name, *inputs, turn=None, mod=None, cut=None):
+    def split(
+        self, name: str, *inputs: Output | str, turn: int | None = None, mod: tuple[int, str] | None = None, cut: Sequence[str | int] | None = None
+    ) -> Output:
         """Adds a split, which sends each job to one output: by `turn=outputs`, by `mod=(outputs, column)`, or by `cut=(column, threshold, ..)`.
         Raises TypeError unless exactly one of them is given.
 
@@ -114,26 +156,51 @@ class Model:
         """
         if sum(item is not None for item in (turn, mod, cut)) != 1:
             raise TypeError("a split takes one of turn, mod and cut")
-        arguments = [turn, "turn"] if turn is not None else ["cut", *cut] if cut is not None else [mod[0], "mod", mod[1]]
+        if mod is not None:
+            arguments: list[object] = [mod[0], "mod", mod[1]]
+        else:
+            arguments = [turn, "turn"] if cut is None else ["cut", *cut]
         return self._add("split", name, arguments, inputs)
 
-    def fork(self, name, outputs, *inputs):
-        """Adds a fork: each job continues on each of this many outputs."""
+    def fork(self, name: str, outputs: int, *inputs: Output | str) -> Output:
+        """Adds a fork: each job continues on each of this many outputs.
+
+        >>> import mpsim
+        >>> model = mpsim.Model()
+        >>> node = model.fork("parts", 2, model.source("orders"))
+        >>> str(model).splitlines()[-1]
+        'fork parts 2 from orders'
+        """
         return self._add("fork", name, [outputs], inputs, 2)
 
-    def join(self, name, *inputs):
-        """Adds a join: it keeps each part of a job until a part has arrived at each input."""
+    def join(self, name: str, *inputs: Output | str) -> Output:
+        """Adds a join: it keeps each part of a job until a part has arrived at each input.
+
+        >>> import mpsim
+        >>> model = mpsim.Model()
+        >>> parts = model.fork("parts", 2, model.source("orders"))
+        >>> whole = model.join("whole", parts, parts[1])
+        >>> str(model).splitlines()[-1]
+        'join whole from parts parts.1'
+        """
         return self._add("join", name, [], inputs, 2)
 
-    def trunk(self, name, servers, demand, *inputs):
-        """Adds a trunk group with this many servers and no queue. Output 1 has the lost jobs."""
+    def trunk(self, name: str, servers: int, demand: str | int, *inputs: Output | str) -> Output:
+        """Adds a trunk group with this many servers and no queue. Output 1 has the lost jobs.
+
+        >>> import mpsim
+        >>> model = mpsim.Model()
+        >>> node = model.trunk("lines", 20, "talk", model.source("phone"))
+        >>> str(model).splitlines()[-1]
+        'trunk lines 20 talk from phone'
+        """
         return self._add("trunk", name, [servers, _demand(demand)], inputs, 2)
 
-    def __str__(self):
+    def __str__(self) -> str:
         return "".join(f"{line}\n" for line in [f"model {self._version}", *self._lines])
 
 
-def variants(text, **values):
+def variants(text: str, **values: Iterable[Hashable]) -> dict[Hashable, str]:
     """Returns models that differ in values: a dict of texts (str), one per combination, in which `{name}` is replaced as by `str.format`. The keys
     are the values, or tuples of them if there are several names. Raises KeyError for a name without values.
 
@@ -142,7 +209,7 @@ def variants(text, **values):
     >>> list(models), models[21].splitlines()[-1]
     ([20, 21, 22], 'trunk lines 21 hold from calls')
     """
-    found = {}
+    found: dict[Hashable, str] = {}
     for combination in itertools.product(*values.values()):
         key = combination[0] if len(combination) == 1 else combination
         found[key] = text.format(**dict(zip(values, combination)))
@@ -160,10 +227,15 @@ _COLUMNS = {
 }
 
 
-def columns(text):
+def columns(text: str) -> list[str]:
     """Returns the columns that a model names (list of str), in the order in which it first names them. Values of a record in an edit, and of a row
-    without a header, have the same order."""
-    found = {}
+    without a header, have the same order.
+
+    >>> from mpsim.model import columns
+    >>> columns("model 1\\nsource door\\nserver desk talk from door\\ndelay walk =60 from desk\\nserver till pay from walk\\n")
+    ['talk', 'pay']
+    """
+    found: dict[str, None] = {}
     for line in text.split("\n"):
         words = line.split()
         arguments = words[2 : words.index("from") if "from" in words else len(words)]
@@ -186,9 +258,14 @@ class ModelNode(NamedTuple):
     inputs: Tuple[Tuple[str, int], ...]
 
 
-def nodes_of(text):
+def nodes_of(text: str) -> list[ModelNode]:
     """Returns the nodes of a model that mpsim accepts (list of ModelNode), in the order of its lines. For another text the result is undefined, or it
-    raises ValueError."""
+    raises ValueError.
+
+    >>> from mpsim.model import nodes_of
+    >>> nodes_of("model 1\\nsource door\\nserver desk talk from door\\n")[1]
+    ModelNode(name='desk', kind='server', arguments='talk', outputs=1, inputs=(('door', 0),))
+    """
     nodes = []
     for line in text.split("\n"):
         words = line.split()
@@ -204,7 +281,7 @@ def nodes_of(text):
     return nodes
 
 
-def _outputs(kind, arguments):
+def _outputs(kind: str, arguments: Sequence[str]) -> int:
     if kind in ("loss", "trunk"):
         return 2
     if kind in ("fork", "split") and arguments:
@@ -214,7 +291,7 @@ def _outputs(kind, arguments):
     return 1
 
 
-def sources(text):
+def sources(text: str) -> list[str]:
     """Returns the sources that a model declares (list of str), in the order of their lines, which decides between records at equal times.
 
     >>> sources("model 1\\nsource phone\\nserver desk talk from phone web\\nsource web\\n")
@@ -223,12 +300,16 @@ def sources(text):
     return [words[1] for words in map(str.split, text.split("\n")) if words[:1] == ["source"] and len(words) > 1]
 
 
-def lines_of(text):
+def lines_of(text: str) -> list[str]:
     """Returns the lines (list of str) of a model that aren't comments."""
     return [part for part in text.removeprefix("\ufeff").split("\n") if not part.lstrip(" \t").startswith("#")]
 
 
-def in_braces(text):
+def in_braces(text: str) -> re.Match[str] | None:
     """Returns the first name in braces (a match, with the name as its group) in a model, such as `{agents}` or `{agents:d}`, which sweeps fill in; or
-    None."""
+    None.
+
+    >>> in_braces("model 2\\nsource calls\\ntrunk lines {agents} talk from calls\\n")[1]
+    'agents'
+    """
     return re.search(r"\{([A-Za-z_]\w*)[^{}]*\}", "\n".join(lines_of(text)), re.ASCII)

@@ -1,7 +1,13 @@
 """Makes names that models allow from the texts of an export: a lower-case letter, then lower-case letters, digits and underscores, at most 32."""
 
+from __future__ import annotations
+
 import re
 import unicodedata
+from typing import TYPE_CHECKING
+
+if TYPE_CHECKING:
+    from collections.abc import Collection
 
 # Letters that Unicode doesn't decompose into a letter and a mark.
 _LETTERS = {"ß": "ss", "æ": "ae", "œ": "oe", "ø": "o", "ł": "l", "đ": "d", "ð": "d", "þ": "th", "ı": "i", "&": " and ", "%": " percent "}
@@ -15,12 +21,16 @@ TAKEN = "from", "source", "time"
 OTHER = "name"
 
 
-def is_name(text):
-    """Returns whether a text may name a source or a column."""
+def is_name(text: str) -> bool:
+    """Returns whether a text may name a source or a column.
+
+    >>> is_name("desk_2"), is_name("Desk"), is_name("time")
+    (True, False, False)
+    """
     return bool(re.fullmatch(r"[a-z][a-z0-9_]{0,31}", text)) and text not in TAKEN
 
 
-def name_for(text, taken=(), numbers=None):
+def name_for(text: str, taken: Collection[str] = (), numbers: dict[str, int] | None = None) -> str:
     """Returns a name that resembles a text and isn't among those taken. `numbers` (dict) remembers, between calls, the last number of each name.
 
     >>> name_for("Verkauf & Büro"), name_for("24h"), name_for("Büro", ["buro"]), name_for("Продажи"), name_for("客服")
@@ -37,12 +47,12 @@ def name_for(text, taken=(), numbers=None):
     return _numbered(base, 2, taken, numbers) if name in taken else name
 
 
-def _letter(item):
+def _letter(item: str) -> str:
     """Returns a letter in Latin ones, without the accent of a Greek or Cyrillic one; others as they are."""
     return _LETTERS.get(item, _LETTERS.get(unicodedata.normalize("NFD", item)[0], item))
 
 
-def _numbered(base, first, taken, numbers):
+def _numbered(base: str, first: int, taken: Collection[str], numbers: dict[str, int] | None) -> str:
     """Returns the first name with a number, from `first`, that isn't taken."""
     numbers = {} if numbers is None else numbers
     number = numbers.get(base, first - 1)
@@ -54,6 +64,6 @@ def _numbered(base, first, taken, numbers):
             return name
 
 
-def is_like(text, name):
+def is_like(text: str, name: str) -> bool:
     """Returns whether a name shows its text."""
     return not name.startswith(f"{OTHER}_") or not name_for(text).startswith(f"{OTHER}_")

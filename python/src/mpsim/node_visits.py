@@ -1,8 +1,16 @@
 """The visits of a run, as arrays per node, with their percentiles and service levels."""
 
+from __future__ import annotations
+
 from array import array
 from fractions import Fraction
-from typing import NamedTuple, Optional
+from typing import TYPE_CHECKING, Dict, NamedTuple, Optional
+
+if TYPE_CHECKING:
+    import numpy
+    import pandas
+    from collections.abc import Iterator, Sequence
+    from typing import Any
 
 # Values of the wait and the departure of a visit without them. ENDS says how it ended.
 LOST, HELD = -1, -2
@@ -12,7 +20,13 @@ FIELDS = "job", "arrive", "wait", "depart"
 
 class Visit(NamedTuple):
     """A `job` line of a report: the job's record (int, from 1), the node (str), and times in ticks (int). `end` is "left", "lost" or "held"; `wait`
-    and `depart` are None unless it is "left"."""
+    and `depart` are None unless it is "left".
+
+    >>> import mpsim
+    >>> report = mpsim.run("model 1\\nsource door\\nserver desk =4 from door\\n", [("door", 0), ("door", 1)], jobs=True)
+    >>> list(report.visits["desk"])[1]
+    Visit(job=2, node='desk', arrive=1, wait=3, depart=8, end='left')
+    """
 
     job: int
     node: str
@@ -35,32 +49,52 @@ class NodeVisits:
     ([0, 3, -1], ['left', 'left', 'lost'])
     """
 
+    node: str
+    job: array[int]
+    arrive: array[int]
+    wait: array[int]
+    depart: array[int]
+
     __slots__ = ("node", *FIELDS)
 
-    def __init__(self, node):
+    def __init__(self, node: str) -> None:
         self.node, self.job = node, array("i")
         self.arrive, self.wait, self.depart = array("q"), array("q"), array("q")
 
-    def __len__(self):
+    def __len__(self) -> int:
         return len(self.job)
 
-    def __iter__(self):
+    def __iter__(self) -> Iterator[Visit]:
         for job, arrive, wait, depart in zip(self.job, self.arrive, self.wait, self.depart):
             if wait >= 0:
                 yield Visit(job, self.node, arrive, wait, depart, "left")
             else:
                 yield Visit(job, self.node, arrive, None, None, ENDS[wait])
 
-    def extend(self, others):
-        """Appends other visits to the node."""
+    def extend(self, others: NodeVisits) -> None:
+        """Appends other visits to the node.
+
+        >>> import mpsim
+        >>> report = mpsim.run("model 1\\nsource door\\nserver desk =4 from door\\n", [("door", 0), ("door", 1)], jobs=True)
+        >>> both = mpsim.NodeVisits("desk")
+        >>> both.extend(report.visits["desk"])
+        >>> len(both)
+        2
+        """
         for name in FIELDS:
             getattr(self, name).extend(getattr(others, name))
 
-    def waits(self):
-        """Returns the waits of the visits that departed (sorted array of int, in ticks)."""
+    def waits(self) -> array[int]:
+        """Returns the waits of the visits that departed (sorted array of int, in ticks).
+
+        >>> import mpsim
+        >>> report = mpsim.run("model 1\\nsource door\\nserver desk =4 from door\\n", [("door", 0), ("door", 1)], jobs=True)
+        >>> report.visits["desk"].waits()
+        array('q', [0, 3])
+        """
         return array("q", sorted(item for item in self.wait if item >= 0))
 
-    def percentile(self, percent):
+    def percentile(self, percent: float) -> int:
         """Returns the shortest wait (int, in ticks) that at least `percent` percent (0 to 100, int or float) of the departed visits don't exceed, as
         in the report for 50, 90 and 99; 0 if none departed. Raises ValueError for another `percent`.
 
@@ -71,7 +105,7 @@ class NodeVisits:
         """
         return percentile_of(self.waits(), percent)
 
-    def share_within(self, ticks, departed=False):
+    def share_within(self, ticks: int, departed: bool = False) -> float | None:
         """Returns the service level (float, 0 to 1): the share of all visits that departed after a wait of at most this many ticks; with `departed`,
         the share of those that departed. Lost and held visits never count as served. None if there are no visits to divide by.
 
@@ -84,13 +118,18 @@ class NodeVisits:
         count = sum(item >= 0 for item in self.wait) if departed else len(self)
         return sum(0 <= item <= ticks for item in self.wait) / count if count else None
 
-    def to_pandas(self):
+    def to_pandas(self) -> pandas.DataFrame:
         """Returns a data frame with a row per visit, as Visits.to_pandas does. Raises ImportError if pandas is missing."""
         return _frame([self])
 
 
-def percentile_of(waits, percent):
-    """Returns, from n sorted waits, number n * percent / 100, rounded up."""
+def percentile_of(waits: Sequence[int], percent: float) -> int:
+    """Returns, from n sorted waits, number n * percent / 100, rounded up.
+
+    >>> from mpsim.node_visits import percentile_of
+    >>> percentile_of([0, 3, 7, 12], 50), percentile_of([0, 3, 7, 12], 51)
+    (3, 7)
+    """
     if not 0 <= percent <= 100:
         raise ValueError(f"a percentile is from 0 to 100, not {percent}")
     # Exact for the number as written: the float 99.9 is slightly more than 999/1000.
@@ -98,7 +137,7 @@ def percentile_of(waits, percent):
     return waits[max(-(-share.numerator * len(waits) // share.denominator), 1) - 1] if waits else 0
 
 
-class Visits(dict):
+class Visits(Dict[str, NodeVisits]):
     """The visits of a report: a dict of NodeVisits by the names of the nodes, in the order of the report.
 
     >>> import mpsim
@@ -107,29 +146,41 @@ class Visits(dict):
     (4, [4, 8])
     """
 
-    def each(self):
-        """Yields the visits (Visit), in the order of the lines."""
+    def each(self) -> Iterator[Visit]:
+        """Yields the visits (Visit), in the order of the lines.
+
+        >>> import mpsim
+        >>> report = mpsim.run("model 1\\nsource door\\nserver desk =4 from door\\n", [("door", 0), ("door", 1)], jobs=True)
+        >>> [visit.node for visit in report.visits.each()]
+        ['door', 'door', 'desk', 'desk']
+        """
         for visits in self.values():
             yield from visits
 
-    def count(self):
-        """Returns the number of visits (int)."""
+    def count(self) -> int:
+        """Returns the number of visits (int).
+
+        >>> import mpsim
+        >>> report = mpsim.run("model 1\\nsource door\\nserver desk =4 from door\\n", [("door", 0), ("door", 1)], jobs=True)
+        >>> report.visits.count()
+        4
+        """
         return sum(map(len, self.values()))
 
-    def to_pandas(self):
+    def to_pandas(self) -> pandas.DataFrame:
         """Returns a data frame with the columns job, node, arrive, wait, depart and end, and a row per visit. `wait` and `depart` have the type Int64
         and are missing for lost and held visits. Raises ImportError if pandas is missing."""
         return _frame(list(self.values()))
 
 
-def _frame(parts):
+def _frame(parts: Sequence[NodeVisits]) -> pandas.DataFrame:
     import numpy
     import pandas
 
-    def joined(name, kind):
+    def joined(name: str, kind: str) -> numpy.ndarray[Any, Any]:
         return numpy.concatenate([numpy.frombuffer(getattr(part, name), kind) for part in parts if len(part)] or [numpy.empty(0, kind)])
 
-    def with_gaps(name):
+    def with_gaps(name: str) -> pandas.arrays.IntegerArray:
         return pandas.arrays.IntegerArray(numpy.where(gone, 0, joined(name, "i8")), gone.copy())
 
     gone = joined("wait", "i8") < 0
@@ -145,3 +196,40 @@ def _frame(parts):
             "end": pandas.Categorical.from_codes(ends, ["left", "lost", "held"]),
         }
     )
+
+
+class Totals:
+    """Adds up the visits to a node in a run with this span (int, ticks), to compare them with its line."""
+
+    def __init__(self, span: int) -> None:
+        self.span = span
+        self.count = self.lost = self.held = self.wait = self.max = self.area = 0
+
+    def add(self, visits: NodeVisits) -> None:
+        """Adds some visits."""
+        lost, held = visits.wait.count(LOST), visits.wait.count(HELD)
+        self.count, self.lost, self.held = self.count + len(visits), self.lost + lost, self.held + held
+        self.wait += sum(visits.wait) - lost * LOST - held * HELD
+        self.max = max(self.max, max(visits.wait))
+        self.area += sum(visits.depart) - sum(visits.arrive)
+        if lost or held:
+            # A lost visit leaves when it arrives, a held one at the end, instead of the values that mark them.
+            self.area += sum(arrive - LOST for arrive, wait in zip(visits.arrive, visits.wait) if wait == LOST)
+            self.area += held * (self.span - HELD)
+
+    def figures(self) -> tuple[int, ...]:
+        """Returns the numbers of visits, of those that departed, were lost and are held, the sum and the longest of the waits, and the area (int)."""
+        return self.count, self.count - self.lost - self.held, self.lost, self.held, self.wait, self.max, self.area
+
+
+def filled(visits: NodeVisits, numbers: bytes, count: int) -> bool:
+    """Appends numbers, four per line, to visits. Returns whether there are enough, all in range."""
+    words = numbers.split()
+    if len(words) != 4 * count:
+        return False
+    try:
+        for at, name in enumerate(FIELDS):
+            getattr(visits, name).fromlist(list(map(int, words[at::4])))
+    except OverflowError:
+        return False
+    return True

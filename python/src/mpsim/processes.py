@@ -1,13 +1,23 @@
 """Runs a program and cleans up after it, however it ends."""
 
+from __future__ import annotations
+
 import contextlib
 import os
 import signal
 import subprocess
 import threading
+from typing import TYPE_CHECKING
 
 from . import programs
 from .errors import ProgramError, ReportError, TimedOut, error_of
+
+if TYPE_CHECKING:
+    from collections.abc import Collection, Iterable, Sequence
+    from types import TracebackType
+    from typing import IO
+
+    from .inputs import Input
 
 
 class Running:
@@ -16,9 +26,12 @@ class Running:
 
     `timeout` (seconds, int or float, or None) counts from the start of the program to its end."""
 
-    def __init__(self, name, words, inputs, fine=(0,), timeout=None):
+    _process: subprocess.Popen[bytes]
+    _timer: threading.Timer | None
+
+    def __init__(self, name: str, words: Iterable[str], inputs: Sequence[Input], fine: Collection[int] = (0,), timeout: float | None = None) -> None:
         self.name, self.inputs, self.fine = name, inputs, fine
-        self._process = self._timer = None
+        self._timer, self._is_begun = None, False
         self._is_late = self._is_killed = False
         file = programs.find(name)
         # stderr goes to memory, where it can't fill a pipe that nobody reads.
@@ -31,7 +44,7 @@ class Running:
                 pass_fds=[handle for item in inputs for handle in item.handles],
                 env=programs.surroundings(),
             )
-            self.stream = self._process.stdout
+            self._is_begun = True
             if timeout is not None:
                 self._timer = threading.Timer(timeout, self._late)
                 self._timer.daemon = True
@@ -43,10 +56,16 @@ class Running:
             self._clear()
             raise
 
-    def __enter__(self):
+    @property
+    def stream(self) -> IO[bytes]:
+        """The output of the program."""
+        assert self._process.stdout is not None
+        return self._process.stdout
+
+    def __enter__(self) -> Running:
         return self
 
-    def __exit__(self, kind, value, trace):
+    def __exit__(self, kind: type[BaseException] | None, value: BaseException | None, trace: TracebackType | None) -> None:
         message = ""
         try:
             self._settle(kind)
@@ -56,7 +75,7 @@ class Running:
         if kind is None or issubclass(kind, ReportError):
             self._judge(message)
 
-    def _settle(self, kind):
+    def _settle(self, kind: type[BaseException] | None) -> None:
         """Waits for the program if it is about to end, else kills it."""
         if kind is None:
             if self.stream.read(1):
@@ -68,7 +87,7 @@ class Running:
             with contextlib.suppress(subprocess.TimeoutExpired):
                 self._process.wait(1)
 
-    def _judge(self, message):
+    def _judge(self, message: str) -> None:
         """Raises the error that the program's end implies."""
         status = self._process.returncode
         if self._is_late and status == -signal.SIGKILL:
@@ -81,24 +100,24 @@ class Running:
         if status not in self.fine:
             raise error_of(self.name, status, message, self.inputs) from None
 
-    def _late(self):
+    def _late(self) -> None:
         self._is_late = True
         with contextlib.suppress(ProcessLookupError):
             self._process.kill()
 
-    def _kill(self):
+    def _kill(self) -> None:
         self._is_killed = True
         self._process.kill()
 
-    def _clear(self):
+    def _clear(self) -> None:
         """Ends the program if it still runs, and closes everything opened for it."""
         if self._timer is not None:
             self._timer.cancel()
-        if self._process is not None:
+        if self._is_begun:
             if self._process.poll() is None:
                 self._kill()
             self._process.wait()
-            self._process.stdout.close()
+            self.stream.close()
         if self._timer is not None and self._timer.ident is not None:
             self._timer.join()
         os.close(self._errors)

@@ -1,5 +1,7 @@
 """Finds the three programs, sets up their environment, and provides the wheel's commands, which answer --help and --version."""
 
+from __future__ import annotations
+
 import functools
 import os
 import shutil
@@ -19,7 +21,7 @@ TUNABLES = ":".join(
 ONE_HEAP = "glibc.malloc.arena_max=1"
 
 
-def find(name):
+def find(name: str) -> str:
     """Returns the path of a program (str): in the directory that MPSIM_PROGRAMS names; else in the wheel, in the clone around this file, or on the
     PATH; else one compiled from the clone's sources, neither proved nor optimised, as lines on stderr say. Raises ProgramError if there is none.
     build.py proves and builds a clone's programs."""
@@ -37,7 +39,7 @@ def find(name):
 
 
 @functools.lru_cache(maxsize=None)
-def _compiled(name):
+def _compiled(name: str) -> str | None:
     """Returns the path of a program that tools/unproved.py compiles from the sources of the clone around this file, which takes minutes the first time;
     None if there is no clone or it can't be compiled, as its lines on stderr say."""
     tool = os.path.join(HERE, "..", "..", "..", "tools", "unproved.py")
@@ -47,7 +49,7 @@ def _compiled(name):
     return ran.stdout.strip() or None
 
 
-def surroundings():
+def surroundings() -> dict[str, str]:
     """Returns the environment of a program: this process's, with memory settings unless it already has some."""
     import resource
 
@@ -55,7 +57,7 @@ def surroundings():
     return {"GLIBC_TUNABLES": TUNABLES if is_free else ONE_HEAP, **os.environ}
 
 
-def _answer(name):
+def _answer(name: str) -> bool:
     """Prints the help or the version if the only argument asks for it, and returns whether it does, as the scripts of a clone and of a release do."""
     if sys.argv[1:] == ["--help"]:
         with open(os.path.join(HERE, "help", f"{name}.txt"), encoding="ascii") as text:
@@ -67,7 +69,7 @@ def _answer(name):
     return True
 
 
-def _become(name):
+def _become(name: str) -> None:
     if _answer(name):
         return
     # The program replaces this process, so that signals, pipes and the status are its own.
@@ -75,19 +77,19 @@ def _become(name):
         file = find(name)
     except ProgramError as error:
         sys.exit(str(error))
-    os.execve(file, [name, *map(os.fsencode, sys.argv[1:])], surroundings())
+    os.execve(file, [os.fsencode(word) for word in (name, *sys.argv[1:])], surroundings())
 
 
-def mpsim():
+def mpsim() -> None:
     """Runs the wheel's command mpsim."""
     _become("mpsim")
 
 
-def mpsweep():
+def mpsweep() -> None:
     """Runs the wheel's command mpsweep."""
     _become("mpsweep")
 
 
-def mpedit():
+def mpedit() -> None:
     """Runs the wheel's command mpedit."""
     _become("mpedit")

@@ -1,14 +1,27 @@
 """Reports: the only reader of their text, which rejects cut or altered ones, and their figures. docs/REPORT.md explains every field."""
 
+from __future__ import annotations
+
 import contextlib
 import io
 import re
+from typing import TYPE_CHECKING
 
 from .errors import ReportError, read_from
 from .inputs import model_text
 from .lines import NUMBERS, Again, Exit, Node
 from .model import nodes_of
-from .node_visits import FIELDS, HELD, LOST, NodeVisits, Visits
+from .node_visits import NodeVisits, Totals, Visits, filled
+
+if TYPE_CHECKING:
+    import pandas
+    from collections.abc import Iterable, Iterator, Sequence
+    from datetime import datetime
+    from fractions import Fraction
+    from typing import IO
+
+    from .inputs import Input
+    from .shapes import ModelInput, Path, ReportInput
 
 # The number of bytes of job lines read at a time.
 CHUNK = 1 << 19
@@ -54,40 +67,54 @@ class Report:
     5.5
     """
 
-    def __init__(self, form, jobs, span, nodes, exits, visits=None, again=None):
+    form: int
+    jobs: int
+    span: int
+    _model: str | None
+
+    def __init__(
+        self, form: int, jobs: int, span: int, nodes: Iterable[Node], exits: Iterable[Exit], visits: Visits | None = None, again: Again | None = None
+    ) -> None:
         self.form, self.jobs, self.span = form, jobs, span
         self.nodes, self.exits, self.visits, self.again = tuple(nodes), tuple(exits), visits, again
         self._by_name = {node.name: node for node in self.nodes}
         self._model = None
 
     @property
-    def model(self):
+    def model(self) -> str | None:
+        """The text of the model (str), None if it isn't known. Setting it raises ValueError if its nodes aren't those of the report."""
         return self._model
 
     @model.setter
-    def model(self, text):
+    def model(self, text: str | None) -> None:
         if text is not None and sorted((node.name, node.kind) for node in nodes_of(text)) != sorted((node.name, node.kind) for node in self.nodes):
             raise ValueError("the model isn't that of the report: its nodes differ")
         self._model = text
 
-    def __getitem__(self, name):
+    def __getitem__(self, name: str) -> Node:
         return self._by_name[name]
 
-    def __contains__(self, name):
+    def __contains__(self, name: object) -> bool:
         return name in self._by_name
 
     # A loop could mean nodes or names; `nodes` is explicit.
     __iter__ = None
 
-    def __repr__(self):
+    def __repr__(self) -> str:
         return f"<Report of {self.jobs} jobs, {len(self.nodes)} nodes, span {self.span}>"
 
-    def __str__(self):
+    def __str__(self) -> str:
         return "".join(self.lines(jobs=False))
 
-    def lines(self, jobs=True):
+    def lines(self, jobs: bool = True) -> Iterator[str]:
         """Yields the lines (str, each with its line feed), byte for byte as they were read; with `jobs`, including the job lines if the report has
-        them."""
+        them.
+
+        >>> import mpsim
+        >>> report = mpsim.run("model 1\\nsource door\\nserver desk =4 from door\\n", [("door", 0), ("door", 1)], jobs=True)
+        >>> list(report.lines())[-1]
+        'job 2 desk arrive 1 wait 3 depart 8\\n'
+        """
         yield f"mpsim report {self.form}\njobs {self.jobs} span {self.span}\n"
         for node in self.nodes:
             yield node.line() + "\n"
@@ -99,13 +126,13 @@ class Report:
             yield f"again {self.again.done} of {self.again.blocks} blocks\n"
 
     @property
-    def mean_sojourn(self):
+    def mean_sojourn(self) -> float | None:
         """The mean time of a job in the network (float, ticks), from the `exit` lines; after a fork, each part that leaves counts. None if none
         left."""
         jobs = sum(item.jobs for item in self.exits)
         return sum(item.sojourn for item in self.exits) / jobs if jobs else None
 
-    def to_pandas(self):
+    def to_pandas(self) -> pandas.DataFrame:
         """Returns the nodes as a data frame, with a row per node, indexed by its name, and the fields of the lines as columns. Raises ImportError if
         pandas is missing."""
         import pandas
@@ -114,14 +141,21 @@ class Report:
         return frame.set_index("name").convert_dtypes(convert_string=False)
 
     @classmethod
-    def read(cls, path, model=None):
+    def read(cls, path: Path, model: ModelInput | None = None) -> Report:
         """Returns the report in a file, with its model (a Model, a text, or a path) if given. Raises OSError if a file can't be read; ReportError if
-        it isn't a report, is cut off, or contradicts itself; and ValueError if the model is that of another report."""
+        it isn't a report, is cut off, or contradicts itself; and ValueError if the model is that of another report.
+
+        >>> import mpsim, tempfile
+        >>> with tempfile.NamedTemporaryFile("w") as file:
+        ...     print(mpsim.run("model 1\\nsource door\\n", [("door", 3)]), end="", file=file, flush=True)
+        ...     mpsim.Report.read(file.name)
+        <Report of 1 jobs, 1 nodes, span 3>
+        """
         with open(path, "rb") as stream, read_from(path):
             return cls.parse(stream, model)
 
     @classmethod
-    def parse(cls, text, model=None):
+    def parse(cls, text: ReportInput, model: ModelInput | None = None) -> Report:
         """Returns the report in a text (str), in bytes, or in an open file of bytes. The model and the exceptions are as in `read`.
 
         >>> import mpsim
@@ -133,7 +167,15 @@ class Report:
         report.model = None if model is None else model_text(model)
         return report
 
-    def save(self, path, title=None, **options):
+    def save(
+        self,
+        path: Path,
+        title: str | None = None,
+        *,
+        tick: float | Fraction | None = None,
+        start: datetime | None = None,
+        within: int | None = None,
+    ) -> None:
         """Writes the page of this run: one HTML file that loads nothing from the network. The file is written completely or not at all; OSError is
         raised if it can't be written. The options are those of `mpsim.page.page`: `tick`, `start` and `within`.
 
@@ -146,33 +188,43 @@ class Report:
         """
         from .page import save
 
-        save(path, [self], title=title, **options)
+        save(path, [self], title=title, tick=tick, start=start, within=within)
 
-    def _repr_html_(self):
+    def _repr_html_(self) -> str:
         from .page import piece
 
         return piece(self)
 
 
-def with_model(report, given):
+def with_model(report: Report, given: Input) -> Report:
     """Returns a report with the text of the given model (Input), or without it if the file has changed or can't be read again."""
     with contextlib.suppress(ValueError):
         report.model = given.text()
     return report
 
 
-def stream_of(text):
+def stream_of(text: ReportInput) -> IO[bytes]:
     """Returns a text, bytes or an open file of bytes as an open file of bytes."""
-    if hasattr(text, "read"):
-        return text
-    return io.BytesIO(text.encode(errors="surrogateescape") if isinstance(text, str) else text)
+    if isinstance(text, str):
+        text = text.encode(errors="surrogateescape")
+    return io.BytesIO(text) if isinstance(text, (bytes, bytearray, memoryview)) else text
 
 
 class Reading:
     """Reads a report. Its first lines are available at once, as `form`, `jobs`, `span`, `nodes`, `exits` and `again` of a Report; `pieces` gives the
-    visits. In a sweep (`in_sweep`, bool) the next scenario may follow."""
+    visits. In a sweep (`in_sweep`, bool) the next scenario may follow.
 
-    def __init__(self, text, first=1, in_sweep=False):
+    >>> import mpsim
+    >>> with mpsim.visits("model 1\\nsource door\\nserver desk =4 from door\\n", [("door", 0), ("door", 1)]) as reading:
+    ...     reading.jobs, reading.span, [piece.node for piece in reading.pieces()]
+    (2, 8, ['door', 'desk'])
+    """
+
+    again: Again | None
+    nodes: list[Node]
+    exits: list[Exit]
+
+    def __init__(self, text: ReportInput, first: int = 1, in_sweep: bool = False) -> None:
         self._stream, self._number = stream_of(text), first - 1
         self.again = None
         self._next()
@@ -190,18 +242,18 @@ class Reading:
             raise self._error(self._line)
 
     @property
-    def rest(self):
+    def rest(self) -> tuple[bytes, int]:
         """The line after a report without job lines, and its number: in a sweep the next scenario begins there."""
         return self._line, self._number
 
-    def _next(self):
+    def _next(self) -> None:
         self._number += 1
         self._line = self._stream.readline()
 
-    def _error(self, line, why="is not a line of a report"):
+    def _error(self, line: bytes, why: str = "is not a line of a report") -> ReportError:
         return ReportError(self._number, line.decode(errors="surrogateescape").rstrip("\n"), why)
 
-    def _line_of(self, kind):
+    def _line_of(self, kind: str) -> re.Match[str]:
         """Returns the groups of the current line, and moves on to the next."""
         found = LINES[kind].fullmatch(self._line.decode("ascii", "surrogateescape"))
         if not found:
@@ -209,12 +261,13 @@ class Reading:
         self._next()
         return found
 
-    def _read_nodes(self):
+    def _read_nodes(self) -> list[str]:
         names = []
         while self._line.startswith(b"node ") or not self.nodes:
             line = self._line
             name, kind, *values, util = self._line_of("node").groups()
-            node = Node(name, kind, *[None if value is None else int(value) for value in values], None if util == "-" else float(util))
+            numbers = [None if value is None else int(value) for value in values]
+            node = Node._make([name, kind, *numbers, None if util == "-" else float(util)])
             self.nodes.append(node)
             if (node.p50 is None) != (self.form == 1) or (node.held is None and self.form == 2):
                 raise ReportError(self._number - 1, line.decode().rstrip("\n"), f"isn't of form {self.form}")
@@ -225,7 +278,7 @@ class Reading:
             names.append(node.name)
         return names
 
-    def _read_exits(self, names):
+    def _read_exits(self, names: Sequence[str]) -> None:
         before = -1, -1
         while self._line.startswith(b"exit ") or not self.exits:
             line = self._line
@@ -237,20 +290,20 @@ class Reading:
             before = place
             self.exits.append(it)
 
-    def _judge_jobs(self):
+    def _judge_jobs(self) -> None:
         """Checks the number of jobs: they arrive at the sources and, without forks and joins, each leaves once, so a missing line is noticed."""
         if self.jobs != sum(node.in_ for node in self.nodes if node.kind == "source"):
             raise ReportError(self._node_lines - 1, f"jobs {self.jobs} span {self.span}", "contradicts the lines of the sources")
         if not any(node.kind in ("fork", "join") for node in self.nodes) and self.jobs != sum(item.jobs for item in self.exits):
             raise self._error(self._line, f"follows exit lines by which not all of the {self.jobs} jobs leave")
 
-    def _contradiction(self, node, why):
+    def _contradiction(self, node: Node, why: str) -> ReportError:
         return ReportError(self._node_lines + self.nodes.index(node), node.line(), f"contradicts the report: {why}")
 
-    def pieces(self):
+    def pieces(self) -> Iterator[NodeVisits]:
         """Yields the visits, as NodeVisits of one node each, in the order of the lines. At most half a megabyte of text is held at a time. Raises
         ReportError for an invalid line and, after the last piece, if a node's visits don't match its line."""
-        seen = {node.name: _Seen(self.span) for node in self.nodes}
+        seen = {node.name: Totals(self.span) for node in self.nodes}
         # The names of the nodes from that of the last visit on.
         self._left = list(seen)
         for text in self._texts():
@@ -258,10 +311,10 @@ class Reading:
                 seen[piece.node].add(piece)
                 yield piece
         for node in self.nodes:
-            if seen[node.name].totals() != (node.in_, node.out, node.lost, node.held or 0, node.wait, node.max, node.area):
+            if seen[node.name].figures() != (node.in_, node.out, node.lost, node.held or 0, node.wait, node.max, node.area):
                 raise self._contradiction(node, "its job lines differ, or some are missing")
 
-    def _texts(self):
+    def _texts(self) -> Iterator[bytes]:
         """Yields the job lines, whole lines, about half a megabyte at a time."""
         left = self._line if self._has_jobs else b""
         while self._has_jobs:
@@ -277,7 +330,7 @@ class Reading:
         if left:
             yield left
 
-    def _pieces_of(self, text):
+    def _pieces_of(self, text: bytes) -> Iterator[NodeVisits]:
         # No number in a report is negative, so visits without a wait can get one, and all lines have the same shape. Many lines can then be checked
         # at once: those of one node are cut off, and its name is removed; without digits the rest must have that shape, and without letters it is
         # four numbers per line.
@@ -288,26 +341,26 @@ class Reading:
         while text:
             name = text[:80].split(None, 3)[2:3]
             words = b" %s arrive " % name[0] if name else b" "
-            end = text.find(b"\n", text.rfind(words)) + 1
-            mine, text = text[:end], text[end:]
+            cut = text.find(b"\n", text.rfind(words)) + 1
+            mine, text = text[:cut], text[cut:]
             lines, count = mine.replace(words, b" "), mine.count(b"\n")
-            piece = NodeVisits(name[0].decode(errors="replace")) if name else None
-            shaped = piece is not None and lines.translate(None, DIGITS) == SHAPE * count
-            if not shaped or not _fill(piece, lines.translate(None, LETTERS), count) or not self._is_next(piece):
+            piece = NodeVisits(name[0].decode(errors="replace") if name else "")
+            shaped = bool(name) and lines.translate(None, DIGITS) == SHAPE * count
+            if not shaped or not filled(piece, lines.translate(None, LETTERS), count) or not self._is_next(piece):
                 for end, stand_in in STAND_INS:
                     mine = mine.replace(stand_in, end)
                 raise self._first_error(mine)
             self._number += count
             yield piece
 
-    def _is_next(self, piece):
+    def _is_next(self, piece: NodeVisits) -> bool:
         """Returns whether the visits are to a known node that doesn't come before the last one, and of known jobs."""
         if piece.node not in self._left or min(piece.job) < 1 or max(piece.job) > self.jobs:
             return False
         del self._left[: self._left.index(piece.node)]
         return True
 
-    def _first_error(self, text):
+    def _first_error(self, text: bytes) -> ReportError:
         """Returns the error of the first invalid line, checked one by one."""
         *lines, cut = text.split(b"\n")
         for line in lines:
@@ -322,7 +375,7 @@ class Reading:
             self._number += 1
         return self._error(cut, "is cut")
 
-    def report(self, wanted=False):
+    def report(self, wanted: bool = False) -> Report:
         """Returns the whole report. A report without jobs has no job lines; whether it gets (empty) visits depends on `wanted`."""
         visits = None
         if self._has_jobs or wanted:
@@ -330,38 +383,3 @@ class Reading:
             for piece in self.pieces():
                 visits[piece.node].extend(piece)
         return Report(self.form, self.jobs, self.span, self.nodes, self.exits, visits, self.again)
-
-
-class _Seen:
-    """Adds up the visits to a node, to compare them with its line."""
-
-    def __init__(self, span):
-        self.span = span
-        self.count = self.lost = self.held = self.wait = self.max = self.area = 0
-
-    def add(self, visits):
-        lost, held = visits.wait.count(LOST), visits.wait.count(HELD)
-        self.count, self.lost, self.held = self.count + len(visits), self.lost + lost, self.held + held
-        self.wait += sum(visits.wait) - lost * LOST - held * HELD
-        self.max = max(self.max, max(visits.wait))
-        self.area += sum(visits.depart) - sum(visits.arrive)
-        if lost or held:
-            # A lost visit leaves when it arrives, a held one at the end, instead of the values that mark them.
-            self.area += sum(arrive - LOST for arrive, wait in zip(visits.arrive, visits.wait) if wait == LOST)
-            self.area += held * (self.span - HELD)
-
-    def totals(self):
-        return self.count, self.count - self.lost - self.held, self.lost, self.held, self.wait, self.max, self.area
-
-
-def _fill(visits, numbers, count):
-    """Appends numbers, four per line, to visits. Returns whether there are enough, all in range."""
-    words = numbers.split()
-    if len(words) != 4 * count:
-        return False
-    try:
-        for at, name in enumerate(FIELDS):
-            getattr(visits, name).fromlist(list(map(int, words[at::4])))
-    except OverflowError:
-        return False
-    return True

@@ -14,10 +14,13 @@ output isn't a report; TypeError or ValueError for an invalid model, trace or ed
 behind: no process, no open file, no file on disk.
 """
 
+from __future__ import annotations
+
 import contextlib
 import os
 import time
 from collections.abc import Iterable, Mapping
+from typing import TYPE_CHECKING
 
 from .errors import BoundError, Error, ModelError, ProgramError, TraceError, VisitsError
 from .files import text_of
@@ -29,36 +32,53 @@ from .programs import find
 from .report import Reading, with_model
 from .sweeps.results import Scenario, Sweep, scenarios_of
 
+if TYPE_CHECKING:
+    from collections.abc import Callable, Generator, Hashable, Iterator, Sequence
+    from typing import ContextManager, IO
+
+    from .inputs import Input
+    from .report import Report
+    from .shapes import EditsInput, ModelInput, Models, Path, TraceInput
+
 
 @contextlib.contextmanager
-def _inputs(*makers):
+def _inputs(*makers: Callable[[list[Input]], Input]) -> Iterator[list[Input]]:
     """Makes inputs, each from those before it, and closes all at the end of the block."""
     with contextlib.ExitStack() as stack:
-        made = []
+        made: list[Input] = []
         for make in makers:
             made.append(make(made))
             stack.callback(made[-1].close)
         yield made
 
 
-def _model_and_trace(model, trace):
+def _model_and_trace(model: ModelInput, trace: TraceInput) -> ContextManager[list[Input]]:
     return _inputs(lambda _: model_input(model), lambda made: trace_input(trace, made[0]))
 
 
-def _options(jobs=False, workers=None, block=None, form=None):
+def _options(jobs: bool = False, workers: int | None = None, block: int | None = None, form: int | None = None) -> list[str]:
     words = ["--jobs"] if jobs else []
     for name, value in ("--workers", workers), ("--block", block), ("--report", form):
         words += [name, str(value)] if value is not None else []
     return words
 
 
-def _report(program, words, inputs, jobs, timeout):
+def _report(program: str, words: Iterable[str], inputs: Sequence[Input], jobs: bool, timeout: float | None) -> Report:
     with Running(program, words, inputs, timeout=timeout) as running:
         report = Reading(running.stream).report(jobs)
     return with_model(report, inputs[0]) if inputs else report
 
 
-def run(model, trace, *, jobs=False, workers=None, block=None, form=None, timeout=None):
+def run(
+    model: ModelInput,
+    trace: TraceInput,
+    *,
+    jobs: bool = False,
+    workers: int | None = None,
+    block: int | None = None,
+    form: int | None = None,
+    timeout: float | None = None,
+) -> Report:
     """Runs a trace through a model with mpsim and returns the Report. With `jobs` it has the visits; `form` is 1 or 2 (default: 2). The module's
     documentation says what models and traces are, and what is raised.
 
@@ -74,7 +94,9 @@ def run(model, trace, *, jobs=False, workers=None, block=None, form=None, timeou
         return _report("mpsim", words, inputs, jobs, timeout)
 
 
-def made(number, *, jobs=False, workers=None, block=None, form=None, timeout=None):
+def made(
+    number: int, *, jobs: bool = False, workers: int | None = None, block: int | None = None, form: int | None = None, timeout: float | None = None
+) -> Report:
     """Runs mpsim on the input generated from a number (int, 0 to 2^64 - 1) and returns the Report. Raises what `run` does.
 
     >>> import mpsim
@@ -85,7 +107,9 @@ def made(number, *, jobs=False, workers=None, block=None, form=None, timeout=Non
 
 
 @contextlib.contextmanager
-def visits(model, trace, *, workers=None, block=None, timeout=None):
+def visits(
+    model: ModelInput, trace: TraceInput, *, workers: int | None = None, block: int | None = None, timeout: float | None = None
+) -> Iterator[Reading]:
     """Runs mpsim without keeping the visits: a block with a Reading (`mpsim.report`), whose `nodes` and `exits` are available at once, and whose
     `pieces()` gives the visits, as NodeVisits of one node each. Leaving the block early ends the program. Raises what `run` does, at the latest at
     the end of the block; `timeout` includes the time spent in the block.
@@ -101,7 +125,7 @@ def visits(model, trace, *, workers=None, block=None, timeout=None):
             yield Reading(running.stream)
 
 
-def edit(model, trace, edits, *, timeout=None):
+def edit(model: ModelInput, trace: TraceInput, edits: EditsInput, *, timeout: float | None = None) -> Report:
     """Runs an edited trace with mpedit and returns the Report, whose `again` says how much of the run the edits affect. Edits are a text (str with a
     line feed, or bytes), a path, or a list of Set and Add. Raises what `run` does, and EditsError.
 
@@ -115,7 +139,7 @@ def edit(model, trace, edits, *, timeout=None):
         return _report("mpedit", [item.word for item in inputs], inputs, False, timeout)
 
 
-def sweep(trace, models, *, jobs=False, timeout=None):
+def sweep(trace: TraceInput, models: Models, *, jobs: bool = False, timeout: float | None = None) -> Sweep:
     """Runs a trace through many models and returns the Sweep. The arguments and exceptions are those of `scenarios`.
 
     >>> import mpsim
@@ -128,7 +152,7 @@ def sweep(trace, models, *, jobs=False, timeout=None):
         return Sweep((item.label, item) for item in coming)
 
 
-def scenarios(trace, models, *, jobs=False, timeout=None):
+def scenarios(trace: TraceInput, models: Models, *, jobs: bool = False, timeout: float | None = None) -> Generator[Scenario, None, None]:
     """Runs a trace through many models, and yields each Scenario as it comes, in the order of the models. They are a dict by label, or a list,
     labelled 1, 2 and so on, of any length.
 
@@ -151,7 +175,9 @@ def scenarios(trace, models, *, jobs=False, timeout=None):
     return _scenarios(trace, labelled, jobs, timeout)
 
 
-def _scenarios(trace, labelled, jobs, timeout):
+def _scenarios(
+    trace: TraceInput, labelled: Sequence[tuple[Hashable, ModelInput]], jobs: bool, timeout: float | None
+) -> Generator[Scenario, None, None]:
     if not labelled:
         return
     run_some, step = (_by_mpsim, 1) if jobs else (_by_mpsweep, MODELS)
@@ -165,7 +191,7 @@ def _scenarios(trace, labelled, jobs, timeout):
 
 
 @contextlib.contextmanager
-def sweep_text(trace, models):
+def sweep_text(trace: TraceInput, models: Sequence[ModelInput]) -> Iterator[IO[bytes]]:
     """Runs mpsweep on a trace and 1 to 64 models (list): a block with its output as an open file of bytes. Raises what `run` does, except for refused
     scenarios, at the latest at the end of the block; leaving the block early ends the program."""
     with _inputs(lambda _: model_input(models[0]), lambda made: trace_input(trace, made[0])) as (_, rows):
@@ -175,22 +201,22 @@ def sweep_text(trace, models):
                 yield running.stream
 
 
-def _by_mpsweep(rows, models, labels, timeout):
+def _by_mpsweep(rows: Input, models: Sequence[Input], labels: Sequence[Hashable], timeout: float | None) -> Iterator[Scenario]:
     inputs = [rows, *models]
     with Running("mpsweep", [item.word for item in inputs], inputs, fine=(0, 11), timeout=timeout) as running:
         yield from scenarios_of(running.stream, labels, inputs)
 
 
-def _by_mpsim(rows, models, labels, timeout):
+def _by_mpsim(rows: Input, models: Sequence[Input], labels: Sequence[Hashable], timeout: float | None) -> Iterator[Scenario]:
     (model,), (label,) = models, labels
     try:
         found = Scenario(label, 0, _report("mpsim", [model.word, rows.word, "--jobs"], [model, rows], True, timeout), None)
     except (ModelError, TraceError, BoundError, VisitsError) as error:
-        found = Scenario(label, error.status, None, error)
+        found = Scenario(label, error.status or 0, None, error)
     yield found
 
 
-def judged_text(path, warn):
+def judged_text(path: Path, warn: Callable[[str], object]) -> str:
     """Returns the text (str) of a model that mpsim has checked by running it without records. If the program is missing or the model has names in
     braces, it isn't checked, and `warn` is called with that. Raises what `text_of` does, and what `mpsim.run` does, with the path."""
     text = text_of(path)

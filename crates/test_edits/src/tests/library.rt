@@ -1,4 +1,4 @@
-// Runs that are kept while their rows are edited, as a program of one's own uses them.
+// Runs that are kept while their rows are edited, as your own program would use them.
 ghost use Rattle.std.specs.Prelude.{◌≡◌, ◌<◌, IfOk};
 
 use super::{MODEL, TRACE};
@@ -13,10 +13,11 @@ use std::sync::ledger::{Blank, Ledger};
 use std::test::Fail;
 use std::thread::Threads;
 
-// What comes of a text of edits: why it isn't read, or else why its edits aren't made, or how much is done again.
+// The outcome of a text of edits: why it isn't read, or else why its edits aren't made, or the number of blocks redone.
 type Made = Result<Result<Redone, RunFault>, EditFault>;
 
-// A text of edits, and what comes of it; how many rows there are then, and as many visits to the desk; and the times of some rows.
+// A text of edits and its outcome; then the number of rows, which is also the number of visits to the desk; and the
+// times of some rows.
 #[derive(Clone, Copy)]
 struct Step<'a> {
     text: &'a [u8],
@@ -27,7 +28,7 @@ struct Step<'a> {
     times: &'a [u64],
 }
 
-// A model; a trace, and so many rows behind it; and steps, one after another.
+// A model; a trace, and the number of rows to append; and steps, one after another.
 #[derive(Clone, Copy)]
 struct History<'a> {
     model: &'a [u8],
@@ -36,7 +37,7 @@ struct History<'a> {
     steps: &'a [Step<'a>],
 }
 
-// The run of a trace, for 4 workers and blocks of 64 jobs.
+// Runs a trace with 4 workers, in blocks of 64 jobs.
 fn kept_of<'p, R: Threads + Sync>(
     rt: &R,
     alloc: Global,
@@ -54,7 +55,7 @@ fn kept_of<'p, R: Threads + Sync>(
     }
 }
 
-// Makes the edits of a text in a kept run, whose steps are counted by a counter of their own.
+// Makes the edits of a text in a kept run, whose steps a new counter counts.
 fn edit_with<R: Threads + Sync, L: Ledger>(
     rt: &R,
     alloc: Global,
@@ -69,7 +70,7 @@ fn edit_with<R: Threads + Sync, L: Ledger>(
     requires some { 0 < blank.parts }
     ensures plan { kept.new.plan ≡ kept.old.plan }
 {
-    // the type of the run keeps that its rows are read for the plan
+    // The type of the run ensures that its rows are read for the plan.
     let _ = kept.run();
     let edits = match read_edits(alloc, text, &plan.net, kept.rows().source.len() as u32) {
         Ok(edits) => edits,
@@ -81,7 +82,7 @@ fn edit_with<R: Threads + Sync, L: Ledger>(
     Ok(made)
 }
 
-// The same with a counter that nothing reads.
+// Makes the edits of a text in a kept run, with a counter that nothing reads.
 fn edited<R: Threads + Sync>(
     rt: &R,
     alloc: Global,
@@ -95,7 +96,7 @@ fn edited<R: Threads + Sync>(
     edit_with::<R, Brand>(rt, alloc, plan, kept, text, Blank::new(1))
 }
 
-// Whether the rows and the visits of a kept run are these, at two nodes.
+// Whether a kept run of two nodes has the number of rows and of visits, and the times, that the step says.
 fn stands_so(kept: &Kept, step: &Step<'_>) -> bool {
     let times = kept.rows().time.as_slice();
     let run = kept.run();
@@ -108,7 +109,7 @@ fn stands_so(kept: &Kept, step: &Step<'_>) -> bool {
         }
 }
 
-// Whether the steps go so in a kept run, one after another.
+// Whether each step, one after another, has its outcome in a kept run and leaves these rows and visits.
 fn all_go_so<R: Threads + Sync>(
     rt: &R,
     alloc: Global,
@@ -127,7 +128,7 @@ fn all_go_so<R: Threads + Sync>(
     true
 }
 
-// The row of a job that comes at ten times this number, below 1,000, and is served for a tick.
+// The row of a job that comes at ten times this number, which is below 1,000, and is served for one tick.
 fn row(number: u32) -> [u8; 11] {
     [
         b's',
@@ -144,7 +145,7 @@ fn row(number: u32) -> [u8; 11] {
     ]
 }
 
-// Whether a history is so, whose trace is added to this text.
+// Whether the steps of a history do so, whose trace is appended to this text.
 fn is_so_behind<R: Threads + Sync>(
     rt: &R,
     alloc: Global,
@@ -162,7 +163,7 @@ fn is_so_behind<R: Threads + Sync>(
     Ok(so)
 }
 
-// Whether a history is so.
+// Whether the steps of a history do so.
 fn is_so<R: Threads + Sync>(
     rt: &R,
     alloc: Global,
@@ -180,7 +181,7 @@ fn is_so<R: Threads + Sync>(
     }
 }
 
-// The example of the documentation of `mq_edit`.
+// The example in the documentation of `mq_edit`.
 const ONE_MORE: History<'static> = History {
     model: MODEL,
     trace: TRACE,
@@ -195,7 +196,7 @@ const ONE_MORE: History<'static> = History {
     }],
 };
 
-// 200 jobs, who come at 0, 10 and so on. The 150th stands in the third of four blocks.
+// 200 jobs that come at 0, 10 and so on. The 150th is in the third of four blocks.
 const TWO_HUNDRED: History<'static> = History {
     model: MODEL,
     trace: b"source,time,d\n",
@@ -217,7 +218,7 @@ const TWO_HUNDRED: History<'static> = History {
             to: 200,
             times: &[1980, 1990],
         },
-        // what is there already changes nothing
+        // The row is already so, so this changes nothing.
         Step {
             text: b"set 150 src 1490 5",
             made: Ok(Ok(Redone { again: 0, all: 8 })),
@@ -226,7 +227,7 @@ const TWO_HUNDRED: History<'static> = History {
             to: 150,
             times: &[1490],
         },
-        // the 65th job is the first of the second block
+        // The 65th job is the first of the second block.
         Step {
             text: b"set 65 src 641 1",
             made: Ok(Ok(Redone { again: 6, all: 8 })),
@@ -246,7 +247,7 @@ const TWO_HUNDRED: History<'static> = History {
     ],
 };
 
-// An edit that is refused leaves the run as it was, and what comes behind it is made.
+// An edit that is refused leaves the run as it was, and the next edit is made.
 const LATE: History<'static> = History {
     model: b"model 1\nbound 9\nsource src\nserver desk d from src\n",
     trace: TRACE,

@@ -1,8 +1,8 @@
-// Jobs that count how often they are looked at: those of blocks that stay are not.
+// Jobs that count how often they are asked for: only those of the blocks that are redone are.
 ghost use Rattle.std.specs.Prelude.{◌≡◌, ◌+◌, ◌≤◌};
 
 use mq_base::{OutOfMemory, Steps};
-use mq_redo::redone_behind;
+use mq_redo::{redo_block, redone_behind};
 use mq_scan::{Step, Timed, cut};
 use std::alloc::Global;
 use std::cell::Cell;
@@ -10,7 +10,8 @@ use std::marker::Brand;
 use std::sync::ledger::{Blank, Ledger};
 use std::test::Fail;
 
-// So many jobs, each of which leaves its number, from 1, to the next. It counts the jobs that are asked for.
+// A number of jobs, each of which leaves its own number, from 1, as the carry. `asked` counts the jobs that are asked
+// for.
 #[derive(Drop)]
 struct Watched<'a> {
     jobs: u32,
@@ -82,7 +83,8 @@ impl<'a> Timed for Watched<'a> {
     ghost folds_time = { λ s n le. tt };
 }
 
-// How many of five jobs, in blocks of two, are asked for behind the first block, and how many there are when all are done.
+// Redoes the blocks after the first one, for five jobs in blocks of two. Returns the number of jobs asked for, and of
+// all jobs.
 fn asked_behind<L: Ledger>(alloc: Global, blank: Blank) -> Result<(u32, usize), OutOfMemory>
     requires name { blank.name ≡ L.name }
     requires parts { blank.parts ≡ L.parts }
@@ -103,5 +105,30 @@ fn asked_behind<L: Ledger>(alloc: Global, blank: Blank) -> Result<(u32, usize), 
 fn jobs_of_blocks_that_stay_are_not_asked_for(rt: HostRuntime) -> Result<(), Fail> {
     let (asked, all) = asked_behind::<Brand>(rt.alloc(), Blank::new(1))?;
     assert!(rt; asked == 3 && all == 5);
+    Ok(())
+}
+
+// Redoes the third and the fourth of five jobs, given 2, the carry after two jobs. Whether the carries after the two
+// are 3 and 4, and two jobs were asked for.
+fn one_block_is_redone<L: Ledger>(alloc: Global, blank: Blank) -> Result<bool, OutOfMemory>
+    requires name { blank.name ≡ L.name }
+    requires parts { blank.parts ≡ L.parts }
+    requires some { 1 ≤ blank.parts }
+{
+    let mut steps = Steps::<L>::new(blank);
+    let asked = Cell::new(0);
+    let step = Watched {
+        jobs: 5,
+        asked: &asked,
+    };
+    let after = redo_block(alloc, &step, 2, 4, 2, &mut steps)?;
+    let so = after.as_slice() == [3, 4].as_slice() && asked.get() == 2;
+    drop(after);
+    Ok(so)
+}
+
+#[test]
+fn a_block_is_redone_alone(rt: HostRuntime) -> Result<(), Fail> {
+    assert!(rt; one_block_is_redone::<Brand>(rt.alloc(), Blank::new(1))?);
     Ok(())
 }

@@ -1,4 +1,4 @@
-// Worked cases of edits, and runs that are refused before them and after them.
+// Worked cases of edits, and runs that are refused before or after them.
 ghost use Rattle.std.specs.Prelude.{◌≡◌, ◌≤◌};
 
 use super::kept::{edited, is_as_from_nothing, kept_of, plan_of};
@@ -10,16 +10,17 @@ use std::alloc::Global;
 use std::test::Fail;
 use std::thread::Threads;
 
-/// A source and a server, which asks for the one column.
+/// A source and a server whose demand is the only column.
 pub const MODEL: &[u8] = b"model 1\nsource src\nserver desk d from src\n";
 
-// No departure may come after 8.
+// The same model, in which no departure may come after 8.
 const EARLY: &[u8] = b"model 1\nbound 8\nsource src\nserver desk d from src\n";
 
-/// Three records of it.
+/// Three records for it.
 pub const TRACE: &[u8] = b"source,time,d\nsrc,0,4\nsrc,1,1\nsrc,2,3\n";
 
-// A text of edits, and what comes of it: how much is done again, or why it is refused; and when each job leaves the desk then.
+// A text of edits and its outcome: the number of blocks redone, or why it is refused. Then the departures from the
+// desk.
 #[derive(Clone, Copy)]
 struct Step<'a> {
     text: &'a [u8],
@@ -33,7 +34,7 @@ const ONE_ROW_MORE: Step<'static> = Step {
     departures: &[4, 5, 8, 10],
 };
 
-// The same passes the bound, and changes nothing.
+// Here the same edit passes the bound, and changes nothing.
 const TOO_LATE: Step<'static> = Step {
     text: b"add src 3 2",
     made: Err(RunFault::Past(PastFault {
@@ -50,7 +51,7 @@ const SHORTER: Step<'static> = Step {
     departures: &[4, 5, 6, 8],
 };
 
-// Whether visits depart at these times.
+// Whether the visits depart at these times.
 fn depart_at(fates: &Fates, times: &[u64]) -> bool {
     if fates.len() != times.len() {
         return false;
@@ -63,7 +64,7 @@ fn depart_at(fates: &Fates, times: &[u64]) -> bool {
     true
 }
 
-// Whether a kept run has as many rows as there are departures, and these from the second of its two nodes.
+// Whether a kept run has one row per departure, and these are the departures from the second of its two nodes.
 fn leaves_so(kept: &Kept, departures: &[u64]) -> bool {
     let run = kept.run();
     kept.rows().source.len() == departures.len()
@@ -71,7 +72,7 @@ fn leaves_so(kept: &Kept, departures: &[u64]) -> bool {
         && depart_at(&run.visits.get(1).fate, departures)
 }
 
-// Whether this comes of the edits, and the run is as from nothing then.
+// Whether the edits have this outcome, and the run is then that of a whole run.
 fn goes_so<R: Threads + Sync>(
     rt: &R,
     alloc: Global,
@@ -88,7 +89,7 @@ fn goes_so<R: Threads + Sync>(
         && is_as_from_nothing(rt, alloc, plan, kept)
 }
 
-// Whether each of these steps goes so.
+// Whether each of these steps, one after another, does so.
 fn all_go_so<R: Threads + Sync>(
     rt: &R,
     alloc: Global,
@@ -106,7 +107,7 @@ fn all_go_so<R: Threads + Sync>(
     true
 }
 
-// Whether the steps go so, one after another, behind a run of the trace.
+// Whether the steps do so after a run of the trace.
 fn go_so_behind<R: Threads + Sync>(
     rt: &R,
     alloc: Global,
@@ -130,7 +131,7 @@ fn go_so_behind<R: Threads + Sync>(
     }
 }
 
-// The same for the plan of a model.
+// Reads the plan from a model, and answers whether the steps do so after a run of the trace.
 fn go_so<R: Threads + Sync>(
     rt: &R,
     alloc: Global,
@@ -157,7 +158,7 @@ fn edits_come_to_this(rt: HostRuntime) -> Result<(), Fail> {
     Ok(())
 }
 
-// Whether there is no run of this trace, since its third job leaves at 9.
+// Whether this trace has no run, because its third job leaves at 9.
 fn is_refused<R: Threads + Sync>(rt: &R, alloc: Global, plan: &Plan, trace: &[u8]) -> bool {
     let past = PastFault {
         node: 1,

@@ -4,7 +4,7 @@ ghost use Rattle.std.specs.Prelude.{◌<◌};
 use mq_base::OutOfMemory;
 use mq_core::{Kind, Plan};
 
-/// A number below this, which looks random. It comes of the state, and leaves the next one.
+/// Returns a number below `most` that looks random, computed from the state, and leaves the next state.
 pub fn below(state: &mut u64, most: u64) -> u64
     requires { 0 < most }
     ensures { result < most }
@@ -15,7 +15,7 @@ pub fn below(state: &mut u64, most: u64) -> u64
     (*state >> 33) % most
 }
 
-// A number below 10,000 in four digits, behind a mark.
+// A number below 10,000 in four digits, after a separator.
 fn field(mark: u8, number: u64) -> [u8; 5] {
     [
         mark,
@@ -26,7 +26,7 @@ fn field(mark: u8, number: u64) -> [u8; 5] {
     ]
 }
 
-// The name of a source: of the first, or of the one behind it, if there is one.
+// The name of a source: of the first, or of the second if there is one.
 fn source<'a>(plan: &'a Plan, second: bool) -> &'a [u8] {
     let mut found: &[u8] = &[];
     for at in 0..plan.net.nodes.len() {
@@ -41,7 +41,8 @@ fn source<'a>(plan: &'a Plan, second: bool) -> &'a [u8] {
     found
 }
 
-// Adds a source, a time and a value below 10 for each column of the model, with a mark before each but the first.
+// Appends the name of a source, a time and a value below 10 for each column of the model, with a separator before each
+// but the first.
 fn push_row(
     text: &mut Vec<u8>,
     plan: &Plan,
@@ -58,7 +59,7 @@ fn push_row(
     Ok(())
 }
 
-/// Adds a trace of 60 to 259 records for the network of a plan.
+/// Appends a trace of 60 to 259 records for the network of a plan.
 pub fn push_trace(text: &mut Vec<u8>, plan: &Plan, state: &mut u64) -> Result<(), OutOfMemory> {
     let count = 60 + below(state, 200);
     text.extend_from_slice(b"source,time")?;
@@ -76,7 +77,7 @@ pub fn push_trace(text: &mut Vec<u8>, plan: &Plan, state: &mut u64) -> Result<()
     Ok(())
 }
 
-/// Adds an edit of a trace of so many records: one of them is set, or one is added.
+/// Appends an edit of a trace of `count` records, which sets one of them or adds one.
 pub fn push_edit(
     text: &mut Vec<u8>,
     plan: &Plan,

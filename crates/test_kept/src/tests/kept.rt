@@ -1,4 +1,4 @@
-// Runs that are kept and edited. A text that isn't read is told as want of memory.
+// Runs that are kept and edited. A text that can't be read is reported as out of memory.
 ghost use Rattle.std.specs.Prelude.{◌≡◌, ◌<◌, ◌≤◌, IfOk};
 
 use super::same::same_run;
@@ -23,7 +23,7 @@ pub fn plan_of(alloc: Global, model: &[u8]) -> Result<Plan, OutOfMemory> {
     }
 }
 
-/// The run of a trace, for so many workers and with blocks of so many jobs.
+/// Runs a trace with `workers` workers, in blocks of `block` jobs.
 pub fn kept_of<'p, R: Threads + Sync>(
     rt: &R,
     alloc: Global,
@@ -44,7 +44,7 @@ pub fn kept_of<'p, R: Threads + Sync>(
     }
 }
 
-// Makes the edits of a text in a kept run, whose steps are counted by a counter of their own.
+// Makes the edits of a text in a kept run, whose steps a new counter counts.
 fn edit_with<R: Threads + Sync, L: Ledger>(
     rt: &R,
     alloc: Global,
@@ -59,7 +59,7 @@ fn edit_with<R: Threads + Sync, L: Ledger>(
     requires some { 0 < blank.parts }
     ensures plan { kept.new.plan ≡ kept.old.plan }
 {
-    // The type of the run keeps that its rows are read for the plan.
+    // The type of the run ensures that its rows are read for the plan.
     let _ = kept.run();
     let edits = match read_edits(alloc, text, &plan.net, kept.rows().source.len() as u32) {
         Ok(edits) => edits,
@@ -71,7 +71,7 @@ fn edit_with<R: Threads + Sync, L: Ledger>(
     made
 }
 
-/// The same with a counter that nothing reads.
+/// Makes the edits of a text in a kept run, with a counter that nothing reads.
 pub fn edited<R: Threads + Sync>(
     rt: &R,
     alloc: Global,
@@ -85,7 +85,7 @@ pub fn edited<R: Threads + Sync>(
     edit_with::<R, Brand>(rt, alloc, plan, kept, text, Blank::new(1))
 }
 
-/// Whether all visits, fates and streams of a kept run are those of a run of its rows from nothing.
+/// Returns whether all visits, fates and streams of a kept run are those of a whole run over its rows.
 pub fn is_as_from_nothing<R: Threads + Sync>(
     rt: &R,
     alloc: Global,

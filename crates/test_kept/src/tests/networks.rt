@@ -11,7 +11,8 @@ use std::alloc::Global;
 use std::test::Fail;
 use std::thread::Threads;
 
-// Whether a kept run is as from nothing, also after each of four edits, whose text is written in place of what stands in `text`.
+// Whether a kept run is that of a whole run, at the start and after each of four edits. The text of each edit replaces
+// what is in `text`.
 fn stays_through<R: Threads + Sync>(
     rt: &R,
     alloc: Global,
@@ -38,7 +39,7 @@ fn stays_through<R: Threads + Sync>(
     Ok(true)
 }
 
-// Whether the run of a trace that looks random does, in blocks of 64 jobs.
+// Whether this holds for the run of a trace that looks random, in blocks of 64 jobs.
 fn trace_stays<R: Threads + Sync>(
     rt: &R,
     alloc: Global,
@@ -58,7 +59,7 @@ fn trace_stays<R: Threads + Sync>(
     }
 }
 
-// The same for the plan of a model.
+// Whether this holds for the plan of a model.
 fn model_stays<R: Threads + Sync>(
     rt: &R,
     alloc: Global,
@@ -91,7 +92,7 @@ fn edited_runs_are_as_from_nothing(rt: HostRuntime) -> Result<(), Fail> {
     Ok(())
 }
 
-// Each kind of node, and a split by turns, by thresholds and by a column modulo 3.
+// Every kind of node, with splits by turns, by thresholds and by a column modulo 3.
 const WIDE: &[u8] =
     b"model 2\nsource a\nsource b\nsplit p 2 turn from a\nsplit c cut k 3 6 from b\nfork f 2 from p\n\
     server s k from f p.1\ndelay w m from f.1 c\njoin j from s w\nloss l 2 m from j\nsplit x 3 mod k from l l.1\n\

@@ -1,4 +1,4 @@
-// Rows that are edited in place and put back, beside those that are edited in a copy.
+// Rows that are edited in place and put back, compared with rows that are edited in a copy.
 ghost use Rattle.std.specs.Prelude.{length};
 ghost use Rattle.mq_core.specs.Theorems.{IsReadFor};
 ghost use Rattle.mq_core.specs.declared.model.Network.{Network};
@@ -14,7 +14,7 @@ use std::alloc::Global;
 use std::test::Fail;
 use std::thread::Threads;
 
-// Whether rows of one column are these: of the one source, with these times and values.
+// Whether rows of one column have these source nodes, times and values.
 fn are(rows: &Rows, sources: &[u32], times: &[u64], values: &[u64]) -> bool {
     rows.source.as_slice() == sources
         && rows.time.as_slice() == times
@@ -35,7 +35,7 @@ fn are_edited_in_a_copy(alloc: Global, rows: &Rows, edits: &List<Edit>) -> Resul
     Ok(so)
 }
 
-// Whether edits in place give the same rows, and then those of before.
+// Whether editing in place gives the same rows, and putting back then gives the rows as they were.
 fn come_back(alloc: Global, rows: &mut Rows, edits: &List<Edit>) -> Result<bool, OutOfMemory>
     requires { (net : Network) × IsReadFor net rows.old × AreEditsFor net (length rows.old.source) edits.now }
 {
@@ -46,7 +46,7 @@ fn come_back(alloc: Global, rows: &mut Rows, edits: &List<Edit>) -> Result<bool,
     Ok(so && are(rows, &[0, 0, 0], &[0, 1, 2], &[4, 1, 3]))
 }
 
-// Whether the edits do, of rows that were read for a plan.
+// Whether this holds for rows that were read for a plan.
 fn edits_come_back(alloc: Global, plan: &Plan, rows: &mut Rows) -> Result<bool, OutOfMemory>
     requires { IsReadFor plan.now.net rows.old }
 {
@@ -60,7 +60,7 @@ fn edits_come_back(alloc: Global, plan: &Plan, rows: &mut Rows) -> Result<bool, 
     Ok(copied? && so?)
 }
 
-// The same of the rows of the trace.
+// Whether this holds for the rows of the trace.
 fn rows_come_back<R: Threads + Sync>(
     rt: &R,
     alloc: Global,

@@ -1,9 +1,9 @@
-// Whether runs are the same.
+// Whether two runs are the same.
 
 use mq_base::List;
 use mq_core::{Fate, Fates, Run, Stream, Visits};
 
-/// Whether two visits end alike.
+/// Returns whether two visits have the same fate.
 pub fn same_fate(one: Fate, other: Fate) -> bool {
     match (one, other) {
         (Fate::Departs(a), Fate::Departs(b)) => a == b,
@@ -45,7 +45,7 @@ fn same_streams(one: &List<Stream>, other: &List<Stream>) -> bool {
     true
 }
 
-/// Whether two runs have the same visits and streams at each node.
+/// Returns whether two runs have the same visits and streams at each node.
 pub fn same_run(one: &Run, other: &Run) -> bool {
     if one.visits.len() != other.visits.len() || one.outputs.len() != other.outputs.len() {
         return false;

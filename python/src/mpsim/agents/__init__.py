@@ -22,6 +22,7 @@ All times are whole ticks. A group follows these rules:
 With one queue, no patience, and agents who are always there, these are the rules of `mpsim.agents.queues.pool`. The module is tested, not proved.
 """
 
-from .groups import FIRST, FOREVER, LONGEST_IDLE, Agent, Call, Group, Outcome
+from ..limits import FOREVER
+from .groups import FIRST, LONGEST_IDLE, Agent, Call, Group, Outcome
 
 __all__ = ["FIRST", "FOREVER", "LONGEST_IDLE", "Agent", "Call", "Group", "Outcome"]

@@ -4,9 +4,12 @@ No node of a model is such a queue: which agent is free first is a minimum over 
 long the call waits, and writes both into the trace. The model gets a pool in place of a server, and the proved program runs it. Its trunk group would
 lose a call if more calls were served at once than there are agents. That no call waits while an agent is free is tested; none of this is proved."""
 
+from __future__ import annotations
+
 import os
 from array import array
 from heapq import heapreplace
+from typing import TYPE_CHECKING
 
 from ..errors import BoundError
 from ..inputs import model_text
@@ -19,8 +22,19 @@ from ..wording import counted
 from .networks import ROSTERED, agent_lines, front, in_front, inputs_of, roster_lines, trunk_lines
 from .pools import agent_name, pooled, queue_name
 
+if TYPE_CHECKING:
+    from collections.abc import Iterable, Iterator, Sequence
+    from typing import Tuple
 
-def pool(arrivals, demands, agents):
+    from ..report import Report
+    from ..shapes import ModelInput, Path
+    from ..times.calendar import Calendar
+    from ..traces.trace import Trace
+
+    Calls = Tuple[Sequence[int], Sequence[int], Sequence[int]]
+
+
+def pool(arrivals: Sequence[int], demands: Sequence[int], agents: int) -> tuple[array[int], array[int]]:
     """Returns the agent of each call (array of int, from 1) and its wait (array of int), for arrivals and service times (sequences of int, in ticks)
     and a number of agents (int). Calls are served in order of arrival, at equal times in their given order. Each gets the agent who is free first, or
     the one with the lowest number among several. Raises ValueError if there is no agent.
@@ -55,7 +69,9 @@ class Queue:
     [[0, 8, 16], [0, 0, 7], [0, 0, 0]]
     """
 
-    def __init__(self, model, trace, node):
+    path: Path | None
+
+    def __init__(self, model: ModelInput, trace: Trace, node: str) -> None:
         self.text, self.trace, self.node = model_text(model), trace, node
         self.path = model if isinstance(model, os.PathLike) or isinstance(model, str) and "\n" not in model else None
         report = self._with_one()
@@ -68,7 +84,7 @@ class Queue:
         self.demand = found[0].arguments
         self.jobs, self.arrivals, self.demands = calls_at(report, node, node, self.demand, trace)
 
-    def _judge_order(self):
+    def _judge_order(self) -> None:
         """Raises ValueError if a pool is already downstream: the arrivals there depend on who serves here."""
         nodes = {node.name: node for node in self.nodes}
         for item in self.nodes:
@@ -78,7 +94,7 @@ class Queue:
                 why = f"make the pool at {self.node} first, since it decides when calls arrive at {name}"
                 raise ValueError(f"the pool at {name} is downstream of {self.node}: {why}")
 
-    def _with_one(self):
+    def _with_one(self) -> Report:
         """Returns the report of the model as it is, for the arrivals at the server, which don't depend on who serves. If a single server exceeds the
         bound of the model, it runs `front` instead; the bound is checked when the pool runs."""
         with locating_errors(self.trace, model=self.path):
@@ -87,7 +103,7 @@ class Queue:
             except BoundError:
                 return run(front(self.text, [self.node]), self.trace.lines(), jobs=True)
 
-    def with_pool(self, agents, by="trunk"):
+    def with_pool(self, agents: int, by: str = "trunk") -> tuple[str, Trace]:
         """Returns the model (str) and the trace (Trace) with a pool of this many agents (int) in place of the server. The trace gets two columns,
         NODE_agent and NODE_wait: the agent of each record's call, from 1, and its wait; both are 0 if it has no call there. `by` is "trunk" (up to
         255 agents) or "agents", a server per agent (up to the model's limit of nodes). Raises ValueError for too many agents, and for names that the
@@ -96,17 +112,17 @@ class Queue:
         calls = self.jobs, self.arrivals, self.demands
         return model, self.trace.with_columns(**columns_of(self.node, agents, calls, len(self.trace.rows)))
 
-    def run(self, agents, by="trunk"):
+    def run(self, agents: int, by: str = "trunk") -> Report:
         """Returns the report (Report), with visits, of a pool of this many agents (int)."""
         model, trace = self.with_pool(agents, by)
         with locating_errors(trace, model=self.path):
             return run(model, trace.lines(), jobs=True)
 
-    def visits(self, agents, by="trunk"):
+    def visits(self, agents: int, by: str = "trunk") -> NodeVisits:
         """Returns the visits (NodeVisits) of a pool of this many agents (int)."""
         return pooled(self.run(agents, by), self.node)
 
-    def judge_waits(self, days, who, waits):
+    def judge_waits(self, days: Calendar, who: Sequence[int], waits: Sequence[int]) -> None:
         """Checks the agents and waits of the calls (sequences of int, as `Group.assigned` returns them). Raises ValueError if a call is never served,
         with its time in a Calendar, or waits longer than a column can say."""
         if never := [at for at, (agent, wait) in enumerate(zip(who, waits)) if not agent and wait < 0]:
@@ -118,7 +134,7 @@ class Queue:
         if (longest := max(waits, default=0)) > GREATEST_VALUE:
             raise ValueError(f"at {self.node} a call waits {longest} ticks; the limit of a column is {GREATEST_VALUE}")
 
-    def with_group(self, count, who, waits, patience=None):
+    def with_group(self, count: int, who: Sequence[int], waits: Sequence[int], patience: Sequence[int] | None = None) -> tuple[str, Trace]:
         """Returns the model (str) and the trace (Trace) with a pool of this many agents (int) in place of the server, given the agent and the wait of
         each call, as `Group.assigned` returns them. `patience` (list of int, one per record, or None) becomes a column too."""
         this = next(it for it in self.nodes if it.name == self.node)
@@ -132,7 +148,7 @@ class Queue:
         text = "".join(self._with_lines([ROSTERED.format(node=self.node), *lines], version=2))
         return text, self.trace.with_columns(**columns)
 
-    def _model_of(self, agents, by):
+    def _model_of(self, agents: int, by: str) -> str:
         this = next(node for node in self.nodes if node.name == self.node)
         inputs = inputs_of(this)
         is_read = any(name == self.node for node in self.nodes for name, _ in node.inputs)
@@ -140,7 +156,7 @@ class Queue:
         self._judge(lines, None if by == "trunk" else agent_name(self.node, agents + 1))
         return "".join(self._with_lines(lines, version=2 if by == "trunk" else 1))
 
-    def _judge(self, lines, one_more):
+    def _judge(self, lines: Sequence[str], one_more: str | None) -> None:
         """Checks the names of lines to be added to the model, and that no server has the name of a further agent, as which it would be counted."""
         there = {node.name for node in self.nodes} - {self.node}
         made = [line.split()[1] for line in lines]
@@ -153,7 +169,7 @@ class Queue:
         if len(there) + len(made) > NODES:
             raise ValueError(f"the model would have {len(there) + len(made)} nodes; the limit is {NODES}: with --by trunk a pool takes two")
 
-    def _with_lines(self, lines, version):
+    def _with_lines(self, lines: Iterable[str], version: int) -> Iterator[str]:
         is_begun = False
         for line in self.text.split("\n"):
             words = line.split()
@@ -166,7 +182,7 @@ class Queue:
                 yield f"{line}\n"
 
 
-def calls_at(report, node, pool, demand, trace):
+def calls_at(report: Report, node: str, pool: str, demand: str, trace: Trace) -> Calls:
     """Returns the calls of a pool (str) that arrive at a node (str), from a report with visits: their records (from 1), their arrivals, and their
     service times in the trace (Trace) of the run (lists of int). Raises ValueError if a job arrives there more than once."""
     # A network without jobs has no job lines.
@@ -178,7 +194,7 @@ def calls_at(report, node, pool, demand, trace):
     return jobs, list(visits.arrive), [values[job - 1] for job in jobs]
 
 
-def columns_of(node, agents, calls, records):
+def columns_of(node: str, agents: int, calls: Calls, records: int) -> dict[str, list[int]]:
     """Returns the columns of a pool (dict of str to lists of int) for this many records: the agent of each record's call, and its wait; both are 0 if
     it has no call there. `calls` is what `calls_at` returns. Raises ValueError if a wait exceeds the limit of a column."""
     jobs, arrivals, demands = calls

@@ -3,20 +3,36 @@
 The agents who are available in an interval are the first ones of a roster; each serves calls by the rules of `mpsim.agents`. The calls are the
 recorded ones, so what is found holds for them. It is tested, not proved."""
 
+from __future__ import annotations
+
 import math
 from fractions import Fraction
 from itertools import groupby
-from typing import NamedTuple, Optional
+from typing import TYPE_CHECKING, Dict, List, NamedTuple, Optional, Tuple
 
 from ..node_visits import percentile_of
 from ..times.intervals import label
 from ..times.texts import SECOND, WEEKDAYS
 from .groups import FIRST, Agent, Group
 
+if TYPE_CHECKING:
+    from collections.abc import Callable, Iterator, Sequence
+
+    from ..shapes import Row
+    from ..times.intervals import Day
+
+    DayCalls = Tuple[Day, List[List["Waiting"]]]
+
 
 class Goal(NamedTuple):
     """A service level: at least `share` (Fraction) of the calls are served within `within` (int, ticks). If `occupancy` (Fraction) isn't None, agents
-    work at most this share of their time."""
+    work at most this share of their time.
+
+    >>> from fractions import Fraction
+    >>> from mpsim.agents.staffing import Goal
+    >>> Goal(Fraction(4, 5), 20)
+    Goal(share=Fraction(4, 5), within=20, occupancy=None)
+    """
 
     share: Fraction
     within: int
@@ -30,11 +46,11 @@ class Interval(NamedTuple):
     agents: int
     calls: int
     service: int
-    waits: list
+    waits: List[int]
     worked: int
     there: int
 
-    def within(self, ticks):
+    def within(self, ticks: int) -> float | None:
         """Returns the share of calls that are served within this many ticks (float; None without calls)."""
         return sum(wait <= ticks for wait in self.waits) / self.calls if self.calls else None
 
@@ -52,13 +68,13 @@ class _Passed(NamedTuple):
     """A day at the end of an interval: when agents end their calls (dict of place to tick), the calls that wait (list of Waiting), the waits of the
     calls that began in the interval (pairs of the number of an interval and ticks), and the ticks that agents of the interval worked."""
 
-    busy: dict
-    waiting: list
-    began: list
+    busy: Dict[int, int]
+    waiting: List[Waiting]
+    began: List[Tuple[int, int]]
     worked: int
 
 
-def passed(before, number, bounds, calls, agents, last):
+def passed(before: _Passed, number: int, bounds: tuple[int, int], calls: list[Waiting], agents: int, last: int) -> _Passed:
     """Returns a day at the end of an interval (_Passed) from one at its beginning, with the interval's number, its bounds, the calls that arrive in
     it (list of Waiting), its number of agents, and the last tick of the day."""
     begin, end = bounds
@@ -92,7 +108,11 @@ class Search:
     until the next number is chosen, which must keep to that. Enough agents always can, because all who wait are served when the next interval
     begins."""
 
-    def __init__(self, days, goal):
+    waits: list[list[int]]
+    found: list[Interval]
+    states: list[_Passed]
+
+    def __init__(self, days: Sequence[DayCalls], goal: Goal) -> None:
         self.goal, self.days = goal, days
         self.bounds = [day.bounds() for day, _ in days]
         self.states = [_Passed({}, [], [], 0) for _ in days]
@@ -101,7 +121,7 @@ class Search:
         self.hits = [0] * len(self.calls)
         self.found = []
 
-    def step(self):
+    def step(self) -> None:
         """Chooses the number of agents of the next interval: the least, of at least one if there is a call to serve."""
         number = len(self.found)
         agents = max(1, self.found[-1].agents if self.found else 1) if self.calls[number] or any(it.waiting for it in self.states) else 0
@@ -114,7 +134,7 @@ class Search:
             tried = self.tried(agents)
         self._choose(number, agents, tried)
 
-    def _choose(self, number, agents, tried):
+    def _choose(self, number: int, agents: int, tried: list[_Passed]) -> None:
         self.states = tried
         for it in tried:
             for at, wait in it.began:
@@ -124,18 +144,19 @@ class Search:
         worked = sum(it.worked for it in tried)
         self.found.append(Interval(agents, self.calls[number], service, self.waits[number], worked, self._there(number, agents)))
 
-    def tried(self, agents):
+    def tried(self, agents: int) -> list[_Passed]:
         """Returns each day at the end of the next interval (list of _Passed), with this many agents in it."""
         number = len(self.found)
         every = zip(self.states, self.bounds, self.days)
         return [passed(state, number, bounds[number], calls[number], agents, day.begins[-1]) for state, bounds, (day, calls) in every]
 
-    def _there(self, number, agents):
+    def _there(self, number: int, agents: int) -> int:
         return agents * sum(day.begins[number + 1] - day.begins[number] for day, _ in self.days)
 
-    def holds(self, agents, tried):
+    def holds(self, agents: int, tried: list[_Passed]) -> bool:
         """Returns whether these days keep to the goal: the next interval, and those before it from which calls still wait."""
-        number, more = len(self.found), {}
+        number = len(self.found)
+        more: dict[int, int] = {}
         open_ = {call.number for state in self.states for call in state.waiting} | ({number} if self.calls[number] else set())
         for it, bounds in zip(tried, self.bounds):
             end = bounds[number][1]
@@ -148,7 +169,7 @@ class Search:
         return self.goal.occupancy is None or sum(it.worked for it in tried) <= self.goal.occupancy * self._there(number, agents)
 
 
-def least(days, goal, progress=None):
+def least(days: Sequence[DayCalls], goal: Goal, progress: Callable[[int], object] | None = None) -> list[Interval]:
     """Returns an Interval for each interval of a day: from the first to the last, the least number of agents with which the calls of all days
     together can reach a Goal in that interval and those before it, and at least one if there is a call to serve. `days` are pairs of a Day and its
     calls (list, per interval, of lists of Waiting); `progress`, if given, is called with the number of intervals done.
@@ -168,10 +189,20 @@ def least(days, goal, progress=None):
     return search.found
 
 
-def calls_of(every, days, arrivals, services, patience):
+def calls_of(
+    every: int, days: Sequence[Day], arrivals: Sequence[int], services: Sequence[int], patience: Sequence[int | None] | None
+) -> list[list[list[Waiting]]]:
     """Returns the calls of each Day (list, per day, of what `least` takes) from arrivals (int, ticks, in any order), services and patience
-    (sequences)."""
-    found = [[[] for _ in day.begins[1:]] for day in days]
+    (sequences).
+
+    >>> from mpsim.agents.staffing import calls_of
+    >>> from mpsim.times.calendar import Calendar
+    >>> from mpsim.times.intervals import days_of
+    >>> days = days_of(Calendar(10**9), 0, 43200 * 10**9)
+    >>> calls_of(43200 * 10**9, days, [50000], [60], None)
+    [[[], [Waiting(number=1, arrive=50000, service=60, patience=None)]]]
+    """
+    found: list[list[list[Waiting]]] = [[[] for _ in day.begins[1:]] for day in days]
     at = 0
     for call in sorted(range(len(arrivals)), key=arrivals.__getitem__):
         while arrivals[call] >= days[at].begins[-1] and at + 1 < len(days):
@@ -181,7 +212,7 @@ def calls_of(every, days, arrivals, services, patience):
     return found
 
 
-def erlang_c(calls, service, span, share, within):
+def erlang_c(calls: float, service: float, span: float, share: float | Fraction, within: int) -> int | None:
     """Returns the least number of agents (int) with which `share` of random calls wait at most `within` ticks, by Erlang's formula for calls that
     wait: for this many calls (float) of this mean service (float, ticks) in a span of this many ticks. None without work.
 
@@ -204,7 +235,7 @@ def erlang_c(calls, service, span, share, within):
 HEADS = "from", "days", "calls", "handling_time", "agents", "rostered", "within", "p90", "occupancy", "erlang_c"
 
 
-def rows_of(found, count, every, tick, goal, shrinkage=Fraction(0)):
+def rows_of(found: Sequence[Interval], count: int, every: int, tick: int, goal: Goal, shrinkage: Fraction = Fraction(0)) -> Iterator[Row]:
     """Yields a row (list, as in HEADS) for each Interval of so many days (int) that has calls or agents: the time of day; the days; per day, the
     calls to two decimals; their mean handling time in seconds; the agents needed, and rostered with this shrinkage (Fraction); the share served
     within the goal's time; the 90th percentile of the waits in seconds; the occupancy; and the number of agents by Erlang's formula. None if there is
@@ -215,18 +246,18 @@ def rows_of(found, count, every, tick, goal, shrinkage=Fraction(0)):
         handling = it.service / it.calls if it.calls else None
         share = it.within(goal.within)
         p90 = percentile_of(sorted(it.waits), 90) if it.waits else None
-        erlang = erlang_c(it.calls / count, handling, every / tick, goal.share, goal.within) if it.calls else None
+        erlang = erlang_c(it.calls / count, handling, every / tick, goal.share, goal.within) if handling is not None else None
         shown = [None if handling is None else round(handling * tick / SECOND, 1), it.agents, math.ceil(it.agents / (1 - shrinkage))]
         shown += [None if share is None else round(share, 4), None if p90 is None else round(p90 * tick / SECOND, 1)]
         occupancy = round(it.worked / it.there, 4) if it.there else None
         yield [label(number, every), count, round(it.calls / count, 2), *shown, occupancy, erlang]
 
 
-def groups_of(chosen, is_dated, date):
+def groups_of(chosen: Sequence[DayCalls], is_dated: bool, date: str | None) -> tuple[str, list[tuple[str, Sequence[DayCalls]]]]:
     """Returns the name of the first column, and the groups of days that get the same numbers of agents: pairs of a name and days."""
     if date:
         return "date", [(date, chosen)]
     if not is_dated:
         return "day", [("all days", chosen)]
-    by = sorted(chosen, key=lambda it: WEEKDAYS.index(it[0].weekday))
-    return "weekday", [(name, list(mine)) for name, mine in groupby(by, key=lambda it: it[0].weekday)]
+    by = sorted(chosen, key=lambda it: WEEKDAYS.index(it[0].weekday or ""))
+    return "weekday", [(name, list(mine)) for name, mine in groupby(by, key=lambda it: it[0].weekday or "")]

@@ -1,8 +1,22 @@
 """Compares the waits that a telephone system recorded with those of a group of agents who get the same calls."""
 
-from typing import NamedTuple
+from __future__ import annotations
+
+from typing import TYPE_CHECKING, NamedTuple
 
 from ..times.intervals import label
+
+if TYPE_CHECKING:
+    from collections.abc import Iterator, Sequence
+    from typing import Dict, List, Tuple
+
+    from ..shapes import Row
+    from ..times.intervals import Day
+    from ..traces.trace import Trace
+    from .groups import Group
+    from .queues import Queue
+
+    Cells = Dict[Tuple[int, str], List["Pair"]]
 
 # When a model is trusted: how far the service levels may differ over all calls, and in an interval of at least so many calls.
 OVERALL, EACH, CALLS = 0.02, 0.05, 50
@@ -18,7 +32,7 @@ class Pair(NamedTuple):
     served: bool
 
 
-def compared(queue, group, days, waits, gone):
+def compared(queue: Queue, group: Group, days: Sequence[Day], waits: Sequence[int], gone: Sequence[bool]) -> Cells:
     """Returns the calls of a Queue (list of Pair), by the number of their interval and their source (dict), with the agents of a Group in the model.
     `days` (list of Day) have the intervals; `waits` (list of int, ticks) and `gone` (list of bool) are those that `recorded` returns."""
     every_source = queue.trace.sources()
@@ -26,7 +40,8 @@ def compared(queue, group, days, waits, gone):
     # An abandoned call shows how long the caller waited, any other only that the patience was longer.
     patience = [waits[job - 1] if gone[job - 1] else None for job in queue.jobs]
     who, modelled = group.assigned(queue.arrivals, queue.demands, sources, patience)
-    found, at = {}, 0
+    found: Cells = {}
+    at = 0
     for call in sorted(range(len(queue.jobs)), key=queue.arrivals.__getitem__):
         while queue.arrivals[call] >= days[at].begins[-1] and at + 1 < len(days):
             at += 1
@@ -36,7 +51,7 @@ def compared(queue, group, days, waits, gone):
     return found
 
 
-def figures(pairs, within, same):
+def figures(pairs: Sequence[Pair], within: int, same: int) -> Row:
     """Returns the number of calls (int), the recorded and the modelled share answered within `within` ticks, their difference, and the share of calls
     with the same end whose waits differ by at most `same` ticks (floats; None without calls), for some calls (list of Pair).
 
@@ -50,25 +65,35 @@ def figures(pairs, within, same):
     return [len(pairs), *(round(it, 4) for it in (*shares, shares[1] - shares[0], alike))]
 
 
-def verdict(rows):
+def _gap(row: Row) -> tuple[int, float, float, float] | None:
+    """Returns the number of calls of a row as in HEADS, the recorded and the modelled share, and their difference; None without calls."""
+    count, one, other, gap = row[2:6]
+    if isinstance(count, int) and isinstance(one, float) and isinstance(other, float) and isinstance(gap, float):
+        return count, one, other, gap
+    return None
+
+
+def verdict(rows: Sequence[Row]) -> str:
     """Returns a line (str) that says whether a model may be trusted, and why not, from rows as in HEADS with the queue "all": the first of all calls,
     the others per interval."""
-    whole, *each = rows
-    if whole[5] is None:
+    whole = _gap(rows[0])
+    if whole is None:
         return "there are no calls to compare"
-    far = [row for row in each if row[2] >= CALLS and abs(row[5]) > EACH]
-    both = f"{100 * whole[3]:.1f} % recorded, {100 * whole[4]:.1f} % modelled"
-    if abs(whole[5]) <= OVERALL and not far:
+    each = [(row[0], found) for row in rows[1:] if (found := _gap(row))]
+    far = [(name, gap) for name, (count, _, _, gap) in each if count >= CALLS and abs(gap) > EACH]
+    _, one, other, gap = whole
+    both = f"{100 * one:.1f} % recorded, {100 * other:.1f} % modelled"
+    if abs(gap) <= OVERALL and not far:
         return f"the model may be trusted: {both}, and no interval of {CALLS} calls or more differs by more than {100 * EACH:.0f} points"
-    worst = max(far, key=lambda row: abs(row[5]), default=None)
     where = ""
-    if worst:
-        where = f"; {len(far)} of {len(each)} intervals differ by more than {100 * EACH:.0f} points, most at {worst[0]} ({100 * worst[5]:+.1f})"
-    how = "better" if whole[5] > 0 else "worse"
+    if far:
+        name, worst = max(far, key=lambda item: abs(item[1]))
+        where = f"; {len(far)} of {len(rows) - 1} intervals differ by more than {100 * EACH:.0f} points, most at {name} ({100 * worst:+.1f})"
+    how = "better" if gap > 0 else "worse"
     return f"the model may not be trusted: {both}, and the model is {how}{where}"
 
 
-def rows_of(cells, within, same, every):
+def rows_of(cells: Cells, within: int, same: int, every: int) -> Iterator[Row]:
     """Yields a row (list, as in HEADS) for all calls, for each queue if there are several, and for each interval and queue."""
     queues = sorted({queue for _, queue in cells})
     for number in (None, *sorted({number for number, _ in cells})):
@@ -79,8 +104,14 @@ def rows_of(cells, within, same, every):
             yield from ([name, queue, *figures(calls, within, same)] for queue, calls in mine.items() if calls)
 
 
-def recorded(trace, wait, abandoned=None):
+def recorded(trace: Trace, wait: str, abandoned: str | None = None) -> tuple[list[int], list[bool]]:
     """Returns, for each record of a Trace, the recorded wait (int, ticks) and whether the call was abandoned (two lists), from the columns of these
-    names. Raises ValueError for an unknown column."""
+    names. Raises ValueError for an unknown column.
+
+    >>> from mpsim.agents.validation import recorded
+    >>> from mpsim.traces import Trace
+    >>> recorded(Trace("t.csv", ["source", "time", "wait", "gone"], [["door", "0", "30", "0"], ["door", "9", "60", "1"]]), "wait", "gone")
+    ([30, 60], [False, True])
+    """
     waits = trace.numbers(wait)
     return waits, [value != 0 for value in trace.numbers(abandoned)] if abandoned else [False] * len(waits)

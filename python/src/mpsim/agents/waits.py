@@ -1,7 +1,9 @@
 """Finds the pools in a model and recomputes their agents and waits for part of a trace that `mpplan pool` made."""
 
+from __future__ import annotations
+
 import contextlib
-from typing import NamedTuple
+from typing import TYPE_CHECKING, NamedTuple
 
 from ..errors import BoundError, ModelError, TraceError, VisitsError
 from ..inputs import model_input
@@ -10,6 +12,13 @@ from ..runs import run
 from .networks import ROSTERED, agent_lines, front, in_front, inputs_of, trunk_lines
 from .pools import agents_of, gone_name, queue_name
 from .queues import calls_at, columns_of
+
+if TYPE_CHECKING:
+    from collections.abc import Iterable, Iterator, Mapping
+
+    from ..model import ModelNode
+    from ..shapes import ModelInput
+    from ..traces.trace import Trace
 
 
 class ModelPool(NamedTuple):
@@ -22,7 +31,7 @@ class ModelPool(NamedTuple):
     front: str
 
 
-def model_pools(model, trace):
+def model_pools(model: ModelInput, trace: Trace) -> list[ModelPool]:
     """Returns the pools (list of ModelPool) in a model whose lines are those that `mpplan pool` writes, upstream pools first.
 
     A trunk group that loses a call of the trace (Trace) isn't a pool, since the trace was made for another number of agents; if the trace is
@@ -44,9 +53,8 @@ def model_pools(model, trace):
         nodes = {node.name: node for node in nodes_of(text)}
         found = sorted(_named(nodes), key=lambda item: len(in_front(nodes, [queue_name(item[0])])))
     for name, *_ in found:
-        if ROSTERED.format(node=name) in text.splitlines() or gone_name(name) in nodes:
-            why = "its waits hold only for the whole trace; run mpplan pool for each part"
-            raise ValueError(f"{name} is a pool with a roster, patience or priorities: {why}")
+        if _has_more_rules(text, name):
+            raise ValueError(_rules_error(name, "run mpplan pool for each part"))
     if groups := [name for name, *_, end in found if name == end]:
         with contextlib.suppress(ModelError, TraceError, BoundError, VisitsError):
             report = run(front(text, groups), trace.lines())
@@ -54,26 +62,36 @@ def model_pools(model, trace):
     return [ModelPool(name, agents, demand, front(text, [end])) for name, agents, demand, end in found if not lost.get(name)]
 
 
-def _named(nodes):
+def _has_more_rules(text: str, name: str) -> bool:
+    """Returns whether a pool in a model has a roster, patience or priorities, so that its waits don't follow from its number of agents."""
+    return ROSTERED.format(node=name) in text.splitlines() or any(node.name == gone_name(name) for node in nodes_of(text))
+
+
+def _rules_error(name: str, then: str) -> str:
+    return f"{name} is a pool with a roster, patience or priorities: its waits hold only for the whole trace; {then}"
+
+
+def _named(nodes: Mapping[str, ModelNode]) -> Iterator[tuple[str, int, str, str]]:
     """Yields the name, the number of agents, the service time and a serving node of each pool among `nodes` (dict of ModelNode by name). The serving
     node is the trunk group of the pool's name, or the first agent."""
     for node in nodes.values():
         name = node.name.removesuffix(queue_name(""))
         if node.kind == "delay" and name in nodes and nodes[name].kind == "trunk":
-            agents, demand = nodes[name].arguments.split()
-            end, lines = name, trunk_lines(name, int(agents), demand, inputs_of(node))
+            number, demand = nodes[name].arguments.split()
+            agents, end = int(number), name
+            lines = trunk_lines(name, agents, demand, inputs_of(node))
         elif node.kind == "split" and (servers := agents_of(nodes, name)):
             agents, demand, end = len(servers), nodes[servers[0]].arguments, servers[0]
             lines = agent_lines(name, agents, demand, inputs_of(node), is_read=False)
         else:
             continue
         if all(nodes.get(made.name) == made for made in nodes_of("\n".join(lines))):
-            yield name, int(agents), demand, end
+            yield name, agents, demand, end
 
 
-def pools_in(text, trace):
+def pools_in(text: str, trace: Trace) -> list[ModelPool]:
     """Returns the pools (list of ModelPool) in the lines of a model (str) whose agents and waits are columns of a trace (Trace), upstream pools
-    first, whatever number of agents the trace was made for. Raises ValueError for a pool with a roster, patience or priorities."""
+    first, whatever number of agents the trace was made for."""
     with contextlib.suppress(ValueError):
         nodes = {node.name: node for node in nodes_of(text)}
         found = sorted(_named(nodes), key=lambda item: len(in_front(nodes, [queue_name(item[0])])))
@@ -82,9 +100,10 @@ def pools_in(text, trace):
     return []
 
 
-def varied(texts, trace):
+def varied(texts: Iterable[str], trace: Trace) -> list[str]:
     """Returns the names of pools (list of str) that have different numbers of agents in these models (iterable of str), and whose agents and waits
-    are columns of a trace (Trace): the trace holds for one of the numbers at most.
+    are columns of a trace (Trace): the trace holds for one of the numbers at most. Raises ValueError if there are some, and a pool of these models has
+    a roster, patience or priorities, since its waits can't be worked out again.
 
     >>> from mpsim.agents.waits import varied
     >>> from mpsim.traces import Trace
@@ -93,14 +112,19 @@ def varied(texts, trace):
     >>> varied(models, trace), varied(models[:1], trace)
     (['desk'], [])
     """
-    numbers = {}
+    numbers: dict[str, set[int]] = {}
+    ruled: set[str] = set()
     for text in texts:
         for pool in pools_in(text, trace):
             numbers.setdefault(pool.name, set()).add(pool.agents)
-    return [name for name, counts in numbers.items() if len(counts) > 1]
+            ruled |= {pool.name} if _has_more_rules(text, pool.name) else set()
+    found = [name for name, counts in numbers.items() if len(counts) > 1]
+    if found and ruled:
+        raise ValueError(_rules_error(min(ruled), "run mpplan pool for each number of agents"))
+    return found
 
 
-def recomputed(trace, pools):
+def recomputed(trace: Trace, pools: Iterable[ModelPool]) -> Trace:
     """Returns the trace (Trace) with the agents and waits at `pools` (list of ModelPool, from `model_pools`) recomputed from its own records, in a
     network that is empty at time 0. Raises what `mpsim.run` does, and ValueError if a job visits a pool more than once.
 

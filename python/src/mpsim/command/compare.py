@@ -1,5 +1,9 @@
 """The command `mpplan compare`."""
 
+from __future__ import annotations
+
+from typing import TYPE_CHECKING
+
 from ..agents.pools import pool_lines, pools
 from ..errors import Error
 from ..files import written
@@ -9,11 +13,15 @@ from ..tables.sheets import write_table
 from .messages import say
 from .options import table_words
 
+if TYPE_CHECKING:
+    from argparse import ArgumentParser, Namespace
+
 EXAMPLE = """mpplan compare today.txt tomorrow.txt --figure p90
          mpplan compare sweep.txt --figure lost --node desk --csv >lost.csv"""
 
 
-def words(parser):
+def words(parser: ArgumentParser) -> None:
+    """Declares the arguments of `mpplan compare`."""
     parser.add_argument("reports", nargs="+", metavar="report", help="reports or sweeps; each scenario of a sweep counts as a report")
     says = f"figure to compare: one of {', '.join(FIGURES)}; default: p90"
     parser.add_argument("--figure", choices=FIGURES, default="p90", metavar="FIGURE", help=says)
@@ -22,7 +30,8 @@ def words(parser):
     table_words(parser)
 
 
-def main(args):
+def main(args: Namespace) -> None:
+    """Runs `mpplan compare`."""
     labelled = list(labelled_in(args.reports))
     refused = [(label, it) for label, it in labelled if isinstance(it, Error)]
     if len(refused) == len(labelled):
@@ -36,6 +45,7 @@ def main(args):
     if args.figure in ("max", "p50", "p90", "p99") and any(pools(report) and report.visits is None for report in reports):
         say(f"a pool's {args.figure} needs job lines: run mpsim with --jobs")
     if args.csv or args.format != "csv" or args.csv_style != "plain":
-        return write_table(differences(labels, found), args.format, args.csv_style)
+        write_table(differences(labels, found), args.format, args.csv_style)
+        return
     with written() as file:
         file.writelines(aligned(labels, found))

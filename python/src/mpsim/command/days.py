@@ -1,5 +1,9 @@
 """The command `mpplan days`."""
 
+from __future__ import annotations
+
+from typing import TYPE_CHECKING
+
 from ..agents.pools import pool_lines
 from ..files import text_of
 from ..progress import Progress
@@ -11,10 +15,14 @@ from ..wording import counted
 from .messages import say
 from .options import calendar_of, calendar_words, table_words
 
+if TYPE_CHECKING:
+    from argparse import ArgumentParser, Namespace
+
 EXAMPLE = "mpplan days model.txt trace.csv --open 8:00 >days.csv"
 
 
-def words(parser):
+def words(parser: ArgumentParser) -> None:
+    """Declares the arguments of `mpplan days`."""
     parser.add_argument("model", help="a model")
     parser.add_argument("trace", help="its trace")
     parser.add_argument("--node", action="append", default=[], metavar="NAME", help="only rows of this node or pool; may be repeated")
@@ -27,7 +35,8 @@ def words(parser):
     table_words(parser)
 
 
-def main(args):
+def main(args: Namespace) -> int:
+    """Runs `mpplan days`, and returns its status."""
     text, trace = text_of(args.model), Trace.read(args.trace)
     if args.every is not None and (args.every < 1 or args.open or args.close):
         raise ValueError(f"--every {args.every}: expected a positive number of ticks, without --open and --close")

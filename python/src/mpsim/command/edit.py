@@ -1,6 +1,9 @@
 """The command `mpplan edit`."""
 
+from __future__ import annotations
+
 import contextlib
+from typing import TYPE_CHECKING
 
 from ..files import all_written, judge_outputs, written
 from ..progress import uncollected
@@ -8,10 +11,14 @@ from ..traces.edit import edited
 from ..traces.trace import pool_warning
 from .messages import say
 
+if TYPE_CHECKING:
+    from argparse import ArgumentParser, Namespace
+
 EXAMPLE = "mpplan edit trace.csv changes.csv --out edited.csv"
 
 
-def words(parser):
+def words(parser: ArgumentParser) -> None:
+    """Declares the arguments of `mpplan edit`."""
     parser.add_argument("trace", help="a trace")
     parser.add_argument("changes", help="CSV with a header of record and column names of the trace; or, with --model, edits for mpedit")
     judges = "check the changes against this model, which mpsim checks first; edits for mpedit need it for the order of their values"
@@ -20,7 +27,8 @@ def words(parser):
     parser.add_argument("--edits", metavar="FILE", help="write the same changes as edits for mpedit; requires --model")
 
 
-def main(args):
+def main(args: Namespace) -> None:
+    """Runs `mpplan edit`."""
     if args.edits and not args.model:
         raise ValueError("--edits requires --model, which has the order of their values")
     judge_outputs([args.out, args.edits], {"trace": [args.trace], "file of changes": [args.changes], "model": [args.model]})

@@ -1,5 +1,9 @@
 """The pool of `mpplan pool` with a roster, patience or priorities: its agents and waits come from `mpsim.agents`."""
 
+from __future__ import annotations
+
+from typing import TYPE_CHECKING
+
 from ..agents.groups import FIRST, LONGEST_IDLE, Agent, Group
 from ..agents.queues import Queue
 from ..agents.rosters import counts_roster, patience_in, read_roster
@@ -13,8 +17,15 @@ from ..traces.trace import Trace, locating_errors
 from ..wording import counted
 from .options import calendar_of, calendar_words
 
+if TYPE_CHECKING:
+    from argparse import ArgumentParser, Namespace
+    from collections.abc import Collection, Sequence
 
-def group_words(parser):
+    from ..shapes import Row
+    from ..times.calendar import Calendar
+
+
+def group_words(parser: ArgumentParser) -> None:
     """Declares the arguments that say who serves which calls."""
     parser.add_argument("--roster", metavar="FILE", help="who is there when: a CSV file with the columns agent, queues, from and to")
     parser.add_argument("--first", action="append", default=[], metavar="SOURCE", help="serve calls of this source first; may be repeated")
@@ -24,7 +35,8 @@ def group_words(parser):
     parser.add_argument("--choose", choices=[LONGEST_IDLE, FIRST], help=says)
 
 
-def roster_words(parser):
+def roster_words(parser: ArgumentParser) -> None:
+    """Declares the arguments of `mpplan pool` for a roster, patience and priorities."""
     group_words(parser)
     says = "callers leave after this time, e.g. 240s, after the ticks in this column, or after random times of this mean: exp:240s"
     parser.add_argument("--patience", metavar="TIME", help=says)
@@ -34,13 +46,13 @@ def roster_words(parser):
     calendar_words(parser)
 
 
-def asks_for_group(args):
+def asks_for_group(args: Namespace) -> bool:
     """Returns whether a command's arguments ask for more than a number of agents."""
     more = args.roster, args.patience, args.first, args.then, args.choose, args.every, "=" in (args.agents or "")
     return any(more)
 
 
-def _priorities(args, sources):
+def _priorities(args: Namespace, sources: Collection[str]) -> dict[str, int]:
     found = dict.fromkeys(args.first, 1)
     for rank, name in enumerate(args.then, 2):
         if name in found:
@@ -52,7 +64,7 @@ def _priorities(args, sources):
     return found
 
 
-def _agents(args, days, last, sources):
+def _agents(args: Namespace, days: Calendar, last: int, sources: Sequence[str]) -> list[Agent]:
     """Returns the agents (list of Agent) that the arguments ask for."""
     if args.roster:
         return read_roster(args.roster, days, last, sources)[0]
@@ -64,7 +76,7 @@ def _agents(args, days, last, sources):
     return [Agent()] * int(args.agents)
 
 
-def group_of(args, days, last, sources):
+def group_of(args: Namespace, days: Calendar, last: int, sources: Sequence[str]) -> tuple[list[Agent], Group]:
     """Returns the agents (list of Agent) and the Group that a command's arguments ask for, for a Calendar, its last tick (int), and the source of
     each record (list of str). Raises ValueError for invalid arguments."""
     agents = _agents(args, days, last, list(dict.fromkeys(sources)))
@@ -73,7 +85,7 @@ def group_of(args, days, last, sources):
     return agents, Group(agents, _priorities(args, set(sources)), args.choose or LONGEST_IDLE)
 
 
-def _judge(args):
+def _judge(args: Namespace) -> None:
     if args.report:
         raise ValueError("--report reads a pool that has been run: give no roster, patience, priorities or --every with it")
     if not args.model or not args.trace or not args.agents and not args.roster:
@@ -87,7 +99,7 @@ def _judge(args):
     judge_outputs([args.out, args.out_model], {"model": [args.model], "trace": [args.trace], "roster": [args.roster]})
 
 
-def rows_of_group(args):
+def rows_of_group(args: Namespace) -> list[Row]:
     """Returns the header and the rows (lists) of the table of a pool with a roster, patience or priorities, as HEADS says, and writes the
     outputs that the arguments ask for. Raises what Queue does, and ValueError for invalid arguments, and if some calls are never served."""
     _judge(args)
@@ -115,4 +127,4 @@ def rows_of_group(args):
             out_model.write(model)
     calls = sources, queue.arrivals, queue.demands, who, waits
     within = (args.within or [20])[0]
-    return [HEADS, *Table(days_of(days, last, every), calls, agents, within).rows(every, days.tick)]
+    return [[*HEADS], *Table(days_of(days, last, every), calls, agents, within).rows(every, days.tick)]

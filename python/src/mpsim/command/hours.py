@@ -1,5 +1,9 @@
 """The command `mpplan hours`."""
 
+from __future__ import annotations
+
+from typing import TYPE_CHECKING
+
 from ..files import text_of
 from ..tables.hours import hours
 from ..tables.service import PERCENTS
@@ -7,10 +11,14 @@ from ..tables.sheets import write_table
 from .options import calendar_of, calendar_words, figure_words, place_words, report_words, table_words
 from .reports import report_of, visits_of
 
+if TYPE_CHECKING:
+    from argparse import ArgumentParser, Namespace
+
 EXAMPLE = "mpplan hours model.txt trace.csv --node desk --within 20 >hours.csv"
 
 
-def words(parser):
+def words(parser: ArgumentParser) -> None:
+    """Declares the arguments of `mpplan hours`."""
     report_words(parser)
     place_words(parser)
     says = "rows by hour of day, by day, by weekday, or by each hour of each day; default: hour"
@@ -21,7 +29,8 @@ def words(parser):
     table_words(parser)
 
 
-def main(args):
+def main(args: Namespace) -> None:
+    """Runs `mpplan hours`."""
     report = report_of(args)
     found = visits_of(report, args)
     if len(found) != 1:

@@ -1,18 +1,26 @@
 """Runs shards with GNU parallel or Slurm, which decide where and when; each shard is a call of `mpplan`."""
 
+from __future__ import annotations
+
 import os
 import re
 import shlex
 import subprocess
 import sys
+from typing import TYPE_CHECKING
 
 from ..files import written
+
+if TYPE_CHECKING:
+    from collections.abc import Iterable, Sequence
+
+    from ..sweeps.shards import Folder
 
 HERE = os.path.dirname(os.path.abspath(__file__))
 START = "import sys; sys.path.insert(0, sys.argv.pop(1)); from mpsim.command import main; sys.exit(main(sys.argv[1:]))"
 
 
-def command(folder):
+def command(folder: Folder) -> list[str]:
     """Returns the command line that runs a shard, without its number. It works on every machine that has the directory, the package and the programs
     at the same paths."""
     package = os.path.dirname(os.path.dirname(HERE))
@@ -22,7 +30,7 @@ def command(folder):
     return ["env", *settings, *python, "sweep", "--folder", os.path.abspath(folder.path), "--shard"]
 
 
-def _run(words, what, given=None):
+def _run(words: Sequence[str], what: str, given: str | None = None) -> None:
     """Runs a command with this input. Its output goes to stderr. Raises ValueError if the command doesn't exist."""
     try:
         process = subprocess.Popen(words, stdin=subprocess.PIPE, stdout=2)
@@ -37,14 +45,14 @@ def _run(words, what, given=None):
             process.wait()
 
 
-def by_parallel(folder, shards, options=()):
+def by_parallel(folder: Folder, shards: Iterable[int], options: Sequence[str] = ()) -> None:
     """Runs shards with GNU parallel. Its options may name machines (--sshlogin a,b) and the number of jobs at a time (--jobs 4)."""
     # It gets whole command lines, in which it replaces nothing.
     lines = "".join(f"{shlex.join([*command(folder), str(shard)])}\n" for shard in shards)
     _run(["parallel", "--no-notice", "--halt", "never", *options], "--parallel requires GNU parallel", lines)
 
 
-def array(folder, shards, tasks):
+def array(folder: Folder, shards: Sequence[int], tasks: int) -> tuple[str, int]:
     """Returns the script of a job array and its number of tasks. Each task runs one or more shards, so that there are no more tasks than Slurm
     allows."""
     each = -(-len(shards) // tasks)
@@ -62,7 +70,7 @@ exit $status
     return script, -(-len(shards) // each)
 
 
-def _most_tasks():
+def _most_tasks() -> int:
     """Returns the greatest number of tasks in an array of this Slurm."""
     try:
         config = subprocess.run(["scontrol", "show", "config"], stdout=subprocess.PIPE, stderr=subprocess.DEVNULL, text=True, check=False).stdout
@@ -72,7 +80,7 @@ def _most_tasks():
     return max(int(found[1]) - 1, 1) if found else 1000
 
 
-def by_slurm(folder, shards, options=()):
+def by_slurm(folder: Folder, shards: Sequence[int], options: Sequence[str] = ()) -> None:
     """Runs shards as a Slurm array and waits for its end. The output of the tasks goes to `slurm.out` in the directory."""
     script, tasks = array(folder, shards, _most_tasks())
     path, out = (os.path.join(os.path.abspath(folder.path), item) for item in ("array.sh", "slurm.out"))

@@ -1,19 +1,21 @@
 """Prints messages on stderr, and turns errors into lines."""
 
+from __future__ import annotations
+
 import contextlib
 import sys
 
 from ..errors import Error
 
 
-def say(line):
+def say(line: str) -> None:
     """Prints a line on stderr, if there is one."""
     with contextlib.suppress(OSError, AttributeError):
         sys.stderr.write(f"mpplan: {line}\n")
         sys.stderr.flush()
 
 
-def line_of(error):
+def line_of(error: BaseException) -> str:
     """Returns an error as one printable line."""
     if isinstance(error, Error):
         text = str(error).split("\n", 1)[0] + (f": {error.source}" if error.source else "")

@@ -1,13 +1,20 @@
 """Options that several commands share."""
 
+from __future__ import annotations
+
 import argparse
+from typing import TYPE_CHECKING
 
 from ..tables.sheets import STYLES
 from ..times.calendar import Calendar, settings_in, tick_of
 from ..times.texts import given, iso
 
+if TYPE_CHECKING:
+    from argparse import ArgumentParser, Namespace
+    from typing import Any
 
-def calendar_words(parser):
+
+def calendar_words(parser: ArgumentParser) -> None:
     """Declares the arguments that define a tick."""
     parser.add_argument("--tick", metavar="LENGTH", help="length of a tick, e.g. 1s or 100ms; default: from the comments of the model")
     parser.add_argument("--start", metavar="TIME", help="date and time of time 0, e.g. 2026-03-02T08:00; default: from the comments of the model")
@@ -15,12 +22,12 @@ def calendar_words(parser):
     parser.add_argument("--zone", metavar="NAME", help=says)
 
 
-def calendar_words_in(args):
+def calendar_words_in(args: Namespace) -> list[str]:
     """Returns those options (list of str) declared by `words` that were given."""
     return [f"--{name}" for name in ("tick", "start", "zone") if getattr(args, name) is not None]
 
 
-def calendar_of(args, model=None):
+def calendar_of(args: Namespace, model: str | None = None) -> Calendar:
     """Returns the Calendar defined by a command's arguments and a model's text (str or None). Raises ValueError if neither gives the length of a
     tick."""
     tick, start, zone = settings_in(model or "")
@@ -34,13 +41,14 @@ def calendar_of(args, model=None):
     return Calendar(given("--tick", tick_of, args.tick) if args.tick else tick, args.start or start, args.zone or zone)
 
 
-def figure_words(parser, what="waits", share="report the share served within this many ticks (default: 20)"):
+def figure_words(parser: ArgumentParser, what: str = "waits", share: str = "report the share served within this many ticks (default: 20)") -> None:
+    """Declares the arguments that choose the figures of waits, or of what else is counted."""
     parser.add_argument("--within", type=ticks, action=Once, metavar="TICKS", help=f"{share}; may be repeated")
     says = f"percentile of the {what} to report (default: 50, 90, 95 and 99); may be repeated"
     parser.add_argument("--percentile", type=float, action=Once, metavar="P", help=says)
 
 
-def ticks(text):
+def ticks(text: str) -> int:
     """Returns the ticks (int) in the value of --within."""
     try:
         value = int(text)
@@ -54,34 +62,37 @@ def ticks(text):
 class Once(argparse.Action):
     """An option that may be repeated; repeated values count once."""
 
-    def __call__(self, parser, args, value, option=None):
+    def __call__(self, parser: argparse.ArgumentParser, args: argparse.Namespace, value: Any, option: str | None = None) -> None:
         before = getattr(args, self.dest) or []
         setattr(args, self.dest, before if value in before else [*before, value])
 
 
-def every_words(parser):
+def every_words(parser: ArgumentParser) -> None:
+    """Declares the argument that gives the length of an interval."""
     parser.add_argument("--every", default="30min", metavar="LENGTH", help="length of an interval, e.g. 15min, 30min (the default) or 1h")
 
 
-def table_words(parser):
+def table_words(parser: ArgumentParser) -> None:
     """Declares the arguments that choose the form of a table."""
     says = "form of the table: csv (the default), json (an object per row), md (Markdown) or xlsx (requires the Python package openpyxl)"
     parser.add_argument("--format", choices=["csv", "json", "md", "xlsx"], default="csv", help=says)
     style_words(parser)
 
 
-def style_words(parser):
+def style_words(parser: ArgumentParser) -> None:
     """Declares the argument that chooses the style of a CSV table."""
     says = "for csv: excel-de has semicolons, decimal commas and a byte order mark, as spreadsheets in German expect; default: plain"
     parser.add_argument("--csv-style", choices=list(STYLES), default="plain", help=says)
 
 
-def report_words(parser, what="a report with job lines"):
+def report_words(parser: ArgumentParser, what: str = "a report with job lines") -> None:
+    """Declares the arguments that give a report, or a model and a trace to run."""
     parser.add_argument("report", help=f"{what}, or a model")
     parser.add_argument("trace", nargs="?", help="after a model: the trace to run through it")
 
 
-def place_words(parser, several=""):
+def place_words(parser: ArgumentParser, several: str = "") -> None:
+    """Declares the arguments that name nodes and pools."""
     parser.add_argument("--node", action="append", default=[], metavar="NAME", help=f"a node, or a pool by its name{several}")
     says = f"a pool that mpplan pool made: all its agents together{several}"
     parser.add_argument("--pool", action="append", default=[], metavar="NAME", help=says)

@@ -1,5 +1,10 @@
 """The command `mpplan page`: makes an HTML page from existing reports."""
 
+from __future__ import annotations
+
+from datetime import datetime
+from typing import TYPE_CHECKING, Optional, TypedDict
+
 from .. import page
 from ..agents.pools import pool_lines
 from ..files import judge_outputs, text_of, written
@@ -12,10 +17,17 @@ from ..wording import counted
 from .messages import say
 from .options import calendar_of, calendar_words, calendar_words_in, ticks
 
+if TYPE_CHECKING:
+    from argparse import ArgumentParser, Namespace
+    from collections.abc import Iterable
+
+    from ..report import Report
+
 EXAMPLE = "mpplan page jobs.txt --model model.txt --out run.html"
 
 
-def words(parser):
+def words(parser: ArgumentParser) -> None:
+    """Declares the arguments of `mpplan page`."""
     says = "a report of mpsim or a sweep of mpsweep; with job lines (--jobs) the page has waits"
     parser.add_argument("reports", metavar="REPORT", nargs="+", help=says)
     says = "the model, to draw the network: one for all reports, or one per report"
@@ -26,7 +38,14 @@ def words(parser):
     calendar_words(parser)
 
 
-def axes(args, text):
+class Axes(TypedDict, total=False):
+    """The options of a page that give its axes times of day: the seconds per tick, and the wall-clock time of time 0."""
+
+    tick: float
+    start: Optional[datetime]
+
+
+def axes(args: Namespace, text: str | None) -> Axes:
     """Returns the options of a page given by a command's arguments and a model's text (str or None): the seconds per tick, and the wall-clock time of
     time 0. Empty if nothing gives the length of a tick and no argument needs it."""
     tick, start, _ = settings_in(text or "")
@@ -36,27 +55,28 @@ def axes(args, text):
     return {"tick": days.tick / SECOND, "start": moment(days.wall(0)) if args.start or start else None}
 
 
-def _labelled(path, name):
+def _labelled(path: str, name: str) -> list[tuple[str, Report]]:
     """Yields pairs of a label and a report in a file: the label is the file's name, followed in a sweep by the number of the scenario."""
     loaded = load(path)
     return [(f"{name} {label}", it) for label, it in loaded.reports().items()] if isinstance(loaded, Sweep) else [(name, loaded)]
 
 
-def _models(args):
+def _models(args: Namespace) -> list[str | None]:
     """Returns the model's text (str or None) for each report file. Raises ValueError unless there is one model, or one per report."""
-    texts = [text_of(item) for item in args.model] or [None]
+    texts: list[str | None] = [text_of(item) for item in args.model] or [None]
     if len(texts) not in (1, len(args.reports)):
         raise ValueError(f"{len(texts)} models for {counted(len(args.reports), 'report')}: give --model once, or once per report")
     return texts * len(args.reports) if len(texts) == 1 else texts
 
 
-def print_pools(reports):
+def print_pools(reports: Iterable[Report]) -> None:
     """Prints which nodes of reports the page shows as pools."""
     for line in pool_lines(reports, lacks=True):
         say(line)
 
 
-def main(args):
+def main(args: Namespace) -> None:
+    """Runs `mpplan page`."""
     judge_outputs([args.out], {"report": args.reports, "model": args.model})
     texts, labelled = _models(args), []
     for at, (path, name) in enumerate(zip(args.reports, labels_of(args.reports))):

@@ -1,5 +1,7 @@
 """Parses the arguments of `mpplan`, runs the command, and turns any error into one line and a status."""
 
+from __future__ import annotations
+
 import argparse
 import contextlib
 import errno
@@ -8,12 +10,17 @@ import io
 import os
 import signal
 import sys
+from typing import TYPE_CHECKING, cast
 
 from ..errors import Error, ReportError
 from ..traces.trace import fields_up_to
 from ..version import __version__
 from .commands import COMMANDS
 from .messages import line_of, say
+
+if TYPE_CHECKING:
+    from collections.abc import Iterator, Sequence
+    from typing import Any, NoReturn, TextIO
 
 # The signals that end the command, and that of a pipe without a reader. Windows lacks some.
 ENDING = [getattr(signal, name) for name in ("SIGTERM", "SIGHUP") if hasattr(signal, name)]
@@ -25,7 +32,7 @@ class GivenOnce(argparse._StoreAction):
 
     is_given = False
 
-    def __call__(self, parser, namespace, values, option_string=None):
+    def __call__(self, parser: argparse.ArgumentParser, namespace: argparse.Namespace, values: Any, option_string: str | None = None) -> None:
         if option_string and self.is_given:
             parser.error(f"{option_string} is given twice")
         self.is_given = True
@@ -35,15 +42,15 @@ class GivenOnce(argparse._StoreAction):
 class _Parser(argparse.ArgumentParser):
     """Reports invalid arguments in one line."""
 
-    def __init__(self, *args, **named):
+    def __init__(self, *args: Any, **named: Any) -> None:
         super().__init__(*args, **named)
         self.register("action", None, GivenOnce)
 
-    def error(self, message):
+    def error(self, message: str) -> NoReturn:
         self.exit(2, f"mpplan: {message} (see {self.prog} --help)\n")
 
 
-def parser_for(first):
+def parser_for(first: str | None) -> argparse.ArgumentParser:
     """Returns the argument parser. It loads only the module of the command in `first`, because a sweep starts `mpplan` for each shard."""
     says = "Prepare traces for mpsim, run it, and tabulate its reports: from an export to a staffing decision."
     parser = _Parser(prog="mpplan", description=says, allow_abbrev=False)
@@ -62,24 +69,24 @@ def parser_for(first):
 class _Closed(io.TextIOBase):
     """Replaces a standard output that was closed before the command began."""
 
-    def write(self, text):
+    def write(self, text: str) -> int:
         raise OSError(errno.EBADF, os.strerror(errno.EBADF))
 
 
-def _open_outputs():
+def _open_outputs() -> None:
     """Keeps files that are opened later from taking the descriptors of the standard streams."""
     while os.open(os.devnull, os.O_RDWR) <= 2:
         pass
-    sys.stdout = sys.stdout or _Closed()
+    sys.stdout = sys.stdout or cast("TextIO", _Closed())
 
 
 @contextlib.contextmanager
-def _ended_by_signals():
+def _ended_by_signals() -> Iterator[None]:
     """Turns signals that would end the command into exceptions, so that temporary files are removed. A signal that is ignored, as under nohup, stays
     ignored."""
     before = {}
 
-    def end(number, _):
+    def end(number: int, _: object) -> NoReturn:
         raise SystemExit(128 + number)
 
     with contextlib.suppress(ValueError):
@@ -94,7 +101,7 @@ def _ended_by_signals():
             signal.signal(number, how)
 
 
-def _let_go():
+def _let_go() -> None:
     """Flushes standard output. If that fails, it is redirected to nowhere, so that the interpreter doesn't fail again on exit."""
     try:
         sys.stdout.flush()
@@ -103,7 +110,7 @@ def _let_go():
             os.dup2(os.open(os.devnull, os.O_WRONLY), sys.stdout.fileno())
 
 
-def ended(argv):
+def ended(argv: Sequence[str]) -> int:
     """Runs the command and returns its status."""
     if sys.stdout is None or sys.stderr is None:
         _open_outputs()

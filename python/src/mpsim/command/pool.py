@@ -1,6 +1,9 @@
 """The command `mpplan pool`."""
 
+from __future__ import annotations
+
 import re
+from typing import TYPE_CHECKING
 
 from ..agents.pools import pooled
 from ..agents.queues import Queue
@@ -14,13 +17,20 @@ from ..traces.trace import Trace
 from .groups import asks_for_group, roster_words, rows_of_group
 from .options import figure_words, table_words
 
+if TYPE_CHECKING:
+    from argparse import ArgumentParser, Namespace
+    from collections.abc import Sequence
+
+    from ..shapes import Row
+
 EXAMPLE = """mpplan pool model.txt trace.csv --node desk --agents 8..15 --within 20
          mpplan pool model.txt trace.csv --node desk --agents 12 --out pooled.csv --out-model pooled.txt
          mpplan pool model.txt trace.csv --node desk --roster roster.csv --patience exp:240s --seed 7 --first service
          mpplan pool --report jobs.txt --node desk --within 20"""
 
 
-def words(parser):
+def words(parser: ArgumentParser) -> None:
+    """Declares the arguments of `mpplan pool`."""
     parser.add_argument("model", nargs="?", help="a model with a server in the place of the pool")
     parser.add_argument("trace", nargs="?", help="its trace")
     parser.add_argument("--node", required=True, metavar="NAME", help="the server to replace by the pool; with --report, the pool")
@@ -36,7 +46,7 @@ def words(parser):
     table_words(parser)
 
 
-def numbers_of(text):
+def numbers_of(text: str) -> range:
     """Returns the numbers (range) in `12` or `8..15`. Raises ValueError for another text."""
     found = re.fullmatch(r"([1-9]\d{0,5})(?:\.\.([1-9]\d{0,5}))?", text)
     if not found or int(found[2] or found[1]) < int(found[1]):
@@ -44,7 +54,8 @@ def numbers_of(text):
     return range(int(found[1]), int(found[2] or found[1]) + 1)
 
 
-def main(args):
+def main(args: Namespace) -> None:
+    """Runs `mpplan pool`."""
     within, percents = args.within or (20,), args.percentile or PERCENTS
     if asks_for_group(args):
         rows = rows_of_group(args)
@@ -55,7 +66,7 @@ def main(args):
     write_table(rows, args.format, args.csv_style)
 
 
-def _of_report(args, within, percents):
+def _of_report(args: Namespace, within: Sequence[int], percents: Sequence[float]) -> list[Row]:
     if args.model or args.agents or args.out or args.out_model:
         raise ValueError("--report reads a pool that has been run: give no model, trace, --agents, --out or --out-model with it")
     report = Report.read(args.report)
@@ -64,7 +75,7 @@ def _of_report(args, within, percents):
     return [["node", *heads(within, percents)], [args.node, *figures(pooled(report, args.node).wait, within, percents)]]
 
 
-def _of_agents(args, within, percents):
+def _of_agents(args: Namespace, within: Sequence[int], percents: Sequence[float]) -> list[Row]:
     if not args.model or not args.trace or not args.agents:
         raise ValueError("give a model, a trace and --agents, or --report")
     agents = numbers_of(args.agents)

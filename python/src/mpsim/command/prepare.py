@@ -1,6 +1,9 @@
 """The options of `mpplan prepare`."""
 
+from __future__ import annotations
+
 import contextlib
+from typing import TYPE_CHECKING
 
 from ..exports.prepare import prepare
 from ..files import all_written, judge_outputs, written
@@ -11,18 +14,22 @@ from ..times.zones import TWICE
 from ..wording import counted
 from .messages import say
 
+if TYPE_CHECKING:
+    from argparse import ArgumentParser, Namespace
+    from collections.abc import Callable
+
 EXAMPLE = (
     "mpplan prepare calls.csv --time Zeit --source Abteilung --demand 'Dauer=talk:min' --zone Europe/Berlin --out trace.csv --first-lines model.txt"
 )
 
 
-def words(parser):
+def words(parser: ArgumentParser) -> None:
     """Declares the arguments of `mpplan prepare`."""
     for declare in _times, _columns, _rows, _file, _outputs:
         declare(parser.add_argument)
 
 
-def _times(add):
+def _times(add: Callable[..., object]) -> None:
     add("export", help="the export: a file, also packed (.gz, .bz2, .xz, .zip) or a spreadsheet (.xlsx), or - for standard input")
     add("--time", required=True, metavar="COLUMN", help="column with the time at which a job arrives")
     says = f"format of the times: a strptime format, iso, rfc, clock (h:mm:ss) or {', '.join(NUMBERS)}; default: detected"
@@ -39,7 +46,7 @@ def _times(add):
     add("--begin", default="hour", metavar="WHEN", help=begins)
 
 
-def _columns(add):
+def _columns(add: Callable[..., object]) -> None:
     add("--source", metavar="COLUMN", help="column with the source of a job, or one name for all jobs")
     units = f"UNIT is one of {', '.join(Lengths.NAMES)}, by default s"
     units += ", or data at a rate, e.g. bytes@10Gbps"
@@ -56,7 +63,7 @@ def _columns(add):
     add("--rename", action="append", default=[], metavar="OLD=NEW", help="name in the trace (NEW) of a source in the export (OLD)")
 
 
-def _rows(add):
+def _rows(add: Callable[..., object]) -> None:
     says = "use only rows that meet this condition: =, != (text), <, <=, >, >= (numbers or h:mm:ss) or ~ (contains); may be repeated"
     add("--where", action="append", default=[], metavar="CONDITION", help=says)
     add("--from", dest="begins", metavar="TIME", help="use only jobs that arrive at this time or later: ISO 8601, e.g. 2026-03-02, or h:mm")
@@ -68,7 +75,7 @@ def _rows(add):
     add("--left-out-most", default="5%", metavar="PERCENT", help=says)
 
 
-def _file(add):
+def _file(add: Callable[..., object]) -> None:
     add("--decimal", choices=[".", ","], help="decimal mark; default: detected")
     add("--delimiter", metavar="CHARACTER", help="character between fields, \\t for a tab; default: detected")
     says = "text encoding; default: detected (UTF-8, UTF-16 with a byte order mark, or Windows-1252, a superset of printable Latin-1)"
@@ -78,7 +85,7 @@ def _file(add):
     add("--header", metavar="NAMES", help="column names, separated by commas, for an export without a header")
 
 
-def _outputs(add):
+def _outputs(add: Callable[..., object]) -> None:
     judges = "a model: it sets the order of sources at equal times; rows of other sources are left out; its columns must be present"
     add("--model", metavar="FILE", help=judges)
     add("--left-out", metavar="FILE", help="write the rows that are left out, with their number and the reason")
@@ -87,7 +94,7 @@ def _outputs(add):
     add("--out", metavar="FILE", help="write the trace here; default: - (standard output)")
 
 
-def main(args):
+def main(args: Namespace) -> None:
     """Runs `mpplan prepare`."""
     options = {name: value for name, value in vars(args).items() if name not in ("command", "main", "export", "first_lines", "out_model", "out")}
     # Standard output, as without --out.
@@ -105,6 +112,6 @@ def main(args):
         if lines:
             lines.write(made.first_lines())
         if out_model:
-            out_model.write(made.model(model))
+            out_model.write(made.model(model or ""))
         with contextlib.nullcontext(out) if out else written() as file:
             file.writelines(made.lines())

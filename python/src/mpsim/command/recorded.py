@@ -1,6 +1,9 @@
 """Reports the waits that a telephone system recorded, with abandoned calls, in the form of the table of `mpplan pool --roster`."""
 
+from __future__ import annotations
+
 import csv
+from typing import TYPE_CHECKING
 
 from ..agents.groups import Agent
 from ..agents.validation import recorded
@@ -10,10 +13,14 @@ from ..times.intervals import days_of, every_of
 from ..traces.trace import Trace
 from .options import calendar_of, calendar_words, every_words, ticks
 
+if TYPE_CHECKING:
+    from argparse import ArgumentParser, Namespace
+
 EXAMPLE = "mpplan recorded calls.csv --model model.txt --wait wait --abandoned gone --within 20 >recorded.csv"
 
 
-def words(parser):
+def words(parser: ArgumentParser) -> None:
+    """Declares the arguments of `mpplan recorded`."""
     parser.add_argument("trace", help="a trace with the recorded waits as a column")
     recorded_words(parser)
     parser.add_argument("--source", action="append", default=[], metavar="NAME", help="only calls of this source; may be repeated")
@@ -21,7 +28,8 @@ def words(parser):
     calendar_words(parser)
 
 
-def recorded_words(parser):
+def recorded_words(parser: ArgumentParser) -> None:
+    """Declares the arguments that name the columns of recorded waits."""
     says = "column with the recorded wait in ticks, for an abandoned call until the caller left"
     parser.add_argument("--wait", required=True, metavar="COLUMN", help=says)
     says = "column that is 0 for answered calls, and another number for abandoned ones; default: none was abandoned"
@@ -30,7 +38,8 @@ def recorded_words(parser):
     every_words(parser)
 
 
-def main(args):
+def main(args: Namespace) -> None:
+    """Runs `mpplan recorded`."""
     days = calendar_of(args, text_of(args.model) if args.model else None)
     every = every_of(args.every)
     trace = Trace.read(args.trace)
@@ -39,9 +48,9 @@ def main(args):
         if name not in sources:
             raise ValueError(f"{args.trace}: no source {name!r}; it has {', '.join(dict.fromkeys(sources))}")
     kept = [at for at, source in enumerate(sources) if not args.source or source in args.source]
-    columns = [[column[at] for at in kept] for column in (sources, times, waits, gone)]
+    arrivals, modelled = [times[at] for at in kept], [int(not gone[at]) for at in kept]
     # Who answered isn't asked for: agent 1 stands for any.
-    calls = columns[0], columns[1], [0] * len(kept), [int(not it) for it in columns[3]], columns[2]
-    table = Table(days_of(days, max(columns[1], default=0), every), calls, [Agent([])], args.within)
+    calls = [sources[at] for at in kept], arrivals, [0] * len(kept), modelled, [waits[at] for at in kept]
+    table = Table(days_of(days, max(arrivals, default=0), every), calls, [Agent([])], args.within)
     with written() as file:
         csv.writer(file, lineterminator="\n").writerows([HEADS[:-2], *(row[:-2] for row in table.rows(every, days.tick))])

@@ -1,5 +1,9 @@
 """The reports and visits that a command's arguments name."""
 
+from __future__ import annotations
+
+from typing import TYPE_CHECKING
+
 from ..agents.pools import pool_lines, pooled
 from ..node_visits import NodeVisits, Visits
 from ..report import Report
@@ -7,8 +11,11 @@ from ..runs import run
 from ..tables.visits import places_of, visits_to
 from .messages import say
 
+if TYPE_CHECKING:
+    from argparse import Namespace
 
-def report_of(args):
+
+def report_of(args: Namespace) -> Report:
     """Returns the report (Report), with visits, that a command's arguments name. Raises what `mpsim.run` and `Report.read` do, and ValueError if it
     has no visits."""
     if args.trace is not None:
@@ -22,7 +29,7 @@ def report_of(args):
     return report
 
 
-def visits_of(report, args):
+def visits_of(report: Report, args: Namespace) -> list[NodeVisits]:
     """Returns the visits (list of NodeVisits) to the nodes and pools that a command's arguments name. A pool named as a node counts as a pool, which
     is printed. Raises ValueError for an unknown name."""
     try:
@@ -34,7 +41,7 @@ def visits_of(report, args):
     return visits_to(report, names) + [pooled(report, item) for item in args.pool]
 
 
-def all_visits(report):
+def all_visits(report: Report) -> list[NodeVisits]:
     """Returns the visits (list of NodeVisits) to all nodes where jobs may stay, with each pool in place of its queue and its trunk group, which is
     printed."""
     for line in pool_lines([report]):

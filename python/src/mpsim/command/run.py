@@ -1,6 +1,9 @@
 """The command `mpplan run`: runs a model and prints its report, warns about times that look like clocks, and can write a page."""
 
+from __future__ import annotations
+
 import os
+from typing import TYPE_CHECKING
 
 from ..files import judge_outputs, text_of, written
 from ..runs import run
@@ -9,10 +12,14 @@ from .messages import say
 from .options import calendar_words, calendar_words_in
 from .page import axes, print_pools
 
+if TYPE_CHECKING:
+    from argparse import ArgumentParser, Namespace
+
 EXAMPLE = "mpplan run model.txt trace.csv --page run.html --tick 1s"
 
 
-def words(parser):
+def words(parser: ArgumentParser) -> None:
+    """Declares the arguments of `mpplan run`."""
     parser.add_argument("model", help="a model")
     parser.add_argument("trace", help="its trace")
     parser.add_argument("--jobs", action="store_true", help="include the job lines in the report")
@@ -20,7 +27,8 @@ def words(parser):
     calendar_words(parser)
 
 
-def main(args):
+def main(args: Namespace) -> None:
+    """Runs `mpplan run`."""
     judge_outputs([args.page], {"model": [args.model], "trace": [args.trace]})
     for word in calendar_words_in(args) if not args.page else ():
         raise ValueError(f"{word} requires --page")

@@ -1,7 +1,10 @@
 """The command `mpplan scale`."""
 
+from __future__ import annotations
+
 import re
 from fractions import Fraction
+from typing import TYPE_CHECKING
 
 from ..files import judge_outputs, written
 from ..limits import GREATEST_TIME, RECORDS
@@ -10,10 +13,14 @@ from ..traces.trace import Trace, pool_warning
 from ..wording import counted
 from .messages import say
 
+if TYPE_CHECKING:
+    from argparse import ArgumentParser, Namespace
+
 EXAMPLE = "mpplan scale trace.csv --by 5/4 --shift 604800 --out more.csv"
 
 
-def words(parser):
+def words(parser: ArgumentParser) -> None:
+    """Declares the arguments of `mpplan scale`."""
     parser.add_argument("trace", help="a trace")
     parser.add_argument("--by", required=True, metavar="K/N", help="factor for the load: 2, 3/2, 9/10")
     ways = parser.add_mutually_exclusive_group()
@@ -25,7 +32,7 @@ def words(parser):
     parser.add_argument("--out", metavar="FILE", help="write the scaled trace here; default: standard output")
 
 
-def ratio(text):
+def ratio(text: str) -> tuple[int, int]:
     """Returns the numbers (pair of int) in `2` or `3/2`. Raises ValueError for another text."""
     found = re.fullmatch(r"([1-9]\d{0,5})(?:/([1-9]\d{0,5}))?", text)
     if not found:
@@ -35,7 +42,8 @@ def ratio(text):
     return int(found[1]), int(found[2] or 1)
 
 
-def main(args):
+def main(args: Namespace) -> None:
+    """Runs `mpplan scale`."""
     k, n = ratio(args.by)
     way = "times" if args.times else "shift" if args.shift is not None else "twins"
     if args.times and args.source:

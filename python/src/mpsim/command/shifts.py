@@ -15,12 +15,13 @@ from ..wording import counted
 from .messages import say
 
 if TYPE_CHECKING:
-    import argparse
+    from argparse import ArgumentParser, Namespace
 
 EXAMPLE = "mpplan shifts need.csv --forms forms.csv >roster.csv"
 
 
-def words(parser: argparse.ArgumentParser) -> None:
+def words(parser: ArgumentParser) -> None:
+    """Declares the arguments of `mpplan shifts`."""
     parser.add_argument("need", help="the agents needed per interval: a table of mpplan staff as CSV")
     says = "the shifts that are allowed: a CSV file with the columns form, begin, length, break, between, cost and most"
     parser.add_argument("--forms", required=True, metavar="FILE", help=says)
@@ -32,7 +33,8 @@ def words(parser: argparse.ArgumentParser) -> None:
     parser.add_argument("--solver", choices=SOLVERS, help=says)
 
 
-def main(args: argparse.Namespace) -> None:
+def main(args: Namespace) -> None:
+    """Runs `mpplan shifts`."""
     need = read_need(args.need, args.column, every_of(args.every) // MINUTE if args.every else None)
     forms = read_forms(args.forms)
     shifts = chosen(need, forms, solver_named(args.solver))

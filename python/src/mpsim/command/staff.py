@@ -1,9 +1,12 @@
 """The command `mpplan staff`."""
 
+from __future__ import annotations
+
 import csv
 import json
 import re
 from fractions import Fraction
+from typing import TYPE_CHECKING
 
 from ..agents.queues import Queue
 from ..agents.rosters import patience_in
@@ -15,11 +18,19 @@ from ..times.texts import DAY, WEEKDAYS, given, length
 from ..traces.trace import Trace
 from .options import calendar_of, calendar_words, every_words
 
+if TYPE_CHECKING:
+    from argparse import ArgumentParser, Namespace
+    from collections.abc import Iterable, Sequence
+    from typing import TextIO
+
+    from ..shapes import Row
+
 EXAMPLE = """mpplan staff model.txt trace.csv --node desk --goal 80/20 --weekday monday
          mpplan staff model.txt trace.csv --node desk --goal 90/1min --every 15min --shrinkage 30% --max-occupancy 85% --format md"""
 
 
-def words(parser):
+def words(parser: ArgumentParser) -> None:
+    """Declares the arguments of `mpplan staff`."""
     parser.add_argument("model", help="a model with a server in the place of the agents")
     parser.add_argument("trace", help="its trace")
     parser.add_argument("--node", required=True, metavar="NAME", help="the server to replace by agents who share its queue")
@@ -38,7 +49,7 @@ def words(parser):
     calendar_words(parser)
 
 
-def percent(text):
+def percent(text: str) -> Fraction:
     """Returns the Fraction of a text such as `30%`, `30` or `12.5%`. Raises ValueError for an invalid text, and for more than 100 %."""
     found = re.fullmatch(r"(\d{1,3}(?:\.\d{1,6})?)\s*%?", text)
     if not found or Fraction(found[1]) > 100:
@@ -46,7 +57,7 @@ def percent(text):
     return Fraction(found[1]) / 100
 
 
-def goal_of(text, tick):
+def goal_of(text: str, tick: int) -> tuple[Fraction, int]:
     """Returns the share (Fraction) and the ticks (int) of a text such as `80/20` or `90/1min`, for a tick of this many nanoseconds. Raises
     ValueError for an invalid text.
 
@@ -59,7 +70,8 @@ def goal_of(text, tick):
     return percent(share), length(f"{time}s" if re.fullmatch(r"[\d.]+", time) else time) // tick
 
 
-def main(args):
+def main(args: Namespace) -> None:
+    """Runs `mpplan staff`."""
     days = calendar_of(args, text_of(args.model))
     every = every_of(args.every)
     share, within = given("--goal", lambda text: goal_of(text, days.tick), args.goal)
@@ -98,15 +110,15 @@ def main(args):
         FORMATS[args.format](file, [head, *HEADS], rows)
 
 
-def _csv(file, head, rows):
+def _csv(file: TextIO, head: Sequence[str], rows: Iterable[Row]) -> None:
     csv.writer(file, lineterminator="\n").writerows([head, *rows])
 
 
-def _json(file, head, rows):
+def _json(file: TextIO, head: Sequence[str], rows: Iterable[Row]) -> None:
     file.write(json.dumps([dict(zip(head, row)) for row in rows], indent=1) + "\n")
 
 
-def _md(file, head, rows):
+def _md(file: TextIO, head: Sequence[str], rows: Iterable[Row]) -> None:
     lines = [head, ["---"] * len(head), *([str("" if it is None else it) for it in row] for row in rows)]
     file.writelines(f"| {' | '.join(line)} |\n" for line in lines)
 

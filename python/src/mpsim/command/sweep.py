@@ -1,7 +1,10 @@
 """The command `mpplan sweep`: runs many variants of a model over one or more traces, here or on other machines, and makes one table."""
 
+from __future__ import annotations
+
 import os
 import shlex
+from typing import TYPE_CHECKING
 
 from ..agents.pools import PoolLines
 from ..errors import Error
@@ -17,12 +20,17 @@ from .machines import by_parallel, by_slurm
 from .messages import say
 from .options import style_words, ticks
 
+if TYPE_CHECKING:
+    from argparse import ArgumentParser, Namespace
+    from collections.abc import Iterable, Mapping, Sequence
+
 EXAMPLE = """mpplan sweep model.txt trace.csv --set agents=20..40 --page sweep.html >table.csv
          mpplan sweep model.txt monday.csv --trace tuesday.csv --set agents=20..40 --folder sweep --parallel='--jobs 4' >table.csv
          mpplan sweep --folder sweep --resume >table.csv"""
 
 
-def words(parser):
+def words(parser: ArgumentParser) -> None:
+    """Declares the arguments of `mpplan sweep`."""
     parser.add_argument("model", nargs="?", help="a model in which {NAME} is replaced by a value of --set")
     parser.add_argument("trace", nargs="?", help="its trace")
     ranges = "values of NAME: a range (20..40), a range with a step (20..40..5) or a list (1,2,5); several --set run every combination"
@@ -46,7 +54,7 @@ def words(parser):
     folder.add_argument("--shard", type=int, metavar="N", help="run one shard, and write no table")
 
 
-def _judged(args):
+def _judged(args: Namespace) -> None:
     """Raises ValueError for arguments that exclude each other."""
     goes_on = args.resume or args.table or args.shard is not None
     if args.folder is None and (goes_on or args.parallel is not None or args.slurm is not None):
@@ -59,7 +67,7 @@ def _judged(args):
         raise ValueError("--parallel and --slurm exclude each other: give one of them")
 
 
-def _plan(args):
+def _plan(args: Namespace) -> Plan:
     models, traces = ([item] if item else [] for item in (args.model, args.trace))
     models, traces = files_of([*models, *args.models]), files_of([*traces, *args.traces])
     judge_outputs([args.page], {"model": models, "trace": traces})
@@ -76,13 +84,13 @@ def _plan(args):
     return plan
 
 
-def _print_pools(pool_notes, how):
+def _print_pools(pool_notes: PoolLines, how: str) -> None:
     """Prints what was collected about pools (PoolLines), and how to get their missing figures."""
     for line in [*pool_notes.lines(), *pool_notes.lacks(how)]:
         say(line)
 
 
-def _in_memory(args):
+def _in_memory(args: Namespace) -> int:
     """Runs one shard after another. Rows are written as they come; reports are kept only for a page."""
     plan, kept, refused, pool_notes = _plan(args), Sweep(), False, PoolLines(args.node)
     head = plan.head()
@@ -97,7 +105,7 @@ def _in_memory(args):
             for at, it in scenarios_in(plan, shard, args.within is not None, again):
                 found = rows_of(plan, trace, at, it, pool_notes, args.node)
                 if args.within is not None:
-                    shares = shares_of(it.report, args.within, args.node) if it.report is not None else [[None, None]]
+                    shares = list(shares_of(it.report, args.within, args.node)) if it.report is not None else [[None, None]]
                     found = [[*row[:-1], *both, row[-1]] for row, both in zip(found, shares)]
                 writer.writerows(found)
                 refused, done = refused or it.status != 0, done + 1
@@ -110,7 +118,7 @@ def _in_memory(args):
     return 11 if refused else 0
 
 
-def _cleared(folder):
+def _cleared(folder: Folder) -> None:
     """Removes damaged shards, so that they run again, and what killed runs on this machine left behind."""
     for shard in range(1, folder.plan.shards + 1):
         try:
@@ -125,7 +133,7 @@ def _cleared(folder):
             os.unlink(path)
 
 
-def _here(folder, lacking):
+def _here(folder: Folder, lacking: Sequence[int]) -> None:
     """Runs one shard after another. If one fails, the others still run."""
     with Progress(len(lacking), "shards") as progress:
         for done, shard in enumerate(lacking):
@@ -136,7 +144,7 @@ def _here(folder, lacking):
                 say(f"shard {shard}: {one_line(error)}")
 
 
-def _run(args, folder):
+def _run(args: Namespace, folder: Folder) -> None:
     if args.resume:
         _cleared(folder)
     lacking = folder.lacking()
@@ -149,9 +157,9 @@ def _run(args, folder):
         _here(folder, lacking)
 
 
-def ranges(numbers, most=20):
+def ranges(numbers: Iterable[int], most: int = 20) -> str:
     """Returns rising numbers as text, such as "1-3, 7" for 1, 2, 3 and 7, in at most this many pieces."""
-    pieces = []
+    pieces: list[list[int]] = []
     for number in numbers:
         if pieces and pieces[-1][1] == number - 1:
             pieces[-1][1] = number
@@ -161,9 +169,9 @@ def ranges(numbers, most=20):
     return text + (f" and {len(pieces) - most} more" if len(pieces) > most else "")
 
 
-def _print_missing(folder, damaged):
+def _print_missing(folder: Folder, damaged: Mapping[int, str]) -> int:
     """Prints which shards are missing from the table, and why. Returns their number."""
-    whys = {}
+    whys: dict[str, list[int]] = {}
     for shard in sorted({*folder.lacking(), *damaged}):
         why = damaged.get(shard, "it left nothing: not started, or killed, or its disk was full, or its machine disappeared")
         if shard not in damaged and os.path.exists(folder.failure(shard)):
@@ -172,7 +180,7 @@ def _print_missing(folder, damaged):
         whys.setdefault("damaged" if shard in damaged else why, []).append(shard)
     for why, listed in list(whys.items())[:20]:
         say(f"{'shards' if len(listed) > 1 else 'shard'} {ranges(listed)}: {why}")
-    missing = sum(map(len, whys.values()))
+    missing = sum(len(shards) for shards in whys.values())
     if missing:
         again = f"mpplan sweep --folder {shlex.quote(folder.path)} --resume"
         say(f"{missing:,} of {folder.plan.shards:,} shards are missing from the table: {again} runs them")
@@ -183,7 +191,7 @@ def _print_missing(folder, damaged):
     return missing
 
 
-def _in_folder(args):
+def _in_folder(args: Namespace) -> int:
     if args.resume or args.table or args.shard is not None:
         folder = Folder.read(args.folder)
         # A shard has no rows.
@@ -201,7 +209,8 @@ def _in_folder(args):
     if not args.table:
         _run(args, folder)
     nodes = args.node or folder.plan.nodes
-    damaged, refused, status, pool_notes = {}, False, folder.plan.head().index("status"), PoolLines(nodes)
+    damaged: dict[int, str] = {}
+    refused, status, pool_notes = False, folder.plan.head().index("status"), PoolLines(nodes)
     with written() as file:
         writer = Writer(file, args.csv_style)
         for at, row in enumerate(gather(folder, damaged, pool_notes, nodes)):
@@ -211,6 +220,7 @@ def _in_folder(args):
     return 1 if _print_missing(folder, damaged) else 11 if refused else 0
 
 
-def main(args):
+def main(args: Namespace) -> int:
+    """Runs `mpplan sweep`, and returns its status."""
     _judged(args)
     return _in_memory(args) if args.folder is None else _in_folder(args)

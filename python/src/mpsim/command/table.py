@@ -1,5 +1,9 @@
 """The command `mpplan table`."""
 
+from __future__ import annotations
+
+from typing import TYPE_CHECKING
+
 from ..agents.pools import pool_lines
 from ..runs import run
 from ..sweeps.results import Sweep, load
@@ -8,12 +12,18 @@ from ..tables.sheets import write_table
 from .messages import say
 from .options import table_words
 
+if TYPE_CHECKING:
+    from argparse import ArgumentParser, Namespace
+
+    from ..report import Report
+
 EXAMPLE = """mpplan table report.txt >nodes.csv
          mpplan table model.txt trace.csv --of visits --node desk >visits.csv
          mpsweep trace.csv agents-*.txt | mpplan table /dev/stdin --node desk --labels agents-*.txt >table.csv"""
 
 
-def words(parser):
+def words(parser: ArgumentParser) -> None:
+    """Declares the arguments of `mpplan table`."""
     parser.add_argument("report", help="a report or a sweep, or a model")
     parser.add_argument("trace", nargs="?", help="after a model: the trace to run through it")
     parser.add_argument("--of", choices=["nodes", "exits", "visits"], default="nodes", help="one row per node, exit or visit; default: nodes")
@@ -22,7 +32,9 @@ def words(parser):
     table_words(parser)
 
 
-def main(args):
+def main(args: Namespace) -> None:
+    """Runs `mpplan table`."""
+    content: Report | Sweep
     if args.trace is not None:
         content = run(args.report, args.trace, jobs=args.of == "visits")
     else:

@@ -1,6 +1,9 @@
 """The command `mpplan validate`."""
 
+from __future__ import annotations
+
 import csv
+from typing import TYPE_CHECKING
 
 from ..agents.queues import Queue
 from ..agents.validation import HEADS, compared, recorded, rows_of, verdict
@@ -13,10 +16,14 @@ from .messages import say
 from .options import calendar_of, calendar_words
 from .recorded import recorded_words
 
+if TYPE_CHECKING:
+    from argparse import ArgumentParser, Namespace
+
 EXAMPLE = "mpplan validate model.txt calls.csv --node desk --roster roster.csv --wait wait --abandoned gone >gaps.csv"
 
 
-def words(parser):
+def words(parser: ArgumentParser) -> None:
+    """Declares the arguments of `mpplan validate`."""
     parser.add_argument("model", help="a model with a server in the place of the agents")
     parser.add_argument("trace", help="its trace, with the recorded waits as a column")
     parser.add_argument("--node", required=True, metavar="NAME", help="the server to replace by the agents")
@@ -26,7 +33,8 @@ def words(parser):
     calendar_words(parser)
 
 
-def main(args):
+def main(args: Namespace) -> None:
+    """Runs `mpplan validate`."""
     if bool(args.roster) == bool(args.agents):
         raise ValueError("give --roster or --agents")
     days = calendar_of(args, text_of(args.model))

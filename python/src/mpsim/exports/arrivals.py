@@ -1,7 +1,10 @@
 """Chooses time 0 of a trace and turns the moments of its records into ticks."""
 
+from __future__ import annotations
+
 from array import array
 from itertools import islice
+from typing import TYPE_CHECKING
 
 from ..limits import GREATEST_TIME
 from ..times.calendar import length_text
@@ -9,11 +12,18 @@ from ..times.formats import looks_like_clocks
 from ..times.texts import CLOCK, DAY, HOUR, SECOND, clock, given, iso
 from ..wording import counted
 
+if TYPE_CHECKING:
+    from collections.abc import Sequence
+
+    from .plan import Plan
+    from .result import Prepared
+    from .rows import Rows
+
 # Records are far from the rest if the gap is longer than the rest spans, and than this.
 FAR = 30 * DAY
 
 
-def ticks(plan, stamps, begin, made):
+def ticks(plan: Plan, stamps: array[int], begin: str, made: Prepared) -> array[int]:
     """Returns the times of the trace (array), in ticks from time 0."""
     readers = [reader.how for reader in plan.readers()]
     if any(reader.has_none for reader in readers) and any(reader.has_offsets for reader in readers) and not plan.place.name:
@@ -48,13 +58,13 @@ def ticks(plan, stamps, begin, made):
     return found
 
 
-def _judged(ticks):
+def _judged(ticks: array[int]) -> array[int]:
     if max(ticks) > GREATEST_TIME:
         raise ValueError(f"the time {max(ticks)} is above 2^60 ticks, the limit of a trace")
     return ticks
 
 
-def _zero(plan, begin, first, is_utc):
+def _zero(plan: Plan, begin: str, first: int, is_utc: bool) -> int:
     """Returns the moment of time 0, given the first time; `is_utc` says whether some times have an offset from UTC."""
     place = plan.place
     if begin == "first":
@@ -73,7 +83,7 @@ def _zero(plan, begin, first, is_utc):
     return given("--begin", lambda _: place.utc(wall), begin) if offset is None else wall - offset
 
 
-def judge_far(plan, rows):
+def judge_far(plan: Plan, rows: Rows) -> None:
     """Raises ValueError if the first or the last records (up to 5 percent) lie further from the rest than the rest spans: such a time is usually an
     empty date of the system that wrote the export."""
     stamps = rows.stamps
@@ -94,7 +104,7 @@ def judge_far(plan, rows):
     raise ValueError(f"row {rows.row_of(at)}: {shown}: {where}: leave out such rows with {bound}, or keep them with --far")
 
 
-def _far(ordered, few):
+def _far(ordered: Sequence[int], few: int) -> int:
     """Returns the first of these moments (in rising order) that isn't far before the rest; at most `few` are far. The last `few` may be far too, so
     the rest is measured without them."""
     last = ordered[-1 - few]
@@ -104,5 +114,5 @@ def _far(ordered, few):
     return ordered[0]
 
 
-def _day(plan, value):
+def _day(plan: Plan, value: int) -> str:
     return plan.place.shown(value)[:10]

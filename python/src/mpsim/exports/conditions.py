@@ -1,12 +1,20 @@
 """Conditions on the rows of an export, such as Direction=inbound or Talk>0."""
 
+from __future__ import annotations
+
 import operator
 import re
 from fractions import Fraction
+from typing import TYPE_CHECKING
 
 from ..times.lengths import Lengths
 from ..times.texts import Cache, Unread
 from ..wording import listed
+
+if TYPE_CHECKING:
+    from collections.abc import Callable, Sequence
+
+    from .table import Table
 
 _ORDERS = {"<=": operator.le, ">=": operator.ge, "<": operator.lt, ">": operator.gt}
 
@@ -17,25 +25,25 @@ class Condition:
 
     SIGNS = "!=", *_ORDERS, "=", "~"
 
-    def __init__(self, column, sign, value, decimal=None):
+    def __init__(self, column: int, sign: str, value: str, decimal: str | None = None) -> None:
         self.column, self.sign, self.value = column, sign, value.strip()
         self._read = Lengths("s", decimal, 1)
         if sign in _ORDERS:
             self._bound = self._number(self.value)
         self._met = Cache(self._judge)
 
-    def holds(self, row):
+    def holds(self, row: Sequence[str]) -> bool:
         """Returns whether a row meets the condition. Raises Unread or Asks if its field isn't a number but is to be compared."""
         return self._met[row[self.column]]
 
-    def is_met(self, row):
+    def is_met(self, row: Sequence[str]) -> bool:
         """Returns whether a row meets the condition; False if that can't be told."""
         try:
             return self.holds(row)
         except ValueError:
             return False
 
-    def _judge(self, text):
+    def _judge(self, text: str) -> bool:
         text = text.strip()
         if self.sign == "~":
             return self.value.casefold() in text.casefold()
@@ -43,13 +51,13 @@ class Condition:
             return (text == self.value) == (self.sign == "=")
         return bool(text) and _ORDERS[self.sign](self._number(text), self._bound)
 
-    def _number(self, text):
+    def _number(self, text: str) -> Fraction:
         if not text:
             raise ValueError("expected a number")
         return Fraction(*self._read.length(text))
 
 
-def parsed(word, export, mark):
+def parsed(word: str, export: Table, mark: Callable[[int], str | None]) -> Condition:
     """Returns the Condition that a text such as `Direction=inbound` gives for an Export; `mark` returns the decimal mark of the numbers of a column.
     Raises ValueError."""
     numbers = re.findall(r"^#[1-9]\d{0,4}", word)

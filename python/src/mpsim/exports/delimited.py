@@ -1,14 +1,22 @@
 """Reads exports: text tables with a header, any delimiter and any encoding."""
 
+from __future__ import annotations
+
 import codecs
 import csv
 import itertools
 import re
 from collections import Counter
+from typing import TYPE_CHECKING
 
 from ..wording import counted
 from .streams import Stream, judge_text
 from .table import Table
+
+if TYPE_CHECKING:
+    from collections.abc import Iterable, Iterator
+
+    from ..shapes import Reader
 
 DELIMITERS = ";\t,|"
 # The number of rows, and of their characters, examined to detect formats and decimal marks.
@@ -21,7 +29,7 @@ LINES = 20
 LINE = 1 << 24
 
 
-def found_encoding(data):
+def found_encoding(data: bytes | Stream) -> tuple[str, str | None]:
     """Returns the encoding (str) of bytes (or of a Stream) and a note about it (str or None). Raises ValueError if it can't be detected.
 
     >>> found_encoding("Büro\\n".encode("latin-1"))
@@ -33,20 +41,19 @@ def found_encoding(data):
         return "utf-16", "the encoding is UTF-16"
     judge_text(begin)
     has_mark = begin.startswith(codecs.BOM_UTF8)
-    line, byte = _undecodable(stream, "utf-8")
-    if line is None:
+    found = _undecodable(stream, "utf-8")
+    if found is None:
         return "utf-8-sig", "the encoding is UTF-8 with a byte order mark" if has_mark else None
     if has_mark:
-        raise _undecoded(line, byte, "UTF-8, although the file has a UTF-8 byte order mark")
-    what = f"line {line} has the byte {byte:02x}, which isn't UTF-8"
-    line, byte = _undecodable(stream, "cp1252")
-    if line is not None:
-        raise _undecoded(line, byte, "UTF-8 or Windows-1252")
+        raise _undecoded(*found, "UTF-8, although the file has a UTF-8 byte order mark")
+    what = f"line {found[0]} has the byte {found[1]:02x}, which isn't UTF-8"
+    if found := _undecodable(stream, "cp1252"):
+        raise _undecoded(*found, "UTF-8 or Windows-1252")
     return "cp1252", f"{what}: the file is read as Windows-1252, a superset of printable Latin-1"
 
 
-def _undecodable(stream, encoding):
-    """Returns the line and the first byte (int) that an encoding can't decode; None and None if there is none."""
+def _undecodable(stream: Stream, encoding: str) -> tuple[int, int] | None:
+    """Returns the line and the first byte (int) that an encoding can't decode; None if there is none."""
     decoder, lines, kept, long = codecs.getincrementaldecoder(encoding)(), 1, b"", 0
     for piece in itertools.chain(stream.pieces(), [None]):
         try:
@@ -59,31 +66,31 @@ def _undecodable(stream, encoding):
         long = 0 if piece is None or b"\n" in piece or b"\r" in piece else long + len(piece)
         if long > LINE:
             raise ValueError(f"line {lines} is longer than {LINE:,} bytes")
-    return None, None
+    return None
 
 
-def _undecoded(line, byte, encoding):
+def _undecoded(line: int, byte: int, encoding: str) -> ValueError:
     return ValueError(f"line {line}: the byte {byte:02x} isn't valid {encoding} (--encoding)")
 
 
-def _given_encoding(stream, name):
+def _given_encoding(stream: Stream, name: str) -> str:
     """Returns the codec for an encoding given by name; a byte order mark isn't part of the text. Raises ValueError for an unknown encoding and for
     bytes that it can't decode."""
     try:
         name = codecs.lookup(name).name
         b"a".decode(name, errors="replace")
-        line, byte = _undecodable(stream, name)
+        found = _undecodable(stream, name)
     except (LookupError, TypeError, UnicodeError):
         raise ValueError(f"unknown encoding {name!r} (--encoding)") from None
-    if line is not None:
-        raise _undecoded(line, byte, name)
+    if found:
+        raise _undecoded(*found, name)
     marks = {"utf-8": codecs.BOM_UTF8, "utf-16-le": codecs.BOM_UTF16_LE, "utf-16-be": codecs.BOM_UTF16_BE}
     if next(stream.pieces(), b"").startswith(marks.get(name, b"\n")):
         return "utf-8-sig" if name == "utf-8" else "utf-16"
     return name
 
 
-def found_delimiter(lines):
+def found_delimiter(lines: Iterable[str]) -> str:
     """Returns the delimiter of lines: among those with which nine rows in ten have as many fields as the header, the one that gives the most fields.
     Raises ValueError for a tie.
 
@@ -111,7 +118,9 @@ class Export(Table):
     `data` is the bytes of the file, or a Stream; arguments that aren't given are detected. `header` (str) lists the column names, separated by
     commas, if the export has none. Raises ValueError if the export is empty or needs another option."""
 
-    def __init__(self, data, encoding=None, delimiter=None, skip=0, header=None):
+    def __init__(
+        self, data: bytes | bytearray | Stream, encoding: str | None = None, delimiter: str | None = None, skip: int = 0, header: str | None = None
+    ) -> None:
         self._stream = data if isinstance(data, Stream) else Stream(data)
         super().__init__(skip, header, self._stream.notes)
         if encoding:
@@ -131,25 +140,25 @@ class Export(Table):
             self.header = [part.strip() for part in header.split(",")]
         self.sample = self._sample()
 
-    def _lines(self, skip=None):
+    def _lines(self, skip: int | None = None) -> Iterator[str]:
         """Returns an iterator over the lines after `skip` lines (by default those before the header), with their line ends."""
         return itertools.islice(self._stream.text(self._encoding), self._skip if skip is None else skip, None)
 
-    def _found_delimiter(self):
+    def _found_delimiter(self) -> str:
         found = found_delimiter(list(itertools.islice(self._lines(), 200)))
         self.notes.append(f"the delimiter is {found!r}")
         return found
 
-    def _header(self, skip):
+    def _header(self, skip: int) -> list[str]:
         try:
-            header = next(self._reader(self._lines()), [])
+            header: list[str] = next(self._reader(self._lines()), [])
         except csv.Error as error:
             raise ValueError(f"row {self._skip + 1}: {error}: is a closing quote missing?") from None
         if not any(item.strip() for item in header):
             raise ValueError(self._no_header(skip))
         return [item.strip() for item in header]
 
-    def _no_header(self, skip):
+    def _no_header(self, skip: int) -> str:
         """Returns why there is no header."""
         if any(line.strip() for line in self._lines()):
             return "it begins with an empty line: give the number of lines before its header with --skip"
@@ -157,10 +166,10 @@ class Export(Table):
         is_empty = skip == 0 or not any(line.strip() for line in lines)
         return "the file is empty" if is_empty else f"--skip {skip}: the file has {counted(len(lines), 'line')}, so no header is left"
 
-    def _reader(self, lines):
+    def _reader(self, lines: Iterable[str]) -> Reader:
         return csv.reader(lines, delimiter=self.delimiter)
 
-    def rows(self):
+    def rows(self) -> tuple[Reader, int]:
         """Returns a reader of the rows after the header, which counts lines, and the number of the first row, counted as in a spreadsheet."""
         reader = self._reader(self._lines())
         if self._has_header:
@@ -168,11 +177,11 @@ class Export(Table):
         return reader, self._skip + 1 + self._has_header
 
     @property
-    def size(self):
+    def size(self) -> int:
         """The number of lines."""
         return sum(piece.count(b"\n") for piece in self._stream.pieces())
 
-    def _sample(self):
+    def _sample(self) -> list[list[str]]:
         """Returns rows from the beginning and some from the end, since days above 12 may come late."""
         (reader, first), size = self.rows(), 0
         parts, rows = [itertools.islice(reader, SAMPLE)], []

@@ -1,17 +1,27 @@
 """Service times that are sums and differences of columns, such as talk=End-Answered+Wrap."""
 
+from __future__ import annotations
+
 import re
 from fractions import Fraction
+from typing import TYPE_CHECKING
 
 from ..limits import GREATEST_VALUE
 from ..times.texts import Asks, Unread
+
+if TYPE_CHECKING:
+    from collections.abc import Sequence
+
+    from ..times.lengths import Lengths
+    from .records import Times
+    from .table import Table
 
 _NAME = re.compile(r"\s*([a-z][a-z0-9_]*)\s*=")
 _UNIT = re.compile(r":([\w:@.]+)")
 _SIGN = re.compile(r"\s*([+-])\s*|\s*$")
 
 
-def terms(word, export):
+def terms(word: str, export: Table) -> tuple[str, list[tuple[int, int, str | None]]] | None:
     """Returns the name (str) of a text such as `talk=End-Answered+Wrap:min`, and its terms: the sign (1 or -1), the index of the column and the unit
     or None of each. Columns may contain signs: the longest name counts. Returns None if the text isn't of this form."""
     begin = _NAME.match(word)
@@ -22,37 +32,41 @@ def terms(word, export):
     while True:
         at += len(word[at:]) - len(word[at:].lstrip())
         name = next((name for name in names if word.startswith(name, at) and _rest(word, at + len(name))), None) or _number(word, at)
-        if name is None:
+        rest = None if name is None else _rest(word, at + len(name))
+        if name is None or rest is None:
             return None
-        unit, end = _rest(word, at + len(name))
+        unit, end = rest
         found.append((sign, export.column(name), unit))
         if end[1] is None:
             return begin[1], found
         sign, at = -1 if end[1] == "-" else 1, end.end()
 
 
-def _number(word, at):
+def _number(word: str, at: int) -> str | None:
     found = re.compile(r"#\d+").match(word, at)
     return found[0] if found and _rest(word, found.end()) else None
 
 
-def _rest(word, at):
+def _rest(word: str, at: int) -> tuple[str | None, re.Match[str]] | None:
     """Returns the unit that follows a column, and the sign or the end after it (a match); None if something else follows."""
     unit = _UNIT.match(word, at)
     end = _SIGN.match(word, unit.end() if unit else at)
-    return (unit and unit[1], end) if end else None
+    return (unit[1] if unit else None, end) if end else None
 
 
 class Expression:
     """A sum of columns with signs: `times` (list of pairs of a sign and Times), of which as many are added as subtracted, and `lengths` (list of
     triples of a sign, the index of a column and its Lengths). The result is rounded to ticks once."""
 
-    def __init__(self, name, times, lengths, tick, empty=None):
+    def __init__(
+        self, name: str, times: list[tuple[int, Times]], lengths: list[tuple[int, int, Lengths]], tick: int, empty: int | None = None
+    ) -> None:
         self.name, self.times, self.lengths, self.tick, self.empty = name, times, lengths, tick, empty
-        self.column = times[0][1].column if times else lengths[0][1]
-        self.code, self.rounded = None, 0
+        self.column: int = times[0][1].column if times else lengths[0][1]
+        self.rounded = 0
 
-    def of(self, row, begun):
+    def of(self, row: Sequence[str], begun: Sequence[int]) -> int:
+        """Returns the ticks (int) of a row. `begun` has the moment of the arrival first. Raises Unread and Asks."""
         total, at = Fraction(0), self.column
         try:
             for sign, item in self.times:
@@ -76,5 +90,6 @@ class Expression:
         self.rounded += total % self.tick > 0
         return int(ticks)
 
-    def many(self, columns):
+    def many(self, columns: Sequence[Sequence[str]]) -> list[int]:
+        """Raises Unread, since each row needs individual treatment."""
         raise Unread("one by one")

@@ -1,9 +1,12 @@
 """Decides how to read the columns of an export: what is given, what is detected, and what must be asked for."""
 
+from __future__ import annotations
+
 import contextlib
 import re
 from difflib import get_close_matches
 from itertools import islice
+from typing import TYPE_CHECKING
 
 from ..limits import GREATEST_VALUE
 from ..model import columns, sources
@@ -20,6 +23,15 @@ from .expressions import Expression, terms
 from .records import Dates, Numbers, Records, Times
 from .values import Code, Constant, Demand, End, Sum
 
+if TYPE_CHECKING:
+    from collections.abc import Iterable, Sequence
+    from typing import Union
+
+    from .conditions import Condition
+    from .table import Table
+
+    Column = Union[Demand, Sum, End, Expression, Constant, Code]
+
 # The most columns of a trace.
 COLUMNS = 16
 # The most sources listed in a message; a wrong column may have one per row.
@@ -31,22 +43,26 @@ class Plan:
     detected. The texts are options of `mpplan prepare`; `model` is a model's text or None. Raises ValueError for an invalid option, and if another
     is needed."""
 
-    def __init__(self, export, place, per, format, decimal, model):
+    warned: list[str]
+    columns: list[Column]
+    conditions: list[Condition]
+
+    def __init__(self, export: Table, place: Zone, per: int, format: str | None, decimal: str | None, model: str | None) -> None:
         self.export, self.place, self.per, self.decimal, self.model = export, place, per, decimal, model
         self.format = judged_format(format) if format else None
         self.notes, self.warned, self.columns, self.conditions = list(export.notes), [], [], []
         self._sample = export.sample
 
-    def where(self, words):
+    def where(self, words: Iterable[str]) -> None:
         """Sets the conditions on rows. Formats are then detected from the rows that meet them."""
         self.conditions = [parsed(word, self.export, self._mark) for word in words]
         if self.conditions:
             self._sample = [row for row in self._sample if all(condition.is_met(row) for condition in self.conditions)] or self._sample
 
-    def _texts(self, column):
+    def _texts(self, column: int) -> list[str]:
         return [row[column] for row in self._sample]
 
-    def _moments(self, column, form, option="--format"):
+    def _moments(self, column: int, form: str | None, option: str = "--format") -> Moments:
         name = self.export.header[column]
         if form is None:
             try:
@@ -56,7 +72,7 @@ class Plan:
             self.notes.append(f"column {name!r} is read as {form}")
         return Moments(form, self.place)
 
-    def _more_times(self, column):
+    def _more_times(self, column: int) -> Times:
         """Returns another column of times, given its index. It uses the given format if its texts have it."""
         name = self.export.header[column]
         texts = [text for text in self._texts(column) if text.strip()][:100]
@@ -68,7 +84,7 @@ class Plan:
             raise ValueError(f"column {name!r} is read as {how.form}, but column {self.export.header[self.time.column]!r} as {self.time.how.form}")
         return Times(column, how, self.place)
 
-    def _dates(self, date, date_format, day):
+    def _dates(self, date: str | None, date_format: str | None, day: Sequence[str] | None) -> tuple[Dates | Numbers | None, str | None]:
         """Returns the column or columns with the day of a time, or None, and the option that names them (str)."""
         if date is not None and day is not None:
             raise ValueError("--date and --day exclude each other: give one of them")
@@ -82,7 +98,7 @@ class Plan:
             raise ValueError(f"--day {' '.join(day)}: expected three columns: the year, the month and the day")
         return Numbers(columns), "--day"
 
-    def times(self, time, date, date_format, day, answered):
+    def times(self, time: str, date: str | None, date_format: str | None, day: Sequence[str] | None, answered: Iterable[str]) -> None:
         """Sets the columns of arrival times and of service beginnings."""
         column = self.export.column(time)
         how = self._moments(column, self.format)
@@ -99,36 +115,36 @@ class Plan:
         self.time = Times(column, how, self.place, dates)
         self.answered = [self._more_times(self.export.column(name)) for name in answered]
 
-    def readers(self):
+    def readers(self) -> list[Times]:
         """Returns all columns of times."""
         parts = [part for column in self.columns for part in getattr(column, "parts", [column])]
         ends = [part.times for part in parts if isinstance(part, End)]
         return [self.time, *self.answered, *ends, *(times for part in parts if isinstance(part, Expression) for _, times in part.times)]
 
-    def _named(self, name, column=None):
+    def _named(self, name: str | None, column: int | None = None) -> str:
         """Returns the name of a column of the trace, by default made from its name in the export."""
-        taken = [column.name for column in self.columns]
-        made = name or name_for(self.export.header[column], taken)
+        taken, old = [column.name for column in self.columns], None if column is None else self.export.header[column]
+        made = name or name_for(old or "", taken)
         if not is_name(made) or made in taken:
             why = "is already taken" if made in taken else "is reserved"
             if made not in (*taken, *TAKEN):
                 why = "is invalid: use a lower-case letter, then lower-case letters, digits and underscores, at most 32"
             raise ValueError(f"the column's name {made!r} {why}")
-        if not name and made != self.export.header[column]:
-            self.notes.append(f"column {self.export.header[column]!r} is called {made}")
+        if not name and made != old:
+            self.notes.append(f"column {old!r} is called {made}")
         return made
 
-    def _ticks(self, option, text):
+    def _ticks(self, option: str, text: str) -> int:
         ticks, left = divmod(given(option, length, text), self.per)
         if left or ticks > GREATEST_VALUE:
             raise ValueError(f"{option} {text} is {'not a whole number of' if left else 'more than 2^36'} ticks")
         return ticks
 
-    def values(self, demand, end, constant, code, empty):
+    def values(self, demand: Iterable[str], end: Sequence[str], constant: Iterable[str], code: Iterable[str], empty: str | None) -> None:
         """Sets the columns of the trace."""
-        empty = None if empty is None else self._ticks("--empty", empty)
+        missing = None if empty is None else self._ticks("--empty", empty)
         for word in demand:
-            self._demand(word, empty)
+            self._demand(word, missing)
         if self.answered and not end:
             raise ValueError("--answered requires --end")
         if len(self.answered) not in (0, 1, len(end)):
@@ -137,7 +153,7 @@ class Plan:
             column, name, _ = self.export.parse(word)
             times = self._more_times(column)
             begin = min(number, len(self.answered))
-            self._add(End(name or self._named(name, column), times, 1 if self.is_ticks else self.per, empty, begin))
+            self._add(End(name or self._named(name, column), times, 1 if self.is_ticks else self.per, missing, begin))
         for word in constant:
             name, equals, value = word.partition("=")
             if not equals:
@@ -157,7 +173,7 @@ class Plan:
         if lacking:
             raise ValueError(f"the model names {', '.join(lacking)}, which no --demand, --end, --constant or --code provides")
 
-    def _demand(self, word, empty):
+    def _demand(self, word: str, empty: int | None) -> None:
         """Adds a column of service times, or adds it to a column of the same name."""
         try:
             column, name, unit = self.export.parse(word, has_unit=True)
@@ -165,15 +181,16 @@ class Plan:
             found = terms(word, self.export)
             if found is None:
                 raise
-            return self._add(self._expression(word, *found, empty))
+            self._add(self._expression(word, *found, empty))
+            return
         how = Lengths(unit or "s", self._mark(column), self.per)
         at = next((at for at, it in enumerate(self.columns) if it.name == name), None)
         known = [part.column for part in getattr(self.columns[at], "parts", [self.columns[at]])] if at is not None else []
         if column in known:
             raise ValueError(f"--demand {word}: the column {self.export.header[column]!r} is already part of {name}")
-        return self._add(Demand(name or self._named(name, column), column, how, empty))
+        self._add(Demand(name or self._named(name, column), column, how, empty))
 
-    def _add(self, value):
+    def _add(self, value: Demand | End | Expression) -> None:
         """Adds a column of the trace, or adds it to a column of service times of the same name."""
         at = next((at for at, it in enumerate(self.columns) if it.name == value.name), None)
         if at is None or isinstance(self.columns[at], (Constant, Code)):
@@ -182,7 +199,7 @@ class Plan:
         else:
             self.columns[at] = Sum([*getattr(self.columns[at], "parts", [self.columns[at]]), value])
 
-    def _expression(self, word, name, found, empty):
+    def _expression(self, word: str, name: str, found: Iterable[tuple[int, int, str | None]], empty: int | None) -> Expression:
         """Returns the Expression with these terms. Columns that look like those of --time are times."""
         times, lengths = [], []
         for sign, column, unit in found:
@@ -196,28 +213,30 @@ class Plan:
             raise ValueError(f"--demand {word}: times in ticks can't be subtracted")
         return Expression(name, times, lengths, self.per, empty)
 
-    def _is_time(self, column):
+    def _is_time(self, column: int) -> bool:
         how = Moments(self.time.how.form, Zone())
         texts = [text for text in self._texts(column) if text.strip()][:100]
         return 2 * sum(map(how.is_one, texts)) > len(texts)
 
-    def _mark(self, column):
+    def _mark(self, column: int) -> str | None:
         try:
             return self.decimal or found_decimal(set(self._texts(column)))
         except ValueError as error:
             raise ValueError(f"column {self.export.header[column]!r}: {error} (--decimal)") from None
 
-    def sources(self, source, rename):
+    def sources(self, source: str | None, rename: Iterable[str]) -> None:
         """Sets the sources, which completes the plan."""
         header, known = self.export.header, sources(self.model) if self.model else None
-        column, only, renamed = None, source or "jobs", {}
+        column: int | None = None
+        only: str | None = source or "jobs"
+        renamed: dict[str, str] = {}
         for old, new in map(_renamed, rename):
             if old in renamed:
                 raise ValueError(f"--rename {old} is given twice")
             renamed[old] = new
-        if source in header or re.fullmatch(r"#[1-9]\d{0,4}", source or ""):
+        if source is not None and (source in header or re.fullmatch(r"#[1-9]\d{0,4}", source)):
             column, only = self.export.column(source), None
-        elif not is_name(only) or source and only.casefold() in map(str.casefold, header):
+        elif not is_name(only or "") or source and source.casefold() in map(str.casefold, header):
             raise ValueError(f"no column {source!r} for --source; it has {listed(header)}")
         elif known is not None and only not in known:
             raise ValueError(f"the model has no source {only} (--source)")
@@ -232,7 +251,7 @@ class Plan:
         # The rows from which formats were detected aren't needed any more.
         self._sample = self.export.sample = []
 
-    def _in_order_of(self):
+    def _in_order_of(self) -> Times | None:
         """Returns the ends of services (Times) if the rows are in order of those and not of the arrivals, which matters for --twice order; else
         None."""
         ends = [column.times for column in self.columns if isinstance(column, End) and not column.times.how.is_of_day]
@@ -244,7 +263,7 @@ class Plan:
             return ends[0]
         return None
 
-    def _descents(self, times):
+    def _descents(self, times: Times) -> int:
         """Returns how often times of the sample go back, by a clock that never changes."""
         how, found = Moments(times.how.form, Zone()), []
         for text in self._texts(times.column):
@@ -252,11 +271,12 @@ class Plan:
                 found.append(how.of(text))
         return sum(later < earlier for earlier, later in zip(found, islice(found, 1, None)))
 
-    def between(self, begins, until):
+    def between(self, begins: str | None, until: str | None) -> None:
         """Sets the times between which jobs arrive."""
-        self.records.begins, self.records.ends = (text and self._bound(option, text) for option, text in (("--from", begins), ("--until", until)))
+        bounds = ("--from", begins), ("--until", until)
+        self.records.begins, self.records.ends = (self._bound(option, text) if text else None for option, text in bounds)
 
-    def _bound(self, option, text):
+    def _bound(self, option: str, text: str) -> int:
         """Returns the moment of --from or --until."""
         if self.is_ticks:
             raise ValueError(f"{option} {text}: it can't be used with times in ticks")
@@ -265,13 +285,13 @@ class Plan:
         wall, offset = given(option, iso, text)
         return wall - offset if offset is not None else self.place.first(wall)
 
-    def judge_renames(self):
+    def judge_renames(self) -> list[str]:
         """Checks the names given with --rename once all rows are read; names of sources whose rows were all left out are valid too. Returns a note
         (str) for each name that no row has, since a list of names may cover many days. Raises ValueError if no row has any of them."""
         if self.records.renamed.keys() <= self.records.names.keys():
             return []
         column = self.records.source
-        found = dict.fromkeys(row[column].strip() for row in self.export.rows()[0] if column < len(row))
+        found = dict.fromkeys(row[column].strip() for row in self.export.rows()[0] if column < len(row)) if column is not None else {}
         lacking = [old for old in self.records.renamed if old not in found]
         if len(lacking) < len(self.records.renamed):
             return [f"no source {old!r} for --rename" for old in lacking]
@@ -280,7 +300,7 @@ class Plan:
         raise ValueError(f"no source {lacking[0]!r} for --rename; it has {', '.join(listed[:LISTED]) or 'none'}{more}")
 
 
-def _renamed(word):
+def _renamed(word: str) -> tuple[str, str]:
     old, equals, new = word.rpartition("=")
     if not equals or not is_name(new):
         why = "is a lower-case letter, then lower-case letters, digits and underscores, at most 32" if new not in TAKEN else "isn't reserved"

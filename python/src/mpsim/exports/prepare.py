@@ -1,8 +1,11 @@
 """Makes a trace from an export of a telephone system, a till or a spreadsheet. If the export is ambiguous, the error names the option to set."""
 
+from __future__ import annotations
+
 import os
 from array import array
 from itertools import islice
+from typing import TYPE_CHECKING
 
 from ..names import is_like, name_for
 from ..times.calendar import Calendar, length_text, settings_in, tick_of
@@ -20,45 +23,53 @@ from .streams import Stream
 from .values import Code, Demand, End, Sum
 from .workbook import Workbook
 
+if TYPE_CHECKING:
+    from collections.abc import Collection, Iterable, Iterator, Sequence
+    from typing import TextIO
+
+    from ..shapes import Path
+    from .records import Records
+    from .table import Table
+
 # A field with more characters is rejected: an unclosed quote makes one field of the rest.
 FIELD = 1 << 17
 
 
 def prepare(
-    export,
-    time,
+    export: Path | bytes | bytearray,
+    time: str,
     *,
-    format=None,
-    date=None,
-    date_format=None,
-    day=None,
-    zone=None,
-    twice=None,
-    tick=None,
-    begin="hour",
-    source=None,
-    demand=(),
-    end=(),
-    answered=(),
-    constant=(),
-    code=(),
-    empty=None,
-    rename=(),
-    decimal=None,
-    delimiter=None,
-    encoding=None,
-    skip=0,
-    header=None,
-    model=None,
-    left_out=None,
-    where=(),
-    begins=None,
-    until=None,
-    far=False,
-    duplicates=None,
-    left_out_most="5%",
-    sheet=None,
-):
+    format: str | None = None,
+    date: str | None = None,
+    date_format: str | None = None,
+    day: Sequence[str] | None = None,
+    zone: str | None = None,
+    twice: str | None = None,
+    tick: str | None = None,
+    begin: str = "hour",
+    source: str | None = None,
+    demand: Iterable[str] = (),
+    end: Sequence[str] = (),
+    answered: str | Iterable[str] = (),
+    constant: Iterable[str] = (),
+    code: Iterable[str] = (),
+    empty: str | None = None,
+    rename: Iterable[str] = (),
+    decimal: str | None = None,
+    delimiter: str | None = None,
+    encoding: str | None = None,
+    skip: int = 0,
+    header: str | None = None,
+    model: str | None = None,
+    left_out: TextIO | None = None,
+    where: Iterable[str] = (),
+    begins: str | None = None,
+    until: str | None = None,
+    far: bool = False,
+    duplicates: str | None = None,
+    left_out_most: str = "5%",
+    sheet: str | None = None,
+) -> Prepared:
     """Returns the trace (Prepared) made from an export, which is a path or bytes.
 
     The other arguments are the options of `mpplan prepare`, as texts, except that `begins` is --from, `day` is a list of three, `model` is the text
@@ -88,7 +99,7 @@ def prepare(
         raise ValueError(f"{name}: times are before the year 1 or after the year 9999: is --format right?") from None
 
 
-def _table(stream, encoding, delimiter, sheet, skip, header):
+def _table(stream: Stream, encoding: str | None, delimiter: str | None, sheet: str | None, skip: int, header: str | None) -> Table:
     """Returns the table that a file contains (Export or Workbook)."""
     if not stream.is_workbook:
         if sheet is not None:
@@ -99,16 +110,16 @@ def _table(stream, encoding, delimiter, sheet, skip, header):
     return Workbook(stream, sheet, skip, header)
 
 
-def _tick(tick, model):
+def _tick(tick: str | None, model: str | None) -> int:
     """Returns the nanoseconds of a tick: the one given, else the model's, else a second."""
     known, _, _ = settings_in(model or "")
     per = given("--tick", tick_of, tick) if tick else known or SECOND
-    if known not in (None, per):
+    if known is not None and known != per:
         raise ValueError(f"--tick {tick}: in the model a tick is {length_text(known)}")
     return per
 
 
-def percent(text):
+def percent(text: str) -> float:
     """Returns the number (float) of a percentage such as `5%` or `2.5`. Raises ValueError."""
     try:
         value = float(text.strip().removesuffix("%"))
@@ -119,7 +130,7 @@ def percent(text):
     return value
 
 
-def _finished(plan, rows, begin, most, far, duplicates):
+def _finished(plan: Plan, rows: Rows, begin: str, most: float, far: bool, duplicates: str | None) -> Prepared:
     """Returns the trace made from the rows read."""
     unnamed = plan.judge_renames()
     rows.judge_left(most)
@@ -149,7 +160,7 @@ def _finished(plan, rows, begin, most, far, duplicates):
     return made
 
 
-def _judge_repeats(rows, duplicates):
+def _judge_repeats(rows: Rows, duplicates: str | None) -> str | None:
     """Returns a note (str or None) on rows that repeat an earlier one, and removes them if `duplicates` is "drop"."""
     found = rows.repeated()
     if not found:
@@ -158,17 +169,17 @@ def _judge_repeats(rows, duplicates):
     if duplicates == "drop":
         rows.drop(found)
     what = f"{counted(len(found), 'row')} that repeat{'s' if len(found) == 1 else ''} an earlier row, field by field (the first is row {first})"
-    return what + {"drop": ": dropped", "keep": ": kept"}.get(duplicates, ": kept; --duplicates drop leaves them out")
+    return what + {"drop": ": dropped", "keep": ": kept"}.get(duplicates or "", ": kept; --duplicates drop leaves them out")
 
 
-def _order(plan, used):
+def _order(plan: Plan, used: Iterable[str]) -> list[str]:
     """Returns the sources in the order of the model, or else of the export."""
     found = dict.fromkeys(used)
     known = plan.records.known
     return list(found) if known is None else [item for item in known if item in found]
 
 
-def _alike(records, names):
+def _alike(records: Records, names: Collection[str]) -> Iterator[str]:
     """Yields warnings about sources whose names differ only by a number, which another export may swap."""
     for old, new in records.names.items():
         plain = name_for(old)
@@ -177,7 +188,7 @@ def _alike(records, names):
             yield f"source {old!r} is called {new}, since {other}: name both with --rename"
 
 
-def _judge_zero(plan, made):
+def _judge_zero(plan: Plan, made: Prepared) -> None:
     """Notes if the model gives another time 0 than that of the trace."""
     _, start, zone = settings_in(plan.model or "")
     if plan.is_ticks or not start:
@@ -188,7 +199,7 @@ def _judge_zero(plan, made):
         made.unlike.append(f"time 0 is {first}, but in the model, which hours, days and pages use, it is {second}")
 
 
-def _note_values(plan, rows, made):
+def _note_values(plan: Plan, rows: Rows, made: Prepared) -> None:
     for it, values in zip(plan.columns, rows.values):
         if isinstance(it, (Demand, Sum, End, Expression)) and (zeros := values.count(0)):
             where = f": --where '{plan.export.header[it.column]}>0' leaves them out" if isinstance(it, Demand) else ""
@@ -207,12 +218,12 @@ def _note_values(plan, rows, made):
                 made.warned.append(f"{it.name}: {counted(over, 'service')} longer than 12 hours")
 
 
-def _codes_text(codes):
+def _codes_text(codes: Iterable[tuple[str, int]]) -> str:
     """Lists the first few words and their numbers."""
     return ", ".join(f"{number} is {word!r}" for word, number in islice(codes, LINES))
 
 
-def _code_warnings(column):
+def _code_warnings(column: Code) -> Iterator[str]:
     """Yields warnings about a column of words (Code)."""
     new = [item for item in column.codes.items() if column.known is not None and item[0] not in column.known]
     if new:
@@ -222,11 +233,11 @@ def _code_warnings(column):
         yield f"{column.name} has {count:,} values, but a split by remainder has at most 8 outputs"
 
 
-def _sort(made, rows, ticks):
+def _sort(made: Prepared, rows: Rows, ticks: array[int]) -> None:
     """Sorts the records by tick, then by source, then by time; equal ones keep the order of the export."""
     rank = {it: at for at, it in enumerate(made.names)}
     keys = [time * 64 + rank[it] for time, it in zip(ticks, rows.sources)]
-    order = range(len(keys))
+    order = list(range(len(keys)))
     if any(map(int.__gt__, rows.stamps, islice(rows.stamps, 1, None))):
         order = sorted(order, key=rows.stamps.__getitem__)
     order = sorted(order, key=keys.__getitem__)

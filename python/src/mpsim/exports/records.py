@@ -1,11 +1,23 @@
 """Turns rows of an export into records of a trace."""
 
+from __future__ import annotations
+
 import re
+from typing import TYPE_CHECKING
 
 from ..limits import SOURCES
 from ..names import name_for
 from ..times.texts import DAY, Asks, Cache, Unread, day_of
+from .values import Code
 
+if TYPE_CHECKING:
+    from collections.abc import Mapping, Sequence
+
+    from ..times.moments import Moments
+    from ..times.zones import Zone
+    from .conditions import Condition
+    from .plan import Column
+    
 # Moments are stored as 64-bit integers, which reach from 1684 to 2255.
 MOST = 9 * 10**18
 
@@ -13,14 +25,14 @@ MOST = 9 * 10**18
 class Dates:
     """A column of dates: its index (`column`) and `how` to read it (Moments)."""
 
-    def __init__(self, column, how):
+    def __init__(self, column: int, how: Moments) -> None:
         self.column, self.how = column, how
 
-    def midnight(self, row):
+    def midnight(self, row: Sequence[str]) -> int:
         """Returns the wall-clock midnight of a row's day (int, nanoseconds since 1970). Raises Unread or Asks, with the `column`."""
         try:
             return self.how.dates[row[self.column]]
-        except ValueError as error:
+        except (Unread, Asks) as error:
             error.column = self.column
             raise
 
@@ -33,15 +45,15 @@ class Numbers:
     60
     """
 
-    def __init__(self, columns):
+    def __init__(self, columns: Sequence[int]) -> None:
         self.columns, self._midnights = tuple(columns), Cache(self._work)
 
-    def midnight(self, row):
+    def midnight(self, row: Sequence[str]) -> int:
         """Does what Dates.midnight does."""
         year, month, day = self.columns
         return self._midnights[row[year], row[month], row[day]]
 
-    def _work(self, texts):
+    def _work(self, texts: tuple[str, str, str]) -> int:
         year = self._number(0, texts, r"[1-9]\d{3}", "not a year of four digits")
         month = self._number(1, texts, r"0?[1-9]|1[0-2]", "not a month from 1 to 12")
         day = self._number(2, texts, r"0?[1-9]|[12]\d|3[01]", "not a day from 1 to 31")
@@ -50,13 +62,13 @@ class Numbers:
         except Unread:
             raise self._error(2, "not a day of its month") from None
 
-    def _number(self, at, texts, pattern, why):
+    def _number(self, at: int, texts: Sequence[str], pattern: str, why: str) -> int:
         text = texts[at].strip()
         if not re.fullmatch(pattern, text, re.ASCII):
             raise self._error(at, why if text else "empty")
         return int(text)
 
-    def _error(self, at, why):
+    def _error(self, at: int, why: str) -> Unread:
         error = Unread(why)
         error.column = self.columns[at]
         return error
@@ -66,17 +78,19 @@ class Times:
     """A column of times: its index (`column`) and `how` to read it (Moments), in a Zone; if it has only a time of day, `dates` (Dates, Numbers or
     None) gives the day."""
 
-    def __init__(self, column, how, zone, dates=None):
+    _seen: dict[str, tuple[int, bool]]
+
+    def __init__(self, column: int, how: Moments, zone: Zone, dates: Dates | Numbers | None = None) -> None:
         self.column, self.how, self.zone, self.dates = column, how, zone, dates
         self._seen = {}
 
-    def first(self, row, until=None):
+    def first(self, row: Sequence[str], until: int | None = None) -> int:
         """Returns the moment of a row; if its hour occurs twice, the last that isn't after `until`, if given. Without a date it is on day 0."""
         if self.dates is None:
             return self.how.of(row[self.column], None, until)
         return self.zone.utc(self.dates.midnight(row) + self.how.of(row[self.column]), self._seen, None, until)
 
-    def later(self, row, than):
+    def later(self, row: Sequence[str], than: int) -> int:
         """Returns the moment of a row at or after another one. A time of day is its next occurrence."""
         value = self.how.of(row[self.column], than)
         if not self.how.is_of_day:
@@ -100,7 +114,7 @@ class TooManySources(ValueError):
 class Left(ValueError):
     """A row to leave out: the index of the column that can't be read, None for the whole row, and the reason."""
 
-    def __init__(self, column, why):
+    def __init__(self, column: int | None, why: str) -> None:
         super().__init__(column, why)
         self.column, self.why = column, why
 
@@ -116,16 +130,34 @@ class Records:
     `begins` or not before `ends` (moments or None), are excluded. `ended` (Times or None) are ends of services if the rows are in their order, which
     says which hour is meant if it occurs twice."""
 
-    def __init__(self, width, time, answered, values, source=None, only=None, renamed=None, known=None):
+    names: dict[str, str]
+    conditions: list[Condition]
+    begins: int | None
+    ends: int | None
+    ended: Times | None
+    _used: set[str]
+    _numbers: dict[str, int]
+
+    def __init__(
+        self,
+        width: int,
+        time: Times,
+        answered: Sequence[Times],
+        values: Sequence[Column],
+        source: int | None = None,
+        only: str | None = None,
+        renamed: Mapping[str, str] | None = None,
+        known: Sequence[str] | None = None,
+    ) -> None:
         self.width, self.time, self.answered, self.values = width, time, answered, values
-        self.source, self.only, self.known = source, only, known
+        self.source, self.only, self.known = source, only or "", known
         self.renamed, self.names, self.conditions, self.begins, self.ends = renamed or {}, {}, [], None, None
         self.ended = None
         self._taken, self._used = set(self.renamed.values()), set()
         self._named, self._numbers = Cache(self._name_of), {}
-        self._codes = [at for at, it in enumerate(values) if it.code]
+        self._codes = [(at, it) for at, it in enumerate(values) if isinstance(it, Code)]
 
-    def _name_of(self, text):
+    def _name_of(self, text: str) -> str:
         text = text.strip()
         if not text:
             raise Unread("empty")
@@ -141,7 +173,7 @@ class Records:
         self._used.add(made)
         return made
 
-    def many(self, rows):
+    def many(self, rows: Sequence[Sequence[str]]) -> list[Sequence[str] | Sequence[int]]:
         """Returns records as columns (sources, moments, and each of the values) for rows that need no individual treatment. Raises ValueError if one
         may; nothing visible has changed then."""
         if self.time.dates or self.answered or self.ended or set(map(len, rows)) != {self.width}:
@@ -154,15 +186,15 @@ class Records:
         if not -MOST < first <= last < MOST or not self._is_within(first) or not self._is_within(last):
             raise Unread("one by one")
         values = [value.many(columns) for value in self.values]
-        named = [self.only] * len(rows) if self.source is None else list(map(self._named.__getitem__, columns[self.source]))
-        for at in self._codes:
-            values[at] = list(map(self.values[at].code, rows))
+        named: list[str] = [self.only] * len(rows) if self.source is None else list(map(self._named.__getitem__, columns[self.source]))
+        for at, column in self._codes:
+            values[at] = list(map(column.code, rows))
         return [named, stamps, *values]
 
-    def _is_within(self, stamp):
+    def _is_within(self, stamp: int) -> bool:
         return (self.begins is None or stamp >= self.begins) and (self.ends is None or stamp < self.ends)
 
-    def of(self, row):
+    def of(self, row: Sequence[str]) -> list[str | int]:
         """Returns a record: a list of the source, the moment, and the values. Raises Left if the row can't be read, Unwanted if it is excluded, and
         Asks, with the `column`."""
         if len(row) != self.width and (len(row) < self.width or any(row[self.width :])):
@@ -189,19 +221,20 @@ class Records:
                 begun.append(item.later(row, stamp))
                 if begun[-1] < stamp:
                     raise Unread("before the job arrives")
-            made = [None, stamp]
+            values = []
             for value in self.values:
                 at = value.column
-                made.append(value.of(row, begun))
-            at = self.source
-            made[0] = self.only if at is None else self._named[row[at]]
+                values.append(value.of(row, begun))
+            at = -1 if self.source is None else self.source
+            source = self.only if self.source is None else self._named[row[at]]
         except Unread as error:
             raise Left(getattr(error, "column", at), str(error)) from None
         except OverflowError:
             raise Left(at, "out of the range of dates") from None
         except Asks as error:
-            error.column = getattr(error, "column", at)
+            if not hasattr(error, "column"):
+                error.column = at
             raise
-        for at in self._codes:
-            made[at + 2] = self.values[at].code(row)
-        return made
+        for at, column in self._codes:
+            values[at] = column.code(row)
+        return [source, stamp, *values]

@@ -1,9 +1,15 @@
 """A trace made from an export, and the first lines of its model."""
 
+from __future__ import annotations
+
 from array import array
+from typing import TYPE_CHECKING
 
 from ..times.calendar import first_lines, with_settings
 from .codes import line_of, with_codes, word_of
+
+if TYPE_CHECKING:
+    from collections.abc import Iterator
 
 # The most bytes of a trace.
 BYTES = 1 << 27
@@ -20,19 +26,30 @@ class Prepared:
     nanoseconds), `zero` (ISO 8601 text or None) and `zone` (str or None) define the ticks; `codes` has the number of each word by column (dict of
     dicts), `texts` the text of each source whose name doesn't show it (dict)."""
 
-    def __init__(self, header, names, tick, zone):
+    codes: dict[str, dict[str, int]]
+    sources: list[str]
+    told: list[str]
+    warned: list[str]
+    unlike: list[str]
+    left: dict[str, int]
+    texts: dict[str, str]
+    zero: str | None
+    times: array[int]
+    values: list[array[int]]
+
+    def __init__(self, header: list[str], names: list[str], tick: int, zone: str | None) -> None:
         self.header, self.names, self.tick, self.zone, self.codes = header, names, tick, zone, {}
         self.sources, self.times, self.values = [], array("q"), [array("q") for _ in header[2:]]
         self.told, self.warned, self.unlike, self.left, self.texts, self.zero = [], [], [], {}, {}, None
 
-    def __len__(self):
+    def __len__(self) -> int:
         return len(self.times)
 
-    def rows(self):
+    def rows(self) -> Iterator[tuple[str | int, ...]]:
         """Yields the source, time and values of each record."""
         return zip(self.sources, self.times, *self.values)
 
-    def lines(self):
+    def lines(self) -> Iterator[str]:
         """Yields the text of the trace in pieces."""
         yield (header := ",".join(self.header) + "\n")
         size = len(header)
@@ -44,13 +61,13 @@ class Prepared:
                 raise ValueError(f"the trace is longer than {BYTES:,} bytes, the limit of mpsim: shorten the export")
             yield text
 
-    def first_lines(self):
+    def first_lines(self) -> str:
         """Returns the first lines of a model for this trace. `mpplan days`, `hours` and others take the tick and time 0 from them, the next
         `prepare` the codes."""
         codes = [f"# {name} is {word_of(text)}" for name, text in self.texts.items()] + [line_of(*item) for item in self.codes.items()]
         return first_lines(self.tick, self.zero, self.zone, self.header[2:], self.names, filter(None, codes))
 
-    def model(self, text):
+    def model(self, text: str) -> str:
         """Returns a model's text with the tick, time 0 and codes of this trace in its first lines."""
         text = with_settings(text, self.tick, self.zero, self.zone)
         for name, codes in self.codes.items():

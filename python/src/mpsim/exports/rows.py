@@ -1,10 +1,13 @@
 """Reads the rows of an export into records, and keeps account of the rows that are left out, that no one asked for, or that occur twice."""
 
+from __future__ import annotations
+
 import contextlib
 import csv
 from array import array
 from bisect import bisect_right
 from itertools import compress, islice
+from typing import TYPE_CHECKING
 
 from ..limits import RECORDS
 from ..progress import Progress, uncollected
@@ -14,6 +17,12 @@ from ..wording import counted, quoted
 from .delimited import LINES
 from .records import Left, Unwanted
 from .result import CHUNK
+
+if TYPE_CHECKING:
+    from collections.abc import Iterable, Sequence
+    from typing import Any, TextIO
+
+    from .plan import Plan
 
 
 class TooManyLeft(ValueError):
@@ -27,13 +36,20 @@ class Rows:
     reason, the number of rows left out and the first of them, `unwanted` the number that conditions excluded, and `long` the number of fields with
     many lines. Rows that are left out are written to a file, if given."""
 
-    def __init__(self, plan, left_out=None):
+    left: dict[str, tuple[int, str]]
+    sources: list[str]
+    stamps: array[int]
+    values: list[array[int]]
+    _hashes: array[int]
+    _runs: list[tuple[int, int]]
+
+    def __init__(self, plan: Plan, left_out: TextIO | None = None) -> None:
         self.plan, self.left, self.unwanted, self.long = plan, {}, 0, 0
         self.sources, self.stamps, self.values = [], array("q"), [array("q") for _ in plan.columns]
         self._hashes, self._runs = array("q"), []
         self._writer = Writer(left_out) if left_out is not None else None
 
-    def read(self):
+    def read(self) -> None:
         """Reads all rows. Raises ValueError if the export is too long or needs another option."""
         rows, number = self.plan.export.rows()
         lines = 0
@@ -50,7 +66,7 @@ class Rows:
             except csv.Error as error:
                 raise ValueError(f"after row {number - 1}: {error}: is a closing quote missing?") from None
 
-    def _read_some(self, rows, first):
+    def _read_some(self, rows: Sequence[list[str]], first: int) -> None:
         """Reads some rows, the first of which has this number."""
         plan = self.plan
         with contextlib.suppress(ValueError, OverflowError):
@@ -73,41 +89,43 @@ class Rows:
                 raise ValueError(f"row {number}, column {plan.export.header[error.column]!r}: {quoted(row[error.column])}: {error}") from None
         self._add(numbers, kept, zip(*records))
 
-    def _add(self, numbers, rows, columns):
+    def _add(self, numbers: Sequence[int], rows: Sequence[Sequence[str]], columns: Iterable[Iterable[Any]]) -> None:
         """Adds records, given as columns: sources, moments, and each of the values; with the numbers and the fields of their rows."""
         for at, number in enumerate(numbers, len(self.stamps)):
             if not self._runs or number - at != self._runs[-1][1] - self._runs[-1][0]:
                 self._runs.append((at, number))
             if isinstance(numbers, range):
                 break
-        for column, more in zip((self.sources, self.stamps, *self.values), columns):
+        lists: list[Any] = [self.sources, self.stamps, *self.values]
+        for column, more in zip(lists, columns):
             column.extend(more)
-        self._hashes.extend(map(hash, map(tuple, rows)))
+        self._hashes.extend(hash(tuple(row)) for row in rows)
         if len(self.stamps) > RECORDS:
             raise ValueError(f"more than {RECORDS:,} records, the limit of a trace: choose a part with --from, --until or --where")
 
-    def _leave(self, number, error, row):
+    def _leave(self, number: int, error: Left, row: Sequence[str]) -> None:
         """Counts a row that is left out."""
         why, first = error.why, f"row {number}"
         if error.column is not None:
             name = self.plan.export.header[error.column]
             why = f"{name} is empty" if why == "empty" else f"{name}: {why}"
             first += f", {quoted(row[error.column])}" if row[error.column].strip() else ""
-        self.left.setdefault(why, [0, first])[0] += 1
+        count, where = self.left.get(why, (0, first))
+        self.left[why] = count + 1, where
         if self._writer:
             self._writer.writerow([number, why, *row])
 
-    def row_of(self, at):
+    def row_of(self, at: int) -> int:
         """Returns the number of the row of a record, by its index."""
         begin, number = self._runs[bisect_right(self._runs, (at, float("inf"))) - 1]
         return number + at - begin
 
-    def reasons(self):
+    def reasons(self) -> list[str]:
         """Returns a text for each reason to leave rows out, the commonest first."""
         ordered = sorted(self.left.items(), key=lambda item: -item[1][0])
         return [f"{counted(count, 'row')}: {why}" + (f" ({where})" if count == 1 else f"; the first is {where}") for why, (count, where) in ordered]
 
-    def judge_left(self, most):
+    def judge_left(self, most: float) -> None:
         """Raises ValueError if no row is left, and TooManyLeft if more than this percentage of the rows is left out."""
         left = sum(count for count, _ in self.left.values())
         if not self.stamps:
@@ -118,20 +136,21 @@ class Rows:
             allow = f"more than {most:g} percent: to allow it, give --left-out-most {-(-100 * left // (left + len(self.stamps)))}%"
             raise TooManyLeft("; ".join([f"{rows} would be left out, {allow}", *self.reasons()[:3]]))
 
-    def repeated(self):
+    def repeated(self) -> list[int]:
         """Returns the indices (list of int) of records whose rows repeat an earlier one, field by field."""
         if len(set(self._hashes)) == len(self._hashes):
             return []
-        first, found = {}, []
+        first: dict[int, int] = {}
+        found = []
         for at, value in enumerate(self._hashes):
             if self._record(first.setdefault(value, at)) == self._record(at) and first[value] != at:
                 found.append(at)
         return found
 
-    def _record(self, at):
+    def _record(self, at: int) -> tuple[object, ...]:
         return self.sources[at], self.stamps[at], *(column[at] for column in self.values)
 
-    def drop(self, indices):
+    def drop(self, indices: Iterable[int]) -> None:
         """Removes the records with these indices."""
         keep = bytearray(b"\1") * len(self.stamps)
         for at in indices:

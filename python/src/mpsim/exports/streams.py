@@ -1,5 +1,7 @@
 """Opens exports as streams of bytes, compressed or not, so that no file is ever whole in memory."""
 
+from __future__ import annotations
+
 import bz2
 import contextlib
 import gzip
@@ -10,13 +12,22 @@ import stat
 import tempfile
 import zipfile
 import zlib
+from typing import TYPE_CHECKING, cast
 
 from ..files import named
+
+if TYPE_CHECKING:
+    from collections.abc import Callable, Iterator
+    from typing import IO, TextIO
+
+    from _typeshed import WriteableBuffer
+
+    from ..shapes import Path
 
 PIECE = 1 << 20
 # The most bytes of an export that comes through a pipe, which are kept in a temporary file.
 PIPE = 1 << 32
-_PACKED = {b"\x1f\x8b": gzip.open, b"BZh": bz2.open, b"\xfd7zXZ\x00": lzma.open}
+_PACKED: dict[bytes, Callable[..., object]] = {b"\x1f\x8b": gzip.open, b"BZh": bz2.open, b"\xfd7zXZ\x00": lzma.open}
 # What files begin with that aren't text, and how to get text from them.
 _OTHERS = {
     b"\xd0\xcf\x11\xe0": "an old spreadsheet (.xls): save it as CSV UTF-8",
@@ -35,7 +46,12 @@ class Stream:
     """The bytes of an export: bytes, or a file by its path ("-" is standard input). `is_workbook` says whether it is a spreadsheet (.xlsx). `notes`
     (list of str) say how it was unpacked. A pipe is copied to a temporary file. Raises OSError, and ValueError for a file that isn't a table."""
 
-    def __init__(self, export):
+    notes: list[str]
+    _open: Callable[[], IO[bytes]] | None
+    _path: str | None
+    _plain: Callable[[], IO[bytes]]
+
+    def __init__(self, export: Path | bytes | bytearray) -> None:
         self.notes, self.is_workbook, self._open, self._files = [], False, None, contextlib.ExitStack()
         with contextlib.ExitStack() as files:
             # Closed at once if this isn't a table.
@@ -43,44 +59,49 @@ class Stream:
             self._begin(export)
             files.pop_all()
 
-    def _begin(self, export):
+    def _begin(self, export: Path | bytes | bytearray) -> None:
         """Decides by the first bytes how to open the file."""
         if isinstance(export, (bytes, bytearray)):
-            self._path, self._plain = None, lambda: io.BytesIO(export)
+            data = bytes(export)
+            self._path, self._plain = None, lambda: io.BytesIO(data)
         else:
-            self._path = "/dev/stdin" if os.fspath(export) == "-" else os.fspath(export)
-            self._plain = self._copied() if self._is_pipe() else lambda: open(self._path, "rb")
+            path = "/dev/stdin" if os.fspath(export) == "-" else os.fspath(export)
+            self._path, self._plain = path, lambda: open(path, "rb")
+            if self._is_pipe(path):
+                self._plain = self._copied(path)
         with self.open() as file:
             head = file.read(16)
         if head[:4] == b"PK\3\4":
             self._unzip()
         elif packed := next((how for mark, how in _PACKED.items() if head.startswith(mark)), None):
-            self._open = lambda: packed(self._kept(), "rb")
+            unpack = packed
+            self._open = lambda: cast("IO[bytes]", unpack(self._kept(), "rb"))
             self.notes.append(f"the file is unpacked ({packed.__module__})")
         elif what := next((what for mark, what in _OTHERS.items() if head.startswith(mark)), None):
             raise ValueError(f"this is {what}")
 
-    def _kept(self):
+    def _kept(self) -> IO[bytes]:
         """Opens the file for a reader that doesn't close it; it is closed with the stream."""
         return self._files.enter_context(self._plain())
 
-    def _is_pipe(self):
-        with named(self._path):
-            return not stat.S_ISREG(os.stat(self._path).st_mode) and not os.path.isdir(self._path)
+    @staticmethod
+    def _is_pipe(path: str) -> bool:
+        with named(path):
+            return not stat.S_ISREG(os.stat(path).st_mode) and not os.path.isdir(path)
 
-    def _copied(self):
+    def _copied(self, path: str) -> Callable[[], IO[bytes]]:
         """Copies a pipe to a temporary file and returns how to open that."""
         kept = self._files.enter_context(tempfile.TemporaryFile())
-        with named(self._path), open(self._path, "rb", buffering=0) as file:
+        with named(path), open(path, "rb", buffering=0) as file:
             while piece := file.read(PIECE):
                 if not kept.tell():
                     judge_text(piece)
                 kept.write(piece)
                 if kept.tell() > PIPE:
                     raise ValueError(f"more than {PIPE:,} bytes through a pipe: give a file")
-        return lambda: _Reading(kept)
+        return lambda: cast("IO[bytes]", _Reading(cast("io.BufferedRandom", kept)))
 
-    def _unzip(self):
+    def _unzip(self) -> None:
         """Chooses the file in a zip archive, of which there must be one."""
         try:
             with zipfile.ZipFile(self._kept()) as archive:
@@ -96,27 +117,27 @@ class Stream:
             self._open = lambda: zipfile.ZipFile(self._kept()).open(names[0])
             self.notes.append(f"the file is unpacked (zip): {names[0]}")
 
-    def __enter__(self):
+    def __enter__(self) -> Stream:
         return self
 
-    def __exit__(self, *_):
+    def __exit__(self, *_: object) -> None:
         self._files.close()
 
-    def open(self):
+    def open(self) -> IO[bytes]:
         """Opens the bytes (binary file) from their beginning, unpacked."""
         with named(self._path):
             return (self._open or self._plain)()
 
-    def book(self):
+    def book(self) -> IO[bytes]:
         """Opens a spreadsheet (binary file), which is closed with the stream."""
         return self._kept()
 
-    def text(self, encoding):
+    def text(self, encoding: str) -> TextIO:
         """Opens the text (file) from its beginning, with its own ends of lines. It is closed with the stream."""
-        lines = io.TextIOWrapper(io.BufferedReader(self.open(), PIECE), encoding, errors="replace", newline="")
+        lines = io.TextIOWrapper(io.BufferedReader(cast("io.RawIOBase", self.open()), PIECE), encoding, errors="replace", newline="")
         return self._files.enter_context(lines)
 
-    def pieces(self):
+    def pieces(self) -> Iterator[bytes]:
         """Yields the bytes in pieces. Raises ValueError if a packed file is damaged."""
         try:
             with named(self._path), self.open() as file:
@@ -128,7 +149,7 @@ class Stream:
                 raise
             raise ValueError(f"it can't be unpacked: {type(error).__name__}") from None
 
-    def tail(self, size):
+    def tail(self, size: int) -> bytes:
         """Returns the last bytes of a long file; none if it is packed."""
         with self.open() as file:
             if self._open or file.seek(0, os.SEEK_END) <= PIECE:
@@ -140,31 +161,31 @@ class Stream:
 class _Reading(io.RawIOBase):
     """Reads an open temporary file from its beginning and leaves it open."""
 
-    def __init__(self, file):
+    def __init__(self, file: io.BufferedRandom) -> None:
         self._file, self._at = file, 0
 
-    def readable(self):
+    def readable(self) -> bool:
         return True
 
-    def seekable(self):
+    def seekable(self) -> bool:
         return True
 
-    def seek(self, to, whence=os.SEEK_SET):
+    def seek(self, to: int, whence: int = os.SEEK_SET) -> int:
         begin = {os.SEEK_SET: 0, os.SEEK_CUR: self._at}.get(whence)
         self._at = (self._file.seek(0, os.SEEK_END) if begin is None else begin) + to
         return self._at
 
-    def tell(self):
+    def tell(self) -> int:
         return self._at
 
-    def readinto(self, buffer):
+    def readinto(self, buffer: WriteableBuffer) -> int:
         self._file.seek(self._at)
         count = self._file.readinto(buffer)
         self._at += count
         return count
 
 
-def judge_text(begin):
+def judge_text(begin: bytes) -> None:
     """Raises ValueError if bytes at the beginning of a file show that it isn't text."""
     if b"\0" in begin[:1024] and begin[:4] != b"PK\3\4" and not begin.startswith((b"\xff\xfe", b"\xfe\xff", *_PACKED, *_OTHERS)):
         raise ValueError("it has NUL bytes: is it UTF-16 without a byte order mark? Give --encoding, e.g. utf-16-le")

@@ -1,26 +1,47 @@
 """What exports of all forms have in common."""
 
+from __future__ import annotations
+
 import itertools
 import re
+from typing import TYPE_CHECKING
 
 from ..wording import listed, quoted
 
+if TYPE_CHECKING:
+    from collections.abc import Iterable, Sequence
+
+    from ..shapes import Reader
+
 
 class Table:
-    """What exports of all forms have: a `header` (list of str), `rows()`, a `sample` of them, and `notes` (lists of str)."""
+    """What exports of all forms have: a `header` (list of str), `rows()`, their number or that of the lines (`size`), a `sample` of them, and `notes`
+    (list of str)."""
 
-    def __init__(self, skip, header, notes):
+    header: list[str]
+    sample: list[list[str]]
+
+    def __init__(self, skip: int, header: str | None, notes: Iterable[str]) -> None:
         if skip < 0:
             raise ValueError(f"--skip {skip}: expected a number of lines, 0 or more")
         self.notes, self._skip, self._has_header = list(notes), skip, header is None
 
-    def _named(self, first, header):
+    @property
+    def size(self) -> int:
+        """The number of rows or lines; 0 if it isn't known."""
+        raise NotImplementedError
+
+    def rows(self) -> tuple[Reader, int]:
+        """Returns a reader of the rows after the header, and the number of the first row, counted as in a spreadsheet."""
+        raise NotImplementedError
+
+    def _named(self, first: Sequence[str], header: str | None) -> list[str]:
         """Returns the names of the columns: those given, separated by commas, or those in the first row."""
         if header is None and not any(item.strip() for item in first):
             raise ValueError("it begins with an empty line: give the number of lines before its header with --skip")
         return [item.strip() for item in (first if header is None else header.split(","))]
 
-    def column(self, name):
+    def column(self, name: str) -> int:
         """Returns the index of a column by its name. Raises ValueError unless exactly one column has it."""
         numbers = [f"#{at}" for at, item in enumerate(self.header, 1) if item == name]
         if len(numbers) > 1:
@@ -31,7 +52,7 @@ class Table:
             return int(name[1:]) - 1
         raise ValueError(f"no column {quoted(name)}; it has {listed(self.header)}{self._hint(name)}")
 
-    def _hint(self, name):
+    def _hint(self, name: str) -> str:
         """Returns a hint (str) at the row that looks like the header, if the first rows are those of a report."""
         rows, number = self.rows()
         for at, row in enumerate(itertools.islice(rows, 50), number):
@@ -39,7 +60,7 @@ class Table:
                 return f"; row {at} looks like the header: --skip {at - 1}"
         return ""
 
-    def parse(self, word, has_unit=False):
+    def parse(self, word: str, has_unit: bool = False) -> tuple[int, str | None, str | None]:
         """Splits COLUMN[=NAME][:UNIT] into the column's index, its name in the trace or None, and the unit or None. A column's name may contain these
         characters too. Raises ValueError as `column` does."""
         numbers = re.match(r"#[1-9]\d{0,4}", word)

@@ -1,9 +1,18 @@
 """Reads exports that are spreadsheets (.xlsx), with the Python package openpyxl."""
 
+from __future__ import annotations
+
 from datetime import date, datetime, time, timedelta
 from itertools import islice
+from typing import TYPE_CHECKING
 
 from .table import Table
+
+if TYPE_CHECKING:
+    from collections.abc import Iterator
+
+    from ..shapes import Reader
+    from .streams import Stream
 
 # The number of rows examined to detect formats; cells have types, so few are enough.
 SAMPLE = 1 << 11
@@ -15,7 +24,7 @@ class Workbook(Table):
     """An export that is a spreadsheet, from a Stream; `sheet` (str) is the name of the sheet to read, by default the only one. Its cells become
     texts: dates and times in ISO 8601, a length of time in h:mm:ss. Raises ValueError as Export does, and if openpyxl is missing."""
 
-    def __init__(self, stream, sheet=None, skip=0, header=None):
+    def __init__(self, stream: Stream, sheet: str | None = None, skip: int = 0, header: str | None = None) -> None:
         try:
             import openpyxl
         except ImportError:
@@ -38,24 +47,25 @@ class Workbook(Table):
         self.header = self._named(next(self._all(), []), header)
         self.sample = [row for row in islice(self.rows()[0], SAMPLE) if len(row) >= len(self.header)]
 
-    def _all(self):
+    def _all(self) -> Iterator[list[str]]:
         """Yields the rows after those to skip as texts, without empty cells at their end beyond the header."""
         for row in self._sheet.iter_rows(min_row=self._skip + 1, values_only=True):
             yield list(map(text_of, row))
 
     @property
-    def size(self):
+    def size(self) -> int:
         """The number of rows; 0 if it isn't known."""
         return self._sheet.max_row or 0
 
-    def rows(self):
+    def rows(self) -> tuple[Reader, int]:
+        """Returns a reader of the rows after the header, and the number of the first row, counted as in the spreadsheet."""
         rows, width = self._all(), len(self.header)
         if self._has_header:
             next(rows, None)
         return _Counted(_fitted(row, width) for row in rows), self._skip + 1 + self._has_header
 
 
-def _fitted(row, width):
+def _fitted(row: list[str], width: int) -> list[str]:
     """Returns a row with the width of the header: empty cells at its end don't count. An empty row has no fields."""
     while row and not row[-1]:
         row.pop()
@@ -65,19 +75,19 @@ def _fitted(row, width):
 class _Counted:
     """An iterator of rows that counts them, as a CSV reader counts lines."""
 
-    def __init__(self, rows):
+    def __init__(self, rows: Iterator[list[str]]) -> None:
         self._rows, self.line_num = rows, 0
 
-    def __iter__(self):
+    def __iter__(self) -> _Counted:
         return self
 
-    def __next__(self):
+    def __next__(self) -> list[str]:
         row = next(self._rows)
         self.line_num += 1
         return row
 
 
-def text_of(value):
+def text_of(value: object) -> str:
     """Returns the text of a cell.
 
     >>> text_of(datetime(2026, 3, 2, 8, 0, 17)), text_of(timedelta(seconds=3725)), text_of(3.0), text_of(None)

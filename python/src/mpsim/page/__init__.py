@@ -1,11 +1,14 @@
 """Makes the page of a run, or of several side by side: one HTML file that loads nothing from the network; and the excerpt that a notebook shows."""
 
+from __future__ import annotations
+
 import base64
 import hashlib
 import json
 import os
 from html import escape
 from string import Template
+from typing import TYPE_CHECKING
 
 from ..agents.pools import beside_pools, pool_lines
 from ..files import written
@@ -15,35 +18,54 @@ from .network import arguments_of, network, nodes_that_are_drawn
 from .pictures import NUMBERS, pictures_of
 from .tables import columns_of, exits_table, facts, legend, nodes_table
 
+if TYPE_CHECKING:
+    from collections.abc import Iterable, Sequence
+    from datetime import datetime
+    from fractions import Fraction
+
+    from ..lines import Node
+    from ..report import Report
+    from ..shapes import Path
+    from .tables import Column
+
 HERE = os.path.dirname(os.path.abspath(__file__))
 SCRIPTS = "figures.js", "pictures.js", "page.js"
 
 
-def _part(name):
+def _part(name: str) -> str:
     with open(os.path.join(HERE, name), encoding="utf-8") as file:
         return file.read()
 
 
-def _policy(script):
+def _policy(script: str) -> str:
     """The browser's policy for the page: no network access, and only the page's own script."""
     digest = base64.b64encode(hashlib.sha256(script.encode()).digest()).decode()
     return f"default-src 'none'; style-src 'unsafe-inline'; script-src 'sha256-{digest}'; base-uri 'none'; form-action 'none'"
 
 
-def _first_node(nodes):
+def _first_node(nodes: Sequence[Node]) -> str:
     """Returns the node to select first: the one with waits and the longest p90, else the busiest, or one with servers."""
     return max(nodes, key=lambda item: (item.p90 or 0, item.max or 0, item.lost, item.util or 0, item.util is not None)).name
 
 
-def _exact(value):
+def _exact(value: object) -> object:
     """Returns a figure for the script; as text if a double can't hold it."""
     if isinstance(value, list):
         return [_exact(item) for item in value]
     return str(value) if isinstance(value, int) and value >= 1 << 53 else value
 
 
-def _data(reports, lines, labels, columns, tick, start):
-    """Returns the script's data: the figures and charts of the nodes of each run (`lines`, lists of Node), in the order of the columns."""
+def _data(
+    reports: Sequence[Report],
+    lines: Sequence[Sequence[Node]],
+    labels: Sequence[str],
+    columns: Sequence[Column],
+    tick: float | Fraction | None,
+    start: datetime | None,
+    chosen: str,
+) -> dict[str, object]:
+    """Returns the script's data: the figures and charts of the nodes of each run (`lines`, lists of Node), in the order of the columns, and the node
+    to select first."""
     runs = []
     for label, report, mine in zip(labels, reports, lines):
         nodes = nodes_that_are_drawn(report)
@@ -65,18 +87,25 @@ def _data(reports, lines, labels, columns, tick, start):
     return {
         "columns": [column.name for column in columns],
         "runs": runs,
-        "node": _first_node(lines[0]),
+        "node": chosen,
         "tick": None if tick is None else float(tick),
         "date": start and start.date().isoformat(),
         "start": start.hour * 3600 + start.minute * 60 + start.second if start else 0,
     }
 
 
-def _options(names, chosen=None):
+def _options(names: Iterable[str], chosen: str | None = None) -> str:
     return "".join(f'<option{" selected" if name == chosen else ""}>{escape(name)}</option>' for name in names)
 
 
-def page(reports, labels=None, title=None, tick=None, start=None, within=None):
+def page(
+    reports: Iterable[Report],
+    labels: Iterable[object] | None = None,
+    title: str | None = None,
+    tick: float | Fraction | None = None,
+    start: datetime | None = None,
+    within: int | None = None,
+) -> str:
     """Returns the page (str) of a report, or of several side by side, under their labels (by default 1, 2 and so on). The network and the rows of the
     tables are those of the first; figures follow the selected run. A pool is one node: the figures under its name are those of the whole.
 
@@ -88,23 +117,24 @@ def page(reports, labels=None, title=None, tick=None, start=None, within=None):
     if not reports:
         raise ValueError("a page needs a report: none was given, or every model was rejected")
     # A file name that isn't UTF-8 can't appear in a page.
-    labels = [str(label).encode(errors="surrogateescape").decode(errors="replace") for label in labels or range(1, len(reports) + 1)]
+    names = [str(label).encode(errors="surrogateescape").decode(errors="replace") for label in labels or range(1, len(reports) + 1)]
     first, is_several = reports[0], len(reports) > 1
     title = (title or (f"{len(reports)} runs" if is_several else "Run")).encode(errors="surrogateescape").decode(errors="replace")
     columns, lines = columns_of(reports, within), [beside_pools(report) for report in reports]
-    data = _data(reports, lines, labels, columns, tick, start)
+    chosen = _first_node(lines[0])
+    data = _data(reports, lines, names, columns, tick, start, chosen)
     script = "(() => {\n'use strict';\n" + "".join(map(_part, SCRIPTS)) + "})();\n"
-    svg = network(first, lines[0], data["node"])
+    svg = network(first, lines[0], chosen)
     return Template(_part("page.html")).substitute(
         policy=escape(_policy(script)),
         title=escape(title),
         style=style() + _part("piece.css") + _part("page.css"),
         facts=facts(first),
         pools="".join(f"\n<p>{escape(pool_line)}</p>" for pool_line in pool_lines(reports, lacks=True)),
-        runs=f'<label>Run <select id="run">{_options(labels)}</select></label>' if is_several else "",
+        runs=f'<label>Run <select id="run">{_options(names)}</select></label>' if is_several else "",
         network=Template(_part("network.html")).substitute(legend=legend(), svg=svg) if svg else "",
         compared=_part("compared.html") if is_several else "",
-        nodes=_options([line.name for line in lines[0]], data["node"]),
+        nodes=_options([line.name for line in lines[0]], chosen),
         tables=nodes_table(first, lines[0], columns),
         exits="" if is_several else exits_table(first),
         # Nothing in a text may end the element that contains it.
@@ -113,14 +143,22 @@ def page(reports, labels=None, title=None, tick=None, start=None, within=None):
     )
 
 
-def save(path, reports, labels=None, title=None, **options):
+def save(
+    path: Path,
+    reports: Iterable[Report],
+    labels: Iterable[object] | None = None,
+    title: str | None = None,
+    tick: float | Fraction | None = None,
+    start: datetime | None = None,
+    within: int | None = None,
+) -> None:
     """Writes a page, completely or not at all. Takes what `page` takes, and also raises OSError."""
-    text = page(reports, labels, title, **options)
+    text = page(reports, labels, title, tick, start, within)
     with written(os.fspath(path)) as file:
         file.write(text)
 
 
-def drawing(report):
+def drawing(report: Report) -> str:
     """Returns only the network (str), as an SVG file for documents, in light colours. Raises ValueError if the report's model isn't known."""
     svg = network(report, beside_pools(report), is_still=True)
     if not svg:
@@ -132,7 +170,7 @@ def drawing(report):
     return f'{head}><style>{rules}</style>{ground}<g class="mpsim">{body.removesuffix("</svg>")}</g></svg>\n'
 
 
-def piece(report):
+def piece(report: Report) -> str:
     """Returns what a notebook shows (str): the network and the tables, without a script."""
     lines = beside_pools(report)
     svg = network(report, lines, is_still=True)

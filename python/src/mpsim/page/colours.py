@@ -1,5 +1,7 @@
 """The colours of a page, each for light and dark mode. They also differ in lightness, and none carries meaning alone."""
 
+from __future__ import annotations
+
 import re
 
 COLOURS = {
@@ -37,12 +39,12 @@ LIGHT = "[data-theme=light] .mpsim,[data-jp-theme-light=true] .mpsim,.vscode-lig
 DARK = "[data-theme=dark] .mpsim,[data-jp-theme-light=false] .mpsim,.vscode-dark .mpsim"
 
 
-def in_light(text):
+def in_light(text: str) -> str:
     """Returns CSS with the light values of the colours filled in, for programs that don't support variables."""
     return re.sub(r"var\(--(\w+)\)", lambda found: COLOURS[found[1]][0], text)
 
 
-def style():
+def style() -> str:
     """Returns the CSS that sets the colours: by the system's mode unless another is chosen."""
     light, dark = (f"{';'.join(f'--{name}:{it[at]}' for name, it in COLOURS.items())};color-scheme:{scheme}" for at, scheme in enumerate(SCHEMES))
     return f".mpsim{{{light}}}\n@media (prefers-color-scheme:dark){{.mpsim{{{dark}}}}}\n{LIGHT}{{{light}}}\n{DARK}{{{dark}}}\n"

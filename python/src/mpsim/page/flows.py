@@ -1,7 +1,18 @@
 """Finds how many jobs took each output of a network, as far as a report shows it."""
 
+from __future__ import annotations
 
-def flows(nodes, report):
+from typing import TYPE_CHECKING
+
+
+if TYPE_CHECKING:
+    from collections.abc import Iterable, Sequence
+
+    from ..model import ModelNode
+    from ..report import Report
+
+
+def flows(nodes: Iterable[ModelNode], report: Report) -> dict[tuple[str, int], int]:
     """Returns the number of jobs (int) on the outputs of a model's nodes: a dict by pairs of a node's name and an output. Missing pairs are unknown:
     for a split and a join the report counts all outputs together, so each is derived from the node that reads it."""
     known = {(item.name, item.output): item.jobs for item in report.exits}
@@ -23,7 +34,7 @@ def flows(nodes, report):
     return known
 
 
-def _by_sum(known, outputs, count):
+def _by_sum(known: dict[tuple[str, int], int], outputs: Sequence[tuple[str, int]], count: int) -> None:
     """If all but one of these outputs are known, and their sum, derives the missing one."""
     left = [output for output in outputs if output not in known]
     if len(left) == 1:

@@ -1,6 +1,13 @@
 """Lays out a network: nodes in layers, from the sources to the right, and the lines between them."""
 
-from typing import NamedTuple, Tuple
+from __future__ import annotations
+
+from typing import TYPE_CHECKING, NamedTuple, Tuple
+
+if TYPE_CHECKING:
+    from collections.abc import Iterable, Mapping, Sequence
+
+    from ..model import ModelNode
 
 # The box of a node, and the gaps between boxes.
 WIDE, HIGH, GAP_X, GAP_Y = 150, 62, 64, 20
@@ -20,7 +27,7 @@ class Line(NamedTuple):
 class Layout:
     """The left edge and the middle of each place, by name (`places`); the lines; and the width and height of the drawing."""
 
-    def __init__(self, nodes):
+    def __init__(self, nodes: Sequence[ModelNode]) -> None:
         columns, self.lines = _columns(nodes, _layers(nodes))
         high = {name: height for column in columns for name, height in column.items()}
         middle = _middles(columns, self.lines, high)
@@ -32,9 +39,10 @@ class Layout:
         self.width = 2 * AROUND + (len(columns) - 1) * (WIDE + GAP_X) + last
 
 
-def _layers(nodes):
+def _layers(nodes: Sequence[ModelNode]) -> dict[str, int]:
     """Returns the number of each node's layer: after everything it reads; a source comes just before its reader."""
-    layers, left = {}, list(nodes)
+    layers: dict[str, int] = {}
+    left = list(nodes)
     while left:
         for item in left:
             if all(name in layers for name, _ in item.inputs):
@@ -48,10 +56,10 @@ def _layers(nodes):
     return layers
 
 
-def _columns(nodes, layers):
+def _columns(nodes: Sequence[ModelNode], layers: Mapping[str, int]) -> tuple[list[dict[str, int]], list[Line]]:
     """Returns, for each layer, the heights of its places by name (dict), and the lines. A line that crosses a layer has a place there."""
     readers = {item: node.name for node in nodes for item in node.inputs}
-    columns = [{} for _ in range(max(layers.values()) + 2)]
+    columns: list[dict[str, int]] = [{} for _ in range(max(layers.values()) + 2)]
     for each in nodes:
         columns[layers[each.name]][each.name] = HIGH
     lines = []
@@ -68,21 +76,21 @@ def _columns(nodes, layers):
     return [column for column in columns if column], lines
 
 
-def _middles(columns, lines, high):
+def _middles(columns: Sequence[Mapping[str, int]], lines: Iterable[Line], high: Mapping[str, int]) -> dict[str, float]:
     """Returns the vertical middle of each place: as near to its neighbours as the others in its layer allow."""
-    beside = {name: [] for name in high}
+    beside: dict[str, list[str]] = {name: [] for name in high}
     for line in lines:
         for one, other in zip(line.path, line.path[1:]):
             beside[one].append(other)
             beside[other].append(one)
-    middle = {}
+    middle: dict[str, float] = {}
     for column in columns:
         _spread(column, {name: at for at, name in enumerate(column)}, middle)
     # Forth by the places before, back by those after; then by both.
     for turn in range(10):
         order = range(len(columns)) if turn % 2 == 0 else range(len(columns) - 1, -1, -1)
         for at in order:
-            near = set()
+            near: set[str] = set()
             if turn > 5 or turn % 2 == 0:
                 near.update(*columns[max(at - 1, 0) : at])
             if turn > 5 or turn % 2 == 1:
@@ -95,10 +103,11 @@ def _middles(columns, lines, high):
     return middle
 
 
-def _spread(column, wanted, middle):
+def _spread(column: Mapping[str, int], wanted: Mapping[str, float], middle: dict[str, float]) -> None:
     """Places those of a layer in the order of their wanted positions, with at least the gap between them, and on average where they want to be."""
-    end, moved = None, {}
-    for name in sorted(column, key=wanted.get):
+    end: float | None = None
+    moved: dict[str, float] = {}
+    for name in sorted(column, key=wanted.__getitem__):
         moved[name] = wanted[name] if end is None else max(wanted[name], end + GAP_Y + column[name] / 2)
         end = moved[name] + column[name] / 2
     shift = sum(wanted[name] - moved[name] for name in moved) / len(moved)

@@ -1,11 +1,22 @@
 """Draws the network as SVG: loads as colours and as figures, flows as the width of the lines."""
 
+from __future__ import annotations
+
 from html import escape
+from typing import TYPE_CHECKING
 
 from ..model import nodes_of
 from .flows import flows
 from .layers import HIGH, WIDE, Layout
 from .tables import shown
+
+if TYPE_CHECKING:
+    from collections.abc import Iterable, Sequence
+
+    from ..lines import Node
+    from ..model import ModelNode
+    from ..report import Report
+    from .layers import Line
 
 # The steps of the load scale.
 STEPS = 5
@@ -15,26 +26,26 @@ ROUND, INDENT = {"source": 31, "delay": 31, "split": 2, "fork": 2, "join": 2}, {
 TOLD_BY_IN = "source", "split", "fork", "delay", "trunk"
 
 
-def nodes_that_are_drawn(report):
+def nodes_that_are_drawn(report: Report) -> list[ModelNode]:
     """Returns the nodes of the report's model (list of ModelNode), none if it isn't known."""
     return nodes_of(report.model) if report.model else []
 
 
-def step(util):
+def step(util: float | None) -> int:
     """Returns the step of the load scale: 1 to 5 by fifths, 0 for a node without servers."""
     return 0 if util is None else min(int(util * STEPS), STEPS - 1) + 1
 
 
-def _shortened(text, most):
+def _shortened(text: str, most: int) -> str:
     return text if len(text) <= most else text[: most - 1] + "…"
 
 
-def arguments_of(node):
+def arguments_of(node: ModelNode) -> str:
     """Returns the second line of a box: the kind and its arguments in the model."""
     return _shortened(f"{node.kind} {node.arguments}".strip(), 22)
 
 
-def figures_of(line):
+def figures_of(line: Node) -> str:
     """Returns the third line of a box, from a line of the report."""
     if line.kind in TOLD_BY_IN:
         text = f"{line.in_:,} in"
@@ -46,27 +57,28 @@ def figures_of(line):
     return text + (f", lost {line.lost:,}" if line.lost else f", held {line.held:,}" if line.held else "")
 
 
-def said_of(line):
+def said_of(line: Node) -> str:
     """Returns the text of a box for screen readers."""
     return f"{line.name}, {line.kind}, {'no servers' if line.util is None else f'util {line.util:.4f}'}, {figures_of(line)}"
 
 
-def _servers(node):
+def _servers(node: ModelNode) -> int | None:
     """Returns the number of servers of a model's node (ModelNode), or None if it has none or the number is a name in braces."""
     arguments = node.arguments.split()
     count = {"server": 1, "loss": 1, "tandem": 1 + arguments.count("/"), "forkjoin": len(arguments) - arguments.count("|")}
     return int(arguments[0]) if node.kind == "trunk" and arguments[0].isdecimal() else count.get(node.kind)
 
 
-def unlike(report):
+def unlike(report: Report) -> str | None:
     """Returns the name of the first node whose utilisation doesn't fit the number of servers in the model, or None."""
-    for node in nodes_of(report.model) if report.span else ():
-        count = _servers(node)
-        if count and round(10**4 * report[node.name].util) != 10**4 * report[node.name].busy // (count * report.span):
+    for node in nodes_that_are_drawn(report) if report.span else ():
+        count, util = _servers(node), report[node.name].util
+        if count and util is not None and round(10**4 * util) != 10**4 * report[node.name].busy // (count * report.span):
             return node.name
+    return None
 
 
-def network(report, lines, chosen=None, is_still=False):
+def network(report: Report, lines: Iterable[Node], chosen: str | None = None, is_still: bool = False) -> str:
     """Returns the SVG (str), with the figures of `lines` (list of Node) and the selected node marked; "" if the report's model isn't known. In a
     still one no node is a button."""
     nodes, figures = nodes_that_are_drawn(report), {line.name: line for line in lines}
@@ -82,7 +94,7 @@ def network(report, lines, chosen=None, is_still=False):
     return "".join(parts) + "</svg>"
 
 
-def _line(line, places, count, most, outputs):
+def _line(line: Line, places: Sequence[tuple[float, float]], count: int | None, most: int, outputs: int) -> str:
     name, number = line.output
     (x, y), last = places[0], places[-1]
     x += WIDE
@@ -108,7 +120,7 @@ def _line(line, places, count, most, outputs):
     return f'<g class="edge{" none" if count == 0 else ""}" data-flow="{name}.{number}">{label}{drawn}{tip}{port}</g>'
 
 
-def _box(line, node, place, is_chosen, is_still):
+def _box(line: Node, node: ModelNode, place: tuple[float, float], is_chosen: bool, is_still: bool) -> str:
     x, middle = place
     top, said, left = middle - HIGH / 2, escape(said_of(line)), x + INDENT.get(node.kind, 10)
     parts = [f'<title>{said}</title><rect class="box" x="{x}" y="{top:.1f}" width="{WIDE}" height="{HIGH}" rx="{ROUND.get(node.kind, 8)}"/>']

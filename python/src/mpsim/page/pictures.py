@@ -1,12 +1,22 @@
 """Computes the data of a page's charts from a report; small, however many visits there are."""
 
+from __future__ import annotations
+
 from array import array
 from bisect import bisect_left, bisect_right
 from fractions import Fraction
+from typing import TYPE_CHECKING
 
 from ..agents.pools import visits_at
 from ..lines import PASSED
 from ..node_visits import HELD, LOST, percentile_of
+
+if TYPE_CHECKING:
+    from collections.abc import Iterable, Sequence
+
+    from ..lines import Node
+    from ..node_visits import NodeVisits
+    from ..report import Report
 
 # The limit of numbers for all charts of a page together, at about seven per time interval and two per wait; and the minimum and maximum for one
 # chart.
@@ -19,40 +29,40 @@ CLOCK, DAY = [1, 2, 5, 10, 15, 20, 30, 60, 120, 300, 600, 900, 1800, 3600, 7200,
 WITHOUT_WAITS = *PASSED, "delay"
 
 
-def nice(least, tick=None):
+def nice(least: int, tick: float | Fraction | None = None) -> int:
     """Returns a round width, not less than this one (int, in ticks): 1, 2 or 5 with zeros; if the seconds per tick are known, round seconds, minutes,
     hours or days."""
     if tick is None:
-        power = 10 ** (len(str(least)) - 1)
+        power: int = 10 ** (len(str(least)) - 1)
         return next(item * power for item in (1, 2, 5, 10) if item * power >= least)
     tick = Fraction(str(tick))
     seconds = next((item for item in CLOCK if item >= least * tick), None) or DAY * nice(-(-least * tick // DAY))
     return -(-seconds // tick)
 
 
-def width_of(span, pieces, tick=None):
+def width_of(span: int, pieces: int, tick: float | Fraction | None = None) -> int:
     """Returns the width (int, ticks) of a time interval, for about this many."""
     return nice(-(-max(span, 1) // pieces), tick)
 
 
-def over_time(visits, span, pieces, tick=None):
+def over_time(visits: NodeVisits, span: int, pieces: int, tick: float | Fraction | None = None) -> dict[str, object]:
     """Returns the visits to a node by time of arrival, in about this many intervals of equal width: the arrivals, how many of them were lost or held,
     and the p50, p90 and maximum of the waits of those that departed, None if none did."""
-    width = width_of(span, pieces, tick)
-    series = {"width": width, "came": [], "lost": [], "p50": [], "p90": [], "max": []}
-    begin = 0
+    width, begin = width_of(span, pieces, tick), 0
+    came, lost = [], []
+    waits_at: dict[str, list[int | None]] = {"p50": [], "p90": [], "max": []}
     for end_time in range(width, span + width + 1, width):
         end = bisect_left(visits.arrive, end_time, begin)
         waits = sorted(item for item in visits.wait[begin:end] if item >= 0)
-        series["came"].append(end - begin)
-        series["lost"].append(end - begin - len(waits))
+        came.append(end - begin)
+        lost.append(end - begin - len(waits))
         for name, percent in ("p50", 50), ("p90", 90), ("max", 100):
-            series[name].append(percentile_of(waits, percent) if waits else None)
+            waits_at[name].append(percentile_of(waits, percent) if waits else None)
         begin = end
-    return series
+    return {"width": width, "came": came, "lost": lost, **waits_at}
 
 
-def number_over_time(visits, span, width):
+def number_over_time(visits: NodeVisits, span: int, width: int) -> dict[str, object]:
     """Returns how many of a node's visits were in it, in time intervals of one width (int, ticks), the last of which ends with the span: the mean of
     each interval, to three decimals, and the maximum. Lost visits are never in the node, held ones stay to the end. At any moment departures come
     before arrivals, so a visit of no duration doesn't show.
@@ -64,18 +74,18 @@ def number_over_time(visits, span, width):
     """
     begins = array("q", (arrive for arrive, wait in zip(visits.arrive, visits.wait) if wait != LOST))
     ends = array("q", sorted(span if wait == HELD else depart for depart, wait in zip(visits.depart, visits.wait) if wait != LOST))
-    series, came, gone = {"width": width, "mean": [], "max": []}, 0, 0
+    means, greatest, came, gone = [], [], 0, 0
     for begin in range(0, span, width):
         end, first, before = min(begin + width, span), came, gone
         came, gone = bisect_left(begins, end, first), bisect_left(ends, end, before)
         # A visit present at the beginning counts for the whole interval, less the time after its departure; an arrival counts from its time on.
         within = (first - before) * (end - begin) + (came - first - gone + before) * end - sum(begins[first:came]) + sum(ends[before:gone])
-        series["mean"].append(round(within / (end - begin), 3))
-        series["max"].append(_greatest(begins, ends, begin, range(first, came), before))
-    return series
+        means.append(round(within / (end - begin), 3))
+        greatest.append(_greatest(begins, ends, begin, range(first, came), before))
+    return {"width": width, "mean": means, "max": greatest}
 
 
-def _greatest(begins, ends, begin, numbers, gone):
+def _greatest(begins: Sequence[int], ends: Sequence[int], begin: int, numbers: range, gone: int) -> int:
     """Returns the maximum present at once within an interval: at its beginning, or after one of these arrivals (range) less those gone before."""
     gone = bisect_right(ends, begin, gone)
     most = numbers.start - gone
@@ -87,7 +97,7 @@ def _greatest(begins, ends, begin, numbers, gone):
     return most
 
 
-def distribution(visits, most):
+def distribution(visits: NodeVisits, most: int) -> dict[str, object]:
     """Returns the number of visits, and some waits of those that departed, in rising order, with how many waited no longer. Each count is exact. All
     waits are included if they are few; else those at equally spaced ranks, at common percentiles, and at ranks that close in on the longest."""
     waits = visits.waits()
@@ -98,7 +108,7 @@ def distribution(visits, most):
     return {"came": len(visits), "wait": kept, "count": [bisect_right(waits, item) for item in kept]}
 
 
-def pictures_of(report, nodes, numbers, tick=None):
+def pictures_of(report: Report, nodes: Iterable[Node], numbers: int, tick: float | Fraction | None = None) -> dict[str, dict[str, dict[str, object]]]:
     """Returns the charts of those nodes (list of Node) of a report where jobs can stay and did arrive, by name, with about this many numbers in all.
     `tick` is the seconds per tick, if known."""
     if report.visits is None:
@@ -107,7 +117,7 @@ def pictures_of(report, nodes, numbers, tick=None):
     drawn = [visit for visit in visits_at(report, waited) if len(visit)]
     each = numbers // max(len(drawn), 1)
     pieces, waits = (min(max(each // share, LEAST), most) for share, most in ((10, PIECES), (7, WAITS)))
-    found = {}
+    found: dict[str, dict[str, dict[str, object]]] = {}
     for item in drawn:
         count, mine = max(min(pieces, len(item) // VISITS), 10), found.setdefault(item.node, {})
         if waited[item.node]:

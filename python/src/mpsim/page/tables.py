@@ -1,13 +1,16 @@
 """Makes the tables of a page and formats their figures."""
 
-from html import escape
-from typing import TYPE_CHECKING, Callable, NamedTuple
+from __future__ import annotations
 
-from ..agents.pools import pooled
+from html import escape
+from typing import TYPE_CHECKING, Callable, NamedTuple, Optional
+
+from ..agents.pools import pooled, visits_in
 from ..lines import PASSED, Node
 
 if TYPE_CHECKING:
     from ..report import Report
+    from collections.abc import Iterable, Sequence
 
 
 class Column(NamedTuple):
@@ -15,10 +18,10 @@ class Column(NamedTuple):
 
     name: str
     says: str
-    of: "Callable[[Report, Node], object]"
+    of: Callable[[Report, Node], Optional[float]]
 
 
-def _rounded(value, digits):
+def _rounded(value: float | None, digits: int) -> float | None:
     return None if value is None else round(value, digits)
 
 
@@ -39,25 +42,26 @@ COLUMNS = [
 ]
 
 
-def columns_of(reports, within=None):
+def columns_of(reports: Iterable[Report], within: int | None = None) -> list[Column]:
     """Returns the columns of a page, with the share served within this many ticks if requested. Raises ValueError if a report lacks the visits for
     that."""
     if within is None:
         return COLUMNS
     if any(report.visits is None for report in reports):
         raise ValueError("the share within a time needs job lines: use jobs=True or --jobs")
-    says = f"share of all arrivals served after at most {within} ticks"
-    return [Column(f"within {within}", says, lambda report, node: _rounded(_share(report, node, within), 4)), *COLUMNS]
+    most = within
+    says = f"share of all arrivals served after at most {most} ticks"
+    return [Column(f"within {most}", says, lambda report, node: _rounded(_share(report, node, most), 4)), *COLUMNS]
 
 
-def _share(report, node, within):
+def _share(report: Report, node: Node, within: int) -> float | None:
     """Returns the share served within this many ticks; None if jobs never wait or get lost there."""
     if node.kind == "pool":
         return pooled(report, node.name).share_within(within)
-    return None if node.kind in (*PASSED, "delay") else report.visits[node.name].share_within(within)
+    return None if node.kind in (*PASSED, "delay") else visits_in(report)[node.name].share_within(within)
 
 
-def shown(value):
+def shown(value: float | None) -> str:
     """Formats a figure for reading (str)."""
     if value is None:
         return "–"
@@ -66,11 +70,11 @@ def shown(value):
     return f"{value:,.4f}".rstrip("0").rstrip(".")
 
 
-def _cell(value):
+def _cell(value: float | None) -> str:
     return f'<td data-v="{"" if value is None else value}">{shown(value)}</td>'
 
 
-def head_of(words, is_still=False):
+def head_of(words: Iterable[tuple[str, str]], is_still: bool = False) -> str:
     """Returns the row at the head of a table, from pairs of a word and its explanation: buttons that sort, except in a still table."""
     if is_still:
         return "<tr>" + "".join(f'<th scope="col" title="{escape(says)}">{escape(word)}</th>' for word, says in words) + "</tr>"
@@ -78,13 +82,13 @@ def head_of(words, is_still=False):
     return f"<tr>{''.join(cells)}</tr>"
 
 
-def _table(name, caption, words, rows, is_still):
+def _table(name: str, caption: str, words: Iterable[tuple[str, str]], rows: Iterable[str], is_still: bool) -> str:
     identity = "" if is_still else f' id="{name}"'
     head = head_of(words, is_still)
     return f"<table{identity}><caption>{caption}</caption><thead>{head}</thead><tbody>{''.join(rows)}</tbody></table>"
 
 
-def nodes_table(report, nodes, columns, is_still=False):
+def nodes_table(report: Report, nodes: Iterable[Node], columns: Sequence[Column], is_still: bool = False) -> str:
     """Returns the table of these nodes (list of Node) of a report."""
     rows = []
     for item in nodes:
@@ -94,7 +98,7 @@ def nodes_table(report, nodes, columns, is_still=False):
     return _table("nodes", "Nodes, times in ticks", words, rows, is_still)
 
 
-def exits_table(report, is_still=False):
+def exits_table(report: Report, is_still: bool = False) -> str:
     """Returns the table of the outputs that no node reads."""
     rows = []
     for item in report.exits:
@@ -104,13 +108,13 @@ def exits_table(report, is_still=False):
     return _table("exits", "Where jobs left the network", words, rows, is_still)
 
 
-def facts(report):
+def facts(report: Report) -> str:
     """Returns a line about the whole run."""
     mean = report.mean_sojourn
     return f"{report.jobs:,} jobs, span {report.span:,} ticks" + ("" if mean is None else f", mean time in the network {mean:,.1f} ticks")
 
 
-def legend():
+def legend() -> str:
     """Returns the legend of the network's colours."""
     steps = "".join(f'<span class="load{number}">{20 * number - 20}–{20 * number} %</span>' for number in range(1, 6))
     return f'<p class="legend">Utilisation: {steps}<span class="load0">no servers</span> The width of a line shows how many jobs took it.</p>'

@@ -1,5 +1,9 @@
 """Runs the scenarios of a sweep's plan in this process."""
 
+from __future__ import annotations
+
+from typing import TYPE_CHECKING
+
 from ..agents.pools import names_of, visits_at
 from ..agents.waits import pools_in, recomputed, varied
 from ..errors import Error
@@ -7,8 +11,15 @@ from ..runs import run, scenarios, sweep_text
 from ..traces.trace import Trace, header_of, locating_errors, pool_warning
 from .results import Scenario, scenarios_of
 
+if TYPE_CHECKING:
+    from collections.abc import Collection, Iterable, Iterator
 
-def pools_again(plan, trace):
+    from ..report import Report
+    from ..shapes import Row
+    from .plans import Plan, TraceFile
+
+
+def pools_again(plan: Plan, trace: TraceFile) -> list[str]:
     """Returns the pools (list of str) whose number of agents varies over the models of a plan, if the trace has their waits."""
     header = header_of(trace["path"])
     if pool_warning(trace["path"], header) is None:
@@ -16,14 +27,14 @@ def pools_again(plan, trace):
     return varied((plan.model(at)[2] for at in range(plan.each)), Trace(trace["path"], header, []))
 
 
-def shares_of(report, ticks, nodes):
+def shares_of(report: Report, ticks: int, nodes: Collection[str]) -> Iterator[Row]:
     """Yields, for each row of a report, the two shares served within this many ticks."""
     for visit in visits_at(report, names_of(report, nodes)):
         shares = visit.share_within(ticks), visit.share_within(ticks, departed=True)
         yield [None if share is None else round(share, 6) for share in shares]
 
 
-def scenarios_in(plan, shard, with_jobs, again):
+def scenarios_in(plan: Plan, shard: int, with_jobs: bool, again: Collection[str]) -> Iterator[tuple[int, Scenario]]:
     """Yields the scenarios of a shard as they come, with the numbers of their models. `again` has the paths of traces whose pools are worked out
     again for each model."""
     trace, models = plan.shard(shard)
@@ -38,7 +49,7 @@ def scenarios_in(plan, shard, with_jobs, again):
         yield from zip(models, scenarios_of(stream, range(len(texts))))
 
 
-def _pooled_again(plan, trace, models, with_jobs):
+def _pooled_again(plan: Plan, trace: TraceFile, models: Iterable[int], with_jobs: bool) -> Iterator[tuple[int, Scenario]]:
     """Yields the scenarios of models with different numbers of agents: each is run with the agents and the waits of its own number."""
     whole = Trace.read(trace["path"])
     for at in models:
@@ -48,12 +59,12 @@ def _pooled_again(plan, trace, models, with_jobs):
                 mine = recomputed(whole, pools_in(text, whole))
                 report = run(text.encode(errors="surrogateescape"), mine.lines(), jobs=with_jobs)
         except Error as error:
-            yield at, Scenario(label, error.status, None, error)
+            yield at, Scenario(label, error.status or 0, None, error)
             continue
         yield at, Scenario(label, 0, report, None)
 
 
-def label_of(plan, trace, at):
+def label_of(plan: Plan, trace: TraceFile, at: int) -> str:
     """Returns the label of a scenario on the page: its values, with the names of its model and its trace if there are several."""
     label, values, _ = plan.model(at)
     words = [trace["label"]] * (len(plan.traces) > 1) + [label] * (len(plan.models) > 1 or not values) + [str(value) for value in values.values()]

@@ -1,15 +1,26 @@
 """Plans sweeps of any size: models in which names stand for values, traces, and their division into shards."""
 
+from __future__ import annotations
+
 import glob
 import hashlib
 import json
 import os
 import re
+from typing import TYPE_CHECKING, Optional, TypedDict
 
 from ..agents.pools import agent_name, queue_name
 from ..limits import MODELS
 from ..model import in_braces, lines_of
 from ..tables.nodes import heads
+
+if TYPE_CHECKING:
+    from collections.abc import Collection, Iterable, Mapping, Sequence
+    from typing import Dict, List, Union
+
+    from ..shapes import Path
+
+    Sets = Dict[str, Union[List[int], List[str]]]
 
 # The columns of the table, except those of the values.
 COLUMNS = "trace", "model", "status", "span", "refusal", *heads()
@@ -17,7 +28,15 @@ COLUMNS = "trace", "model", "status", "span", "refusal", *heads()
 VALUES = 1 << 20
 
 
-def values_of(word):
+class TraceFile(TypedDict):
+    """A trace of a sweep: its label and path, and the checksum of its file, None if it isn't known."""
+
+    label: str
+    path: str
+    sum: Optional[str]
+
+
+def values_of(word: str) -> tuple[str, list[int] | list[str]]:
     """Returns the name (str) and the values (list of int or of str) in `agents=20..40`, `agents=20..40..5` or `agents=1,2,5`.
 
     >>> values_of("agents=20..40..5"), values_of("rule=turn,3")
@@ -27,10 +46,10 @@ def values_of(word):
     if not found:
         raise ValueError(f"--set {word}: expected NAME=FROM..TO, NAME=FROM..TO..STEP or NAME=VALUE,VALUE")
     name, begin, end, step, listed = found.groups()
-    values = range(int(begin), int(end) + 1, int(step or 1)) if begin else listed.split(",")
-    if begin and values and (values[-1] - values[0]) // values.step >= VALUES:
+    numbers = range(int(begin), int(end) + 1, int(step or 1)) if begin else range(0)
+    if numbers and (numbers[-1] - numbers[0]) // numbers.step >= VALUES:
         raise ValueError(f"--set {word}: more than {VALUES:,} values")
-    values = list(values)
+    values = list(numbers) if begin else listed.split(",")
     if not values:
         raise ValueError(f"--set {word}: the range {begin}..{end} is empty")
     if name in COLUMNS:
@@ -38,18 +57,18 @@ def values_of(word):
     return name, values
 
 
-def _filled(text, values):
+def _filled(text: str, values: Mapping[str, int | str]) -> str:
     """Returns a model's text with the names in braces replaced; in comments only those that have a value."""
     lines = text.split("\n")
     for at, line in enumerate(lines):
         if line.lstrip(" \t").startswith("#"):
-            lines[at] = re.sub(r"\{(\w+)\}", lambda found: str(values.get(found[1], found[0])), line)
+            lines[at] = re.sub(r"\{(\w+)\}", lambda found: str(values.get(str(found[1]), found[0])), line)
         else:
             lines[at] = line.format(**values)
     return "\n".join(lines)
 
 
-def sets_of(words):
+def sets_of(words: Iterable[str]) -> Sets:
     """Returns the values by name, from several such texts. Raises ValueError if a name is given twice."""
     pairs = [values_of(word) for word in words]
     for name, _ in pairs:
@@ -58,7 +77,7 @@ def sets_of(words):
     return dict(pairs)
 
 
-def files_of(words):
+def files_of(words: Iterable[str]) -> list[str]:
     """Returns the files for paths and patterns such as variants/*.txt. Raises ValueError if one matches nothing."""
     found = []
     for word in words:
@@ -69,13 +88,13 @@ def files_of(words):
     return found
 
 
-def labels_of(paths):
+def labels_of(paths: Sequence[str]) -> list[str]:
     """Returns the labels of files in the table: their names without the extension, or their paths if two names are the same."""
     names = [os.path.splitext(os.path.basename(path))[0] for path in paths]
     return names if len(set(names)) == len(names) else list(paths)
 
 
-def sum_of(path):
+def sum_of(path: Path) -> str:
     """Returns the SHA-256 checksum of a file as text."""
     made = hashlib.sha256()
     with open(path, "rb") as file:
@@ -91,7 +110,7 @@ class Plan:
     `nodes` are the nodes that get rows, empty for all. Scenarios are counted by trace, then by model, then by values, the last name varying fastest.
     Shards of up to 64 scenarios are counted from 1, and each has one trace."""
 
-    def __init__(self, models, sets, traces, nodes=()):
+    def __init__(self, models: Sequence[tuple[str, str]], sets: Sets, traces: list[TraceFile], nodes: Iterable[str] = ()) -> None:
         self.models, self.sets, self.traces, self.nodes = models, sets, traces, list(nodes)
         self.combinations = 1
         for values in sets.values():
@@ -100,7 +119,7 @@ class Plan:
         self.a_trace = -(-self.each // MODELS)
 
     @classmethod
-    def of(cls, models, sets, traces, nodes=()):
+    def of(cls, models: Sequence[str], sets: Sets, traces: Sequence[str], nodes: Collection[str] = ()) -> Plan:
         """Returns the plan for files (paths), values and names of nodes. Raises ValueError for a name without values, values without a name, and a
         model that lacks one of the nodes."""
         if not models or not traces:
@@ -112,7 +131,7 @@ class Plan:
         for label, text in zip(labels_of(models), texts if not sets else ()):
             if found := in_braces(text):
                 raise ValueError(f"model {label}: {found[0]} has no value: give --set {found[1]}=FROM..TO or --set {found[1]}=VALUE,VALUE")
-        named = [{"label": label, "path": path, "sum": None} for label, path in zip(labels_of(traces), traces)]
+        named: list[TraceFile] = [{"label": label, "path": path, "sum": None} for label, path in zip(labels_of(traces), traces)]
         plan = cls(list(zip(labels_of(models), texts)), sets, named, nodes)
         for at in range(len(models)):
             plan.model(at * plan.combinations)
@@ -120,16 +139,16 @@ class Plan:
         return plan
 
     @property
-    def scenarios(self):
+    def scenarios(self) -> int:
         """The number of scenarios (int)."""
         return self.each * len(self.traces)
 
     @property
-    def shards(self):
+    def shards(self) -> int:
         """The number of shards (int)."""
         return self.a_trace * len(self.traces)
 
-    def model(self, at):
+    def model(self, at: int) -> tuple[str, dict[str, int | str], str]:
         """Returns the label, the values (dict) and the text of a model, counted from 0. Raises ValueError if a name in it has no value."""
         which, left = divmod(at, self.combinations)
         label, text = self.models[which]
@@ -143,7 +162,7 @@ class Plan:
         except (LookupError, ValueError, AttributeError) as error:
             raise ValueError(f"model {label}: a name in braces has no value from --set ({type(error).__name__}: {error})") from None
 
-    def judge_nodes(self, nodes):
+    def judge_nodes(self, nodes: Collection[str]) -> None:
         """Raises ValueError if a model lacks one of these nodes or pools; nothing has to run to know that. A text that doesn't begin like a model is
         skipped: its run is refused, and gets its row."""
         for which, (label, text) in enumerate(self.models if nodes else ()):
@@ -158,22 +177,22 @@ class Plan:
                     if name not in kinds and not is_pool:
                         raise ValueError(f"model {label}: no node {name!r}; it has {', '.join(kinds) or 'none'}")
 
-    def shard(self, number):
+    def shard(self, number: int) -> tuple[TraceFile, range]:
         """Returns the trace of a shard, and the numbers of its models (range)."""
         trace, piece = divmod(number - 1, self.a_trace)
         return self.traces[trace], range(piece * MODELS, min((piece + 1) * MODELS, self.each))
 
-    def head(self):
+    def head(self) -> list[str]:
         """Returns the names of the table's columns."""
         return ["trace", "model", *self.sets, "status", "span", *heads(), "refusal"]
 
-    def text(self):
+    def text(self) -> str:
         """Returns the plan as the text of a file, with a checksum."""
         parts = {"models": self.models, "sets": self.sets, "traces": self.traces, "nodes": self.nodes}
         return json.dumps({**parts, "sum": _sum_of_parts(parts)}, indent=1) + "\n"
 
     @classmethod
-    def parse(cls, text):
+    def parse(cls, text: str | bytes) -> Plan:
         """Returns the plan in such a text. Raises ValueError if it isn't one, or was altered."""
         parts = json.loads(text)
         if not isinstance(parts, dict) or parts.pop("sum", None) != _sum_of_parts(parts):
@@ -181,17 +200,17 @@ class Plan:
         return cls(parts["models"], parts["sets"], parts["traces"], parts["nodes"])
 
 
-def _kinds_in(text):
+def _kinds_in(text: str) -> dict[str, str]:
     """Returns the kinds (str) of the nodes in a model's text, by name, even if mpsim would reject it."""
     words = map(str.split, lines_of(text))
     return {word[1]: word[0] for word in words if len(word) > 1 and word[0] not in ("model", "bound")}
 
 
-def _sum_of_parts(parts):
+def _sum_of_parts(parts: Mapping[str, object]) -> str:
     return hashlib.sha256(json.dumps(parts).encode()).hexdigest()
 
 
-def _text_of(path):
+def _text_of(path: Path) -> str:
     # Bytes that aren't UTF-8 are kept: the program judges them.
     with open(path, encoding="utf-8", errors="surrogateescape", newline="") as file:
         return file.read()

@@ -1,10 +1,22 @@
 """Sweeps: a trace run through many models, and the reader of mpsweep's output."""
 
+from __future__ import annotations
+
 import re
-from typing import NamedTuple, Optional
+from collections.abc import Hashable
+from typing import TYPE_CHECKING, Dict, NamedTuple, Optional
 
 from ..errors import Error, ReportError, error_of, read_from
 from ..report import Reading, Report, stream_of, with_model
+
+if TYPE_CHECKING:
+    from datetime import datetime
+    from fractions import Fraction
+    import pandas
+    from collections.abc import Iterator, Sequence
+
+    from ..inputs import Input
+    from ..shapes import Path, ReportInput
 
 HEAD = b"scenario "
 SCENARIO = re.compile(rb"scenario ([1-9]\d*) status (0|[1-9]\d*)\n")
@@ -14,15 +26,21 @@ REFUSED = 3, 4, 5, 9
 
 class Scenario(NamedTuple):
     """The run of one model of a sweep: its label (any value), its status (int), its report (Report), and, if the status isn't 0, the exception
-    (Error, not raised) with the program's line and numbers."""
+    (Error, not raised) with the program's line and numbers.
 
-    label: object
+    >>> import mpsim
+    >>> scenario, = mpsim.scenarios([("door", 0)], {"now": "model 1\\nsource door\\n"})
+    >>> scenario.label, scenario.status, scenario.report.jobs, scenario.refusal
+    ('now', 0, 1, None)
+    """
+
+    label: Hashable
     status: int
     report: Optional[Report]
     refusal: Optional[Error]
 
 
-class Sweep(dict):
+class Sweep(Dict[Hashable, Scenario]):
     """The scenarios of a sweep (Scenario) by label, in order.
 
     >>> import mpsim
@@ -35,13 +53,20 @@ class Sweep(dict):
     """
 
     @classmethod
-    def read(cls, path, labels=None):
-        """Returns the sweep in a file. The labels and exceptions are those of `parse`; OSError is raised if the file can't be read."""
+    def read(cls, path: Path, labels: Sequence[Hashable] | None = None) -> Sweep:
+        """Returns the sweep in a file. The labels and exceptions are those of `parse`; OSError is raised if the file can't be read.
+
+        >>> import mpsim, tempfile
+        >>> with tempfile.NamedTemporaryFile("w") as file:
+        ...     print("scenario 1 status 3\\nmpsim: model line 1: expected model 1 or model 2", file=file, flush=True)
+        ...     mpsim.Sweep.read(file.name, ["today"])["today"].refusal.line
+        1
+        """
         with open(path, "rb") as stream, read_from(path):
             return cls.parse(stream, labels)
 
     @classmethod
-    def parse(cls, text, labels=None):
+    def parse(cls, text: ReportInput, labels: Sequence[Hashable] | None = None) -> Sweep:
         """Returns the sweep in the output of mpsweep (str, bytes or an open file of bytes), with these labels (list, one per scenario), by default
         the numbers of the scenarios (int, from 1). Raises ReportError if it isn't a sweep, and ValueError for the wrong number of labels or a label
         that appears twice.
@@ -53,21 +78,42 @@ class Sweep(dict):
         found = list(scenarios_of(text))
         if labels is not None and len(labels) != len(found):
             raise ValueError(f"{len(labels)} labels for {len(found)} scenarios")
-        for label in labels or ():
-            if labels.count(label) > 1:
+        every = list(labels or ())
+        for label in every:
+            if every.count(label) > 1:
                 raise ValueError(f"the label {label!r} appears twice")
         return cls((it, scenario._replace(label=it)) for it, scenario in zip(labels or range(1, len(found) + 1), found))
 
-    def reports(self):
-        """Returns the reports of the scenarios that weren't refused: a dict of Report by label."""
+    def reports(self) -> dict[Hashable, Report]:
+        """Returns the reports of the scenarios that weren't refused: a dict of Report by label.
+
+        >>> import mpsim
+        >>> sweep = mpsim.sweep([("door", 0)], {"now": "model 1\\nsource door\\n", "bad": "model 3\\n"})
+        >>> sweep.reports()
+        {'now': <Report of 1 jobs, 1 nodes, span 0>}
+        """
         return {label: it.report for label, it in self.items() if it.report is not None}
 
-    def curve(self, node, figure):
+    def curve(self, node: str, figure: str) -> list[tuple[Hashable, int | float | None]]:
         """Returns pairs of a label and a node's figure: a field of its line (str, such as "p90" or "in") or a property of Node (such as "mean_wait").
-        Refused scenarios are left out. Raises KeyError for an unknown node, AttributeError for an unknown figure."""
+        Refused scenarios are left out. Raises KeyError for an unknown node, AttributeError for an unknown figure.
+
+        >>> import mpsim
+        >>> models = mpsim.variants("model 1\\nsource door\\nserver desk ={talk} from door\\n", talk=[4, 6])
+        >>> mpsim.sweep([("door", 0), ("door", 1)], models).curve("desk", "mean_wait")
+        [(4, 1.5), (6, 2.5)]
+        """
         return [(label, it[node].figure(figure)) for label, it in self.reports().items()]
 
-    def save(self, path, title=None, **options):
+    def save(
+        self,
+        path: Path,
+        title: str | None = None,
+        *,
+        tick: float | Fraction | None = None,
+        start: datetime | None = None,
+        within: int | None = None,
+    ) -> None:
         """Writes a page that compares the scenarios that weren't refused: a curve of each figure over their labels, and a table of differences.
         Everything else is as for a report (`Report.save`). Raises ValueError if all were refused.
 
@@ -79,12 +125,12 @@ class Sweep(dict):
         ...     os.listdir(folder)
         ['places.html']
         """
-        from .page import save
+        from ..page import save
 
         reports = self.reports()
-        save(path, reports.values(), reports, title, **options)
+        save(path, reports.values(), reports, title, tick, start, within)
 
-    def to_pandas(self):
+    def to_pandas(self) -> pandas.DataFrame:
         """Returns a data frame with a row per scenario and node, indexed by both. Raises ImportError if pandas is missing."""
         import pandas
 
@@ -92,7 +138,7 @@ class Sweep(dict):
         return pandas.concat(frames, names=["scenario", "name"]) if frames else pandas.DataFrame()
 
 
-def load(path, labels=None):
+def load(path: Path, labels: Sequence[Hashable] | None = None) -> Report | Sweep:
     """Returns the content of a file: a report (Report) of mpsim or mpedit, or a sweep (Sweep) of mpsweep, which takes labels. Raises what
     `Report.read` and `Sweep.read` do.
 
@@ -107,7 +153,7 @@ def load(path, labels=None):
         return Sweep.parse(stream, labels) if head and HEAD.startswith(head) else Report.parse(stream)
 
 
-def scenarios_of(text, labels=None, inputs=None):
+def scenarios_of(text: ReportInput, labels: Sequence[Hashable] | None = None, inputs: Sequence[Input] | None = None) -> Iterator[Scenario]:
     """Yields each scenario in the output of mpsweep as it is read. Labels, if given, must cover all of them; inputs are those among the program's
     arguments, the trace first."""
     stream = stream_of(text)

@@ -1,11 +1,21 @@
 """Makes a table of what a group of agents did per interval of the day."""
 
+from __future__ import annotations
+
 from bisect import bisect_right
+from typing import TYPE_CHECKING
 
 from ..limits import FOREVER
 from ..node_visits import percentile_of
 from ..times.intervals import label
 from ..times.texts import SECOND
+
+if TYPE_CHECKING:
+    from collections.abc import Iterator, Sequence
+
+    from ..agents.groups import Agent
+    from ..shapes import Row
+    from ..times.intervals import Day
 
 HEADS = "from", "queue", "offered", "answered", "abandoned", "within", "mean_wait", "p90", "agents", "occupancy"
 
@@ -14,7 +24,16 @@ class Table:
     """What a group did per interval of the day, over all days (list of Day): from the calls (sequences of queue, arrival, service, agent
     and wait, in ticks) and the agents (list of Agent)."""
 
-    def __init__(self, days, calls, agents, within):
+    cells: dict[tuple[int, str], list[tuple[int, int]]]
+    used: set[int]
+
+    def __init__(
+        self,
+        days: Sequence[Day],
+        calls: tuple[Sequence[str], Sequence[int], Sequence[int], Sequence[int], Sequence[int]],
+        agents: Sequence[Agent],
+        within: int,
+    ) -> None:
         self.days, self.within, self.count = days, within, len(days[0].begins) - 1
         self.begins = [tick for day in days for tick in day.begins[:-1]]
         self.there, self.worked, self.cells = [0] * self.count, [0] * self.count, {}
@@ -24,16 +43,16 @@ class Table:
         for agent in agents:
             for begin, until in agent.intervals:
                 self._spread(self.there, begin, min(until, end))
-        for queue, arrive, service, agent, wait in zip(*calls):
+        for queue, arrive, service, who, wait in zip(*calls):
             at = bisect_right(self.begins, arrive) - 1
             self.used.add(at)
-            self.cells.setdefault((at % self.count, queue), []).append((agent, wait))
-            if agent:
+            self.cells.setdefault((at % self.count, queue), []).append((who, wait))
+            if who:
                 begin, until = arrive + wait, arrive + wait + service
-                for first, last in agents[agent - 1].intervals:
+                for first, last in agents[who - 1].intervals:
                     self._spread(self.worked, max(begin, first), min(until, last, end))
 
-    def _spread(self, sums, begin, end):
+    def _spread(self, sums: list[int], begin: int, end: int) -> None:
         """Adds the ticks from `begin` to `end` to the intervals in which they are."""
         at = bisect_right(self.begins, begin) - 1
         while begin < end:
@@ -42,7 +61,7 @@ class Table:
             self.used.add(at)
             begin, at = until, at + 1
 
-    def rows(self, every, tick):
+    def rows(self, every: int, tick: int) -> Iterator[Row]:
         """Yields a row (list, as in HEADS) per interval with calls or agents, for the length of intervals and of a tick (int, nanoseconds): the time
         of day; the queue, "all" or its name; how many calls were offered, answered and abandoned; the share of all that was answered within `within`
         ticks; the mean wait and the 90th percentile of those answered, in seconds; the mean number of agents, over the days with an agent or a call
@@ -59,7 +78,7 @@ class Table:
                 if len(queues) > 1:
                     yield from ([label(number, every), queue, *self._figures(calls, tick), None, None] for queue, calls in mine.items() if calls)
 
-    def _figures(self, calls, tick):
+    def _figures(self, calls: Sequence[tuple[int, int]], tick: int) -> Row:
         waits = sorted(wait for agent, wait in calls if agent)
         share = round(bisect_right(waits, self.within) / len(calls), 4) if calls else None
         mean, p90 = (round(sum(waits) / len(waits) * tick / SECOND, 1), round(percentile_of(waits, 90) * tick / SECOND, 1)) if waits else (None, None)

@@ -1,12 +1,36 @@
 """Makes a table of pools with different numbers of agents."""
 
+from __future__ import annotations
+
+from typing import TYPE_CHECKING
+
 from ..agents.pools import pooled
 from .service import PERCENTS, figures, heads
 
+if TYPE_CHECKING:
+    from collections.abc import Iterable, Iterator, Sequence
 
-def staffing(queue, agents, within=(20,), percents=PERCENTS, by="trunk"):
+    from ..agents.queues import Queue
+    from ..shapes import Row
+
+
+def staffing(
+    queue: Queue, agents: Iterable[int], within: Sequence[int] = (20,), percents: Sequence[float] = PERCENTS, by: str = "trunk"
+) -> Iterator[Row]:
     """Yields the header and the rows (lists) of a table of pools at a Queue, a row per number of agents (iterable of int): the share of the span
-    during which they worked, and the `figures`."""
+    during which they worked, and the `figures`.
+
+    >>> from mpsim.agents.queues import Queue
+    >>> from mpsim.tables.pools import staffing
+    >>> from mpsim.traces import Trace
+    >>> trace = Trace("t.csv", ["source", "time", "talk"], [["door", "0", "9"], ["door", "1", "9"], ["door", "2", "4"]])
+    >>> queue = Queue("model 1\\nsource door\\nserver desk talk from door\\n", trace, "desk")
+    >>> for row in staffing(queue, [1, 2], percents=[90]):
+    ...     print(row)
+    ['agents', 'util', 'came', 'departed', 'lost', 'held', 'mean_wait', 'p90', 'max', 'within_20_of_all', 'within_20_of_departed']
+    [1, '1.0000', 3, 3, 0, 0, 8.0, 16, 16, 1.0, 1.0]
+    [2, '0.8461', 3, 3, 0, 0, 2.333, 7, 7, 1.0, 1.0]
+    """
     yield ["agents", "util", *heads(within, percents)]
     for count in agents:
         report = queue.run(count, by)

@@ -1,20 +1,29 @@
 """Reports the service level: how many were served, how soon, and how long the others waited."""
 
+from __future__ import annotations
+
 from bisect import bisect_right
+from typing import TYPE_CHECKING
 
 from ..node_visits import HELD, LOST, percentile_of
 from .visits import Passing
 
+if TYPE_CHECKING:
+    from collections.abc import Iterable, Iterator, Sequence
+
+    from ..node_visits import NodeVisits
+    from ..shapes import Row
+
 PERCENTS = 50, 90, 95, 99
 
 
-def heads(within=(20,), percents=PERCENTS):
+def heads(within: Sequence[int] = (20,), percents: Sequence[float] = PERCENTS) -> list[str]:
     """Returns the names (list of str) of what `figures` returns."""
     shares = [f"within_{item}_of_{whom}" for item in within for whom in ("all", "departed")]
     return ["came", "departed", "lost", "held", "mean_wait", *(f"p{percent:.15g}" for percent in percents), "max", *shares]
 
 
-def figures(waits, within=(20,), percents=PERCENTS):
+def figures(waits: Sequence[int], within: Sequence[int] = (20,), percents: Sequence[float] = PERCENTS) -> list[float | None]:
     """Returns the figures (list of int, float or None) of waits as in a NodeVisits, including lost and held visits.
 
     They are the numbers of visits that arrived, departed, were lost and are held; the mean wait of those that departed, to three decimals, their
@@ -27,19 +36,19 @@ def figures(waits, within=(20,), percents=PERCENTS):
     """
     departed = sorted(wait for wait in waits if wait >= 0)
     counts = [len(waits), len(departed), sum(wait == LOST for wait in waits), sum(wait == HELD for wait in waits)]
-    found = [percentile_of(departed, percent) for percent in percents] if departed else [None] * len(percents)
+    found: list[int | None] = [percentile_of(departed, percent) if departed else None for percent in percents]
     mean, greatest = (round(sum(departed) / len(departed), 3), departed[-1]) if departed else (None, None)
     shares = [round(bisect_right(departed, item) / count, 6) if count else None for item in within for count in (len(waits), len(departed))]
     return [*counts, mean, *found, greatest, *shares]
 
 
-def figures_of(visits, waits, within=(20,), percents=PERCENTS):
+def figures_of(visits: NodeVisits, waits: Sequence[int], within: Sequence[int] = (20,), percents: Sequence[float] = PERCENTS) -> list[float | None]:
     """Returns the `figures` of some waits among visits; of visits to a delay only the counts, since nobody waits there for a server."""
     found = figures(waits, within, percents)
     return [*found[:4], *[None] * (len(found) - 4)] if isinstance(visits, Passing) else found
 
 
-def service(visits, within=(20,), percents=PERCENTS):
+def service(visits: Iterable[NodeVisits], within: Sequence[int] = (20,), percents: Sequence[float] = PERCENTS) -> Iterator[Row]:
     """Yields the header and the rows (lists) of a table of visits (list of NodeVisits), a row each, with what `figures` returns.
 
     >>> import mpsim

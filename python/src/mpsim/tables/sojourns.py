@@ -1,11 +1,20 @@
 """Reports how long jobs were in the network, from the source where they arrived to the node where they left."""
 
+from __future__ import annotations
+
 from array import array
 from bisect import bisect_right
-from typing import NamedTuple
+from typing import TYPE_CHECKING, NamedTuple
 
+from ..agents.pools import visits_in
 from ..node_visits import HELD, percentile_of
 from .service import PERCENTS
+
+if TYPE_CHECKING:
+    from collections.abc import Iterator, Sequence
+
+    from ..report import Report
+    from ..shapes import Row
 
 
 class Sojourn(NamedTuple):
@@ -20,7 +29,7 @@ class Sojourn(NamedTuple):
     sojourn: int
 
 
-def sojourns(report):
+def sojourns(report: Report) -> Iterator[Sojourn]:
     """Yields the way (Sojourn) of each job of a report with visits, in the order of records. A forked job is done when its last part leaves; of
     several nodes left at that time, the last in the report counts. A job with a part that a join holds to the end has no sojourn and is left out.
 
@@ -36,10 +45,10 @@ def sojourns(report):
     count = report.jobs + 1
     came, source = array("q", [-1]) * count, array("b", [0]) * count
     end, where, lost = array("q", [-1]) * count, array("b", [0]) * count, bytearray(count)
-    held = set()
+    held, every = set(), visits_in(report)
     # Nodes are in the order of the network: a job visits later nodes later, and leaves at the last of its visits with the latest end.
     for number, node in enumerate(report.nodes):
-        visits = report.visits[node.name]
+        visits = every[node.name]
         if node.kind == "source":
             for job, arrive in zip(visits.job, visits.arrive):
                 came[job], source[job] = arrive, number
@@ -55,7 +64,7 @@ def sojourns(report):
             yield Sojourn(job, names[source[job]], came[job], names[where[job]], bool(lost[job]), end[job] - came[job])
 
 
-def table(report, by="both", within=(), percents=PERCENTS):
+def table(report: Report, by: str = "both", within: Sequence[int] = (), percents: Sequence[float] = PERCENTS) -> Iterator[Row]:
     """Yields the header and the rows (lists) of a table of a report with visits, in the order of its nodes. Rows are per source and node where jobs
     left (`by` "both"), per source ("source"), per node ("end"), or for all jobs ("all"). Each has the number of jobs, the mean of their sojourns to
     three decimals, percentiles and the longest, and the share of at most each of `within` ticks, to six decimals. Rows by node list lost jobs
@@ -71,21 +80,21 @@ def table(report, by="both", within=(), percents=PERCENTS):
     """
     is_by_source, is_by_end = by in ("both", "source"), by in ("both", "end")
     rank = {it.name: at for at, it in enumerate(report.nodes)}
-    found = {}
+    found: dict[tuple[int, int, bool], array[int]] = {}
     for sojourn in sojourns(report):
         key = (rank[sojourn.source] if is_by_source else -1, rank[sojourn.left_at] if is_by_end else -1, sojourn.lost and is_by_end)
         found.setdefault(key, array("q")).append(sojourn.sojourn)
     heads = ["source"] * is_by_source + ["left_at", "how"] * is_by_end
     yield [*heads, "jobs", "mean_sojourn", *(f"p{percent:.15g}" for percent in percents), "max", *(f"within_{item}" for item in within)]
     names = [node.name for node in report.nodes]
-    for (source, end, is_lost), times in sorted(found.items()):
-        times = sorted(times)
+    for (source, end, is_lost), every in sorted(found.items()):
+        times = sorted(every)
         shown = [names[source]] * is_by_source + [names[end], "lost" if is_lost else "left"] * is_by_end
         shares = [round(bisect_right(times, item) / len(times), 6) for item in within]
         yield [*shown, len(times), round(sum(times) / len(times), 3), *(percentile_of(times, percent) for percent in percents), times[-1], *shares]
 
 
-def each(report):
+def each(report: Report) -> Iterator[Row]:
     """Yields the header and the rows (lists) of a table with a row per job."""
     yield ["job", "source", "came", "left_at", "how", "sojourn"]
     for sojourn in sojourns(report):

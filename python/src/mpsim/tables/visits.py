@@ -1,8 +1,17 @@
 """Finds the visits to nodes and pools of a report."""
 
+from __future__ import annotations
+
+from typing import TYPE_CHECKING
+
 from ..agents.pools import names_of, pooled, pools, queue_name, visits_at
 from ..lines import PASSED
 from ..node_visits import NodeVisits
+
+if TYPE_CHECKING:
+    from collections.abc import Collection, Iterable
+
+    from ..report import Report
 
 
 class Passing(NodeVisits):
@@ -11,7 +20,7 @@ class Passing(NodeVisits):
     __slots__ = ()
 
 
-def _of_delays(report, found):
+def _of_delays(report: Report, found: list[NodeVisits]) -> list[NodeVisits]:
     """Returns visits (list of NodeVisits) with those to delays as Passing."""
     for at, visits in enumerate(found):
         if visits.node in report and report[visits.node].kind == "delay":
@@ -20,7 +29,7 @@ def _of_delays(report, found):
     return found
 
 
-def places_of(report, nodes=()):
+def places_of(report: Report, nodes: Collection[str] = ()) -> list[str]:
     """Returns the names (list of str) of these nodes and pools of a report, by default of all where jobs may stay, with each pool in place of its
     queue and its trunk group. Raises ValueError for an unknown name."""
     known = pools(report)
@@ -34,7 +43,7 @@ def places_of(report, nodes=()):
     return [queues.get(name, name) for name in nodes]
 
 
-def visits_to(report, names):
+def visits_to(report: Report, names: Iterable[str]) -> list[NodeVisits]:
     """Returns the visits (list of NodeVisits) to these nodes and pools of a report with visits, those to delays as Passing."""
     known = pools(report)
     return [it for name in names for it in ([pooled(report, name)] if name in known else _of_delays(report, visits_at(report, [name])))]

@@ -1,15 +1,21 @@
 """Converts between ticks and the days and hours of a calendar."""
 
+from __future__ import annotations
+
 import re
+from typing import TYPE_CHECKING
 
 from .texts import DAY, HOUR, MINUTE, SECOND, UNITS, WEEKDAYS, given, iso, length, moment
 from .zones import Zone
+
+if TYPE_CHECKING:
+    from collections.abc import Iterable, Iterator, Sequence
 
 # The most days in a table, about a hundred years. A longer span means that the times aren't ticks.
 DAYS = 36525
 
 
-def tick_of(text):
+def tick_of(text: str) -> int:
     """Returns the nanoseconds of a tick. Raises ValueError for an invalid text."""
     nanos = length(text)
     if nanos < 1:
@@ -17,13 +23,13 @@ def tick_of(text):
     return nanos
 
 
-def length_text(nanos):
+def length_text(nanos: int) -> str:
     """Returns a length of time in the form that `length` reads."""
     per, unit = next((per, unit) for per, unit in ((SECOND, "s"), (10**6, "ms"), (1000, "us"), (1, "ns")) if nanos % per == 0)
     return f"{nanos // per}{unit}"
 
 
-def first_lines(tick, start, zone, columns, sources, more=()):
+def first_lines(tick: int, start: str | None, zone: str | None, columns: Sequence[str], sources: Iterable[str], more: Iterable[str] = ()) -> str:
     """Returns the first lines of a model: the tick (int, nanoseconds), time 0 (ISO 8601 text or None), its zone (str or None), the columns of the
     trace after `time`, `more` comments, and the sources (lists of str). `settings_in` reads them back.
 
@@ -37,7 +43,7 @@ def first_lines(tick, start, zone, columns, sources, more=()):
     return "".join(f"{line}\n" for line in [*lines, *(f"source {source}" for source in sources)])
 
 
-def _settings(tick, start, zone):
+def _settings(tick: int, start: str | None, zone: str | None) -> str:
     at = f", time 0 is {start}" + (f" in {zone}" if zone else "") if start else ""
     return f"# a tick is {length_text(tick)}{at}"
 
@@ -45,13 +51,13 @@ def _settings(tick, start, zone):
 _SETTINGS = rf"# a tick is (\d+(?:{'|'.join(UNITS)}))(?:, time 0 is (\S+)(?: in (\S+))?)?"
 
 
-def settings_in(text):
+def settings_in(text: str) -> tuple[int | None, str | None, str | None]:
     """Returns what the first lines of a model say: the tick in nanoseconds, time 0 as an ISO 8601 text, and the zone; each None if missing."""
     found = re.search(rf"^{_SETTINGS}\r?$", text, re.M)
     return (tick_of(found[1]), found[2], found[3]) if found else (None, None, None)
 
 
-def with_settings(text, tick, start, zone):
+def with_settings(text: str, tick: int, start: str | None, zone: str | None) -> str:
     """Returns a model's text with these settings in its first lines.
 
     >>> with_settings("model 1\\nsource door\\n", 1000000000, None, None)
@@ -60,7 +66,7 @@ def with_settings(text, tick, start, zone):
     return with_line(text, _SETTINGS, _settings(tick, start, zone))
 
 
-def with_line(text, pattern, line):
+def with_line(text: str, pattern: str, line: str) -> str:
     """Returns a model's text with the first line that matches a pattern replaced by a comment. If no line matches, the comment goes after the version
     line and the comments that follow it."""
     lines = text.split("\n")
@@ -76,9 +82,15 @@ def with_line(text, pattern, line):
 
 class Calendar:
     """The day and hour of each tick. `tick` (int) is in nanoseconds, `start` an ISO 8601 text, `zone` a name. Without a start, time 0 is a midnight.
-    Days change at midnight of the zone. Raises ValueError for an invalid value, and for a zone without a start."""
+    Days change at midnight of the zone. Raises ValueError for an invalid value, and for a zone without a start.
 
-    def __init__(self, tick, start=None, zone=None):
+    >>> from mpsim.times.calendar import Calendar
+    >>> days = Calendar(10**9, "2026-03-28T00:00:00+01:00", "Europe/Berlin")
+    >>> days.parts("day", 200000)
+    ([0, 86400, 169200], ['2026-03-28', '2026-03-29', '2026-03-30'])
+    """
+
+    def __init__(self, tick: int | None, start: str | None = None, zone: str | None = None) -> None:
         if tick is None:
             raise ValueError("the length of a tick is unknown; a model whose first lines `mpplan prepare` wrote gives it")
         self.tick, self.place, self.is_dated = tick, Zone(zone), start is not None
@@ -88,15 +100,15 @@ class Calendar:
         # With an offset but no zone there are no clock changes: moments are wall-clock times.
         self.begin = wall - offset if offset is not None and zone else wall if offset is not None or not zone else self.place.first(wall)
 
-    def wall(self, tick):
+    def wall(self, tick: int) -> int:
         """Returns the wall-clock time of a tick, in nanoseconds since 1970."""
         return self.place.wall(self.begin + tick * self.tick)
 
-    def tick_at(self, value):
+    def tick_at(self, value: int) -> int:
         """Returns the first tick at or after a moment."""
         return -((self.begin - value) // self.tick)
 
-    def midnights(self, last):
+    def midnights(self, last: int) -> Iterator[tuple[int, int, int]]:
         """Yields each day from that of tick 0 to that of tick `last`: its number, the moment at which it begins, and the moment at which the next
         begins."""
         day = self.wall(0) // DAY
@@ -107,23 +119,24 @@ class Calendar:
             yield day, begin, end
             day += 1
 
-    def name(self, day):
+    def name(self, day: int) -> str:
         """Returns the date of a day by its number; without dates, its count from time 0."""
         return str(moment(day * DAY).date()) if self.is_dated else f"day {day + 1}"
 
-    def parts(self, by, last):
+    def parts(self, by: str, last: int) -> tuple[list[int], list[str]]:
         """Returns the ticks at which parts begin, in rising order, and the names of the parts, up to tick `last`. `by` is "day", "each" (every hour
         of every day), or "weekday" or "hour" (of day), whose names repeat. Raises ValueError for weekdays without a date."""
         if by == "weekday" and not self.is_dated:
             raise ValueError("weekdays need the date of time 0: give --start")
-        begins, names = [], []
+        begins: list[int] = []
+        names: list[str] = []
         for day, begin, end in self.midnights(last):
             values = [begin] if by in ("day", "weekday") else list(self._hours(begin, end))
             begins += map(self.tick_at, values)
             names += {"day": [self.name(day)], "weekday": [WEEKDAYS[moment(day * DAY).weekday()]]}.get(by) or self._named(day, values, by)
         return begins, names
 
-    def _named(self, day, values, by):
+    def _named(self, day: int, values: Sequence[int], by: str) -> list[str]:
         """Returns the names of the hours of a day that begin at these moments (list). Unless `by` is "hour", two hours of the same name get their
         offsets from UTC."""
         hours = [f"{self.place.wall(value) % DAY // HOUR:02}:00" for value in values]
@@ -131,7 +144,7 @@ class Calendar:
             return hours
         return [f"{self.name(day)} {hour}" + (self.place.offset(it) if hours.count(hour) > 1 else "") for hour, it in zip(hours, values)]
 
-    def _hours(self, begin, end):
+    def _hours(self, begin: int, end: int) -> Iterator[int]:
         """Yields the moments within a day at which an hour of the clock begins. An hour that occurs twice, even in part, begins twice: some clocks
         change by half an hour."""
         last = None
@@ -142,7 +155,7 @@ class Calendar:
             last = wall
 
 
-def days_until(days, last):
+def days_until(days: Calendar, last: int) -> int:
     """Returns the number of days (int) from time 0 to the last time (int, ticks). Raises ValueError for an implausible number."""
     count = last * days.tick // DAY
     if count > DAYS:

@@ -1,11 +1,17 @@
 """The formats of times: detects them where possible, and recognises times among numbers that are read as ticks."""
 
+from __future__ import annotations
+
 import re
 from datetime import datetime, timezone
+from typing import TYPE_CHECKING
 
 from ..wording import quoted
 from . import months
 from .texts import CLOCK, ISO_DAY, ISO_REST, RFC_DAY, RFC_REST
+
+if TYPE_CHECKING:
+    from collections.abc import Iterable, Sequence
 
 # Plain numbers don't show what they mean.
 NUMBERS = "ticks", "unix", "unixms", "hmm", "hmmss", "excel"
@@ -39,13 +45,13 @@ _DATES = {
 }
 
 
-def _matches(pattern, texts):
+def _matches(pattern: str, texts: Sequence[str]) -> list[re.Match[str]]:
     """Returns the matches of a pattern if at least nine in ten texts match, else an empty list."""
     found = [text for text in map(re.compile(pattern, re.ASCII).fullmatch, texts) if text]
     return found if 10 * len(found) >= 9 * len(texts) else []
 
 
-def found_format(texts):
+def found_format(texts: Sequence[str]) -> str:
     """Returns the format of texts of times: a name from NAMES or a strptime format. Raises ValueError if it can't be detected.
 
     >>> found_format(["02.03.2026 08:00:17", "02.03.2026 08:00:05"])
@@ -79,22 +85,22 @@ def found_format(texts):
     raise ValueError(f"the format of {quoted(texts[0])} can't be detected")
 
 
-def _found_date(texts, mark, rest, clock):
+def _found_date(texts: Sequence[str], mark: str, rest: str, clock: str) -> str:
     """Returns the format of dates with this separator, followed by this pattern, whose format is `clock`."""
     two, four = rf"(\d{{1,2}}){re.escape(mark)}(\d{{1,2}}){re.escape(mark)}", r"(\d{4})"
     if _matches(rf"\d{{4}}{re.escape(mark)}\d{{1,2}}{re.escape(mark)}\d{{1,2}}{rest}", texts):
         return f"%Y{mark}%m{mark}%d{clock}"
     if not (found := _matches(two + four + rest, texts)):
         short = _matches(rf"{two}(\d\d){rest}", texts)
-        like = " or ".join(map(repr, _orders(short, mark, "%y", clock) if short else [f"%d{mark}%m{mark}%y{clock}"]))
-        raise ValueError(f"{quoted(texts[0])} has a two-digit year: the format may be {like}")
+        like = _orders(short, mark, "%y", clock) if short else [f"%d{mark}%m{mark}%y{clock}"]
+        raise ValueError(f"{quoted(texts[0])} has a two-digit year: the format may be {' or '.join(map(repr, like))}")
     like = _orders(found, mark, "%Y", clock)
     if len(like) == 1:
         return like[0]
     raise ValueError(f"{quoted(texts[0])} could begin with the day or with the month: the format is {' or '.join(map(repr, like))}")
 
 
-def _orders(found, mark, year, clock):
+def _orders(found: Sequence[re.Match[str]], mark: str, year: str, clock: str) -> list[str]:
     """Returns the formats (list of str) that dates may have whose first two numbers were found: with the day first, the month first, or, if both are
     above 12 and the year has two digits, the year."""
     day, month = f"%d{mark}%m{mark}{year}{clock}", f"%m{mark}%d{mark}{year}{clock}"
@@ -108,7 +114,7 @@ def _orders(found, mark, year, clock):
     return [day, month]
 
 
-def judged_format(form):
+def judged_format(form: str) -> str:
     """Returns a format that was given. Raises ValueError if it is invalid, or has a day but no year."""
     if form in NAMES:
         return form
@@ -125,12 +131,12 @@ def judged_format(form):
     return form
 
 
-def is_of_day(form):
+def is_of_day(form: str) -> bool:
     """Returns whether a format contains only a time of day."""
     return form in ("clock", "gtfs", "hmm", "hmmss") or "%" in form and not re.search("%[YyjdcxGDF]", form)
 
 
-def looks_like_clocks(values):
+def looks_like_clocks(values: Iterable[int]) -> str | None:
     """Returns what whole numbers that are to be ticks look like (str), or None: their values stay within what a calendar or a clock shows.
 
     >>> looks_like_clocks([20260302080017, 20260302080018])

@@ -1,11 +1,17 @@
 """Reads columns of lengths of time: numbers in a unit, with either decimal mark, and h:mm:ss."""
 
+from __future__ import annotations
+
 import re
 from fractions import Fraction
+from typing import TYPE_CHECKING
 
 from ..limits import GREATEST_VALUE
 from ..wording import quoted
 from .texts import DAY, HOUR, MINUTE, SECOND, UNITS, Asks, Cache, Unread, excel, there
+
+if TYPE_CHECKING:
+    from collections.abc import Iterable
 
 _AMOUNT = r"(\d{1,15}(?:[.,]\d{1,15})?)"
 _ISO = re.compile(rf"P(?:{_AMOUNT}W)?(?:{_AMOUNT}D)?(?:T(?:{_AMOUNT}H)?(?:{_AMOUNT}M)?(?:{_AMOUNT}S)?)?", re.ASCII)
@@ -26,7 +32,7 @@ SPAN = re.compile(r"(\d+):(\d\d)(?::(\d\d)(?:[.,](\d{1,9}))?)?", re.ASCII)
 _GAPS = "\\s\u00a0\u202f'\u2019"
 
 
-def found_decimal(texts):
+def found_decimal(texts: Iterable[str]) -> str | None:
     """Returns the decimal mark of numbers as text, "." or ","; None if none of them has a mark. Raises ValueError if it can't be detected.
 
     >>> found_decimal(["3,5", "1.210,0"])
@@ -59,10 +65,12 @@ _POWER = re.compile(r"\d(?:[.,]\d{1,15})?[Ee]\+\d{1,2}", re.ASCII)
 _RATE = re.compile(r"(bits|bytes)@(\d{1,6}(?:\.\d{1,3})?)([kMGT]?)bps", re.ASCII)
 
 
-def _bits_per_second(unit):
+def _bits_per_second(unit: str) -> tuple[int, Fraction] | None:
     """Returns how many bits there are in a piece of data of a unit such as bytes@10Gbps, and how many are sent per second; None for another unit."""
     found = _RATE.fullmatch(unit)
-    rate = found and Fraction(found[2]) * 1000 ** " kMGT".index(found[3] or " ")
+    if not found:
+        return None
+    rate = Fraction(found[2]) * 1000 ** " kMGT".index(found[3] or " ")
     return (8 if found[1] == "bytes" else 1, rate) if rate else None
 
 
@@ -74,7 +82,7 @@ class Lengths:
 
     NAMES = *UNITS, "ticks", "h:mm", "m:ss", "h:mm:ss", "excel"
 
-    def __init__(self, unit, decimal, tick):
+    def __init__(self, unit: str, decimal: str | None, tick: int) -> None:
         rate = _bits_per_second(unit)
         if unit not in self.NAMES and not rate:
             raise ValueError(f"unknown unit {unit!r}: it is one of {', '.join(self.NAMES)}, or data at a rate such as bytes@10Gbps")
@@ -85,11 +93,11 @@ class Lengths:
         if rate:
             self.per, self.parts = (rate[0] * SECOND / rate[1]).as_integer_ratio()
         # Thousands come in groups of three, so that a decimal point can't be mistaken for a separator.
-        gaps = _GAPS + {".": ",", ",": "."}.get(decimal, "")
+        gaps = _GAPS + {".": ",", ",": "."}.get(decimal or "", "")
         self._number = re.compile(rf"([0-9]+|[0-9]{{1,3}}(?:[{gaps}][0-9]{{3}})+)(?:{re.escape(decimal or '.')}([0-9]+))?")
         self.ticks = Cache(self._work)
 
-    def _work(self, text):
+    def _work(self, text: str) -> int:
         length, tick = self.length(text)
         ticks, left = divmod(length, tick)
         ticks += 2 * left >= tick
@@ -98,15 +106,15 @@ class Lengths:
         self.rounded += left > 0
         return ticks
 
-    def length(self, text):
+    def length(self, text: str) -> tuple[int, int]:
         """Returns a length and a tick (int), both in a fraction of a nanosecond in which they are whole. Raises Unread and Asks."""
         text = there(text)
         if text[0] in "-\u2212" or text[-1] in "-\u2212":
             raise Unread("below 0")
         if not text[0].isdigit() or not text[-1].isdigit() or "day" in text:
-            if (found := duration(text)) is not None:
-                return found.numerator, found.denominator * self.tick
-        if found := _POWER.fullmatch(text):
+            if (given := duration(text)) is not None:
+                return given.numerator, given.denominator * self.tick
+        if _POWER.fullmatch(text):
             value = Fraction(text.replace(",", ".")) * self.per / self.parts
             return value.numerator, value.denominator * self.tick
         if ":" in text or self.unit == "h:mm:ss":
@@ -121,7 +129,7 @@ class Lengths:
         rest = found[2] or ""
         return int(re.sub(r"\D", "", found[1]) + rest) * self.per, 10 ** len(rest) * self.tick * self.parts
 
-    def _of_span(self, text):
+    def _of_span(self, text: str) -> tuple[int, int]:
         found = SPAN.fullmatch(text)
         if not found or int(found[2]) > 59 or int(found[3] or 0) > 59:
             raise Unread("not h:mm:ss")
@@ -132,21 +140,21 @@ class Lengths:
         return whole + int((found[4] or "0").ljust(9, "0")), self.tick
 
 
-def duration(text):
+def duration(text: str) -> Fraction | None:
     """Returns the nanoseconds (Fraction) of a text with units, or None if it isn't one.
 
     >>> [int(duration(text) / SECOND) for text in ("PT3M20S", "3m 20s", "200 s", "0 days 00:03:20", "1 h, 5 min")]
     [200, 200, 200, 200, 3900]
     """
-    if found := _DAYS.fullmatch(text):
-        parts = zip(found.groups(), (DAY, HOUR, MINUTE, SECOND))
-        return sum(_number(amount) * unit for amount, unit in parts)
-    found, units = _ISO.fullmatch(text), (7 * DAY, DAY, HOUR, MINUTE, SECOND)
+    units = [DAY, HOUR, MINUTE, SECOND]
+    found = _DAYS.fullmatch(text)
+    if not found:
+        found, units = _ISO.fullmatch(text), [7 * DAY, *units]
     if not found:
         found, units = _NAMED.fullmatch(text), [unit for _, unit in _UNITS]
     parts = [_number(amount) * unit for amount, unit in zip(found.groups(), units) if amount] if found else []
-    return sum(parts) if parts else None
+    return sum(parts, Fraction(0)) if parts else None
 
 
-def _number(text):
+def _number(text: str) -> Fraction:
     return Fraction(text.replace(",", "."))

@@ -1,29 +1,41 @@
 """Reads columns of times in one format, fast enough for a million rows."""
 
+from __future__ import annotations
+
 import re
 from datetime import datetime
+from functools import partial
 from operator import add, methodcaller
+from typing import TYPE_CHECKING
 
 from . import months
 from .formats import is_of_day
 from .texts import DAY, HOUR, SECOND, SPREADSHEET, Asks, Cache, Unread, at_utc, clock, excel, gtfs, hmm, hmmss
 from .texts import iso_day, iso_rest, nanos, rfc_day, rfc_rest, there
 
+if TYPE_CHECKING:
+    from collections.abc import Callable, Sequence
+    from typing import Optional, Tuple
+
+    from .zones import Zone
+
+    Parts = Tuple[Callable[[str], Sequence[str]], Callable[[str], int], Callable[[str], Tuple[int, Optional[int]]]]
+
 _MIDNIGHT = nanos(datetime(1900, 1, 1))
 # Formats that clock() reads like strptime, in a twelfth of the time.
 _PLAIN_CLOCKS = "%H:%M", "%H:%M:%S", "%H:%M:%S.%f", "%I:%M %p", "%I:%M:%S %p"
 
 
-def _width_of(form):
+def _width_of(form: str) -> int | None:
     """Returns the number of digits of a purely numeric format such as %H%M, None for another. strptime accepts fewer: it would read 135 as 13:05."""
     return sum({"Y": 4, "j": 3}.get(item, 2) for item in form[1::2]) if re.fullmatch("(?:%[YyjmdHIMS]){2,}", form) else None
 
 
-def _read_as(form):
+def _read_as(form: str) -> Callable[[str], datetime]:
     """Returns a function that reads a text in a strptime format as a datetime."""
     width = _width_of(form)
 
-    def read(text):
+    def read(text: str) -> datetime:
         try:
             if width in (None, len(text)):
                 return datetime.strptime(text, form)
@@ -34,41 +46,46 @@ def _read_as(form):
     return read
 
 
-def _day_as(form):
+def _day_as(form: str) -> Callable[[str], int]:
     read = _read_as(form)
     return lambda text: nanos(read(text))
 
 
-def _half_day(text):
+def _half_day(text: str) -> int:
     """Returns the nanoseconds since midnight of a time with AM or PM, such as `1:30 pm`. Raises Unread."""
     if not re.search("[AaPp]\\.?\\s?[Mm]", text):
         raise Unread("a time without AM or PM")
     return clock(text)
 
 
-def _clock_as(form):
+def _clock_as(form: str) -> Callable[[str], tuple[int, int | None]]:
     as_given = _read_as(form)
     read = (_half_day if "%p" in form else clock) if form in _PLAIN_CLOCKS else lambda text: nanos(as_given(text)) - _MIDNIGHT
     return lambda text: (read(text), None)
 
 
-def _iso_parts(text):
+def _since_midnight(read: Callable[[str], tuple[int, int | None]]) -> Callable[[str], int]:
+    """Returns a function that reads a time of day without its offset."""
+    return lambda text: read(text)[0]
+
+
+def _iso_parts(text: str) -> tuple[str, str]:
     text = text.strip()
     at = 10 if text[4:5] == "-" else 8
     return text[:at], text[at:]
 
 
-def _rfc_parts(text):
+def _rfc_parts(text: str) -> tuple[str, str]:
     at = max(text.find(":") - 2, 0)
     return text[:at], text[at:]
 
 
-def _packed_parts(text):
+def _packed_parts(text: str) -> tuple[str, str]:
     text = text.strip()
     return text[:8], text[8:]
 
 
-def _parts_of(form):
+def _parts_of(form: str) -> Parts | None:
     """Returns how to split a text into a day and the rest, and how to read each; None if it can't be split. Both parts repeat often, so they are
     cached. Splitting may give fewer than two parts."""
     if form == "iso":
@@ -93,16 +110,22 @@ class Moments:
     the format ticks it is a number of ticks. It raises Unread for an invalid text, and Asks. `has_offsets` and `has_none` record what was met;
     for the format clock, `halves` has True for times with AM or PM and False for times that may lack it."""
 
-    def __init__(self, form, zone):
+    halves: set[bool]
+    _seen: dict[str, tuple[int, bool]]
+    of: Callable[..., int]
+    dates: Cache[str, int]
+
+    def __init__(self, form: str, zone: Zone) -> None:
         self.form, self.zone, self.is_of_day = form, zone, is_of_day(form)
         self.has_offsets, self.has_none, self.halves = form in ("unix", "unixms"), False, set()
-        self._unit = {"ticks": 1, "unix": SECOND, "unixms": SECOND // 1000}.get(form)
+        self._unit = {"ticks": 1, "unix": SECOND, "unixms": SECOND // 1000}.get(form, 0)
         self._seen, self._parts = {}, _parts_of(form)
         if self._parts:
-            self._walls, self._rests = Cache(self._parts[1]), Cache(self._met)
-            self._caches = [
-                (Cache(self._begin_of), Cache(lambda rest: self._rest_of(rest, False))),
-                (self._walls, Cache(lambda rest: self._rest_of(rest, True))),
+            self._split, self._read_day, self._read_rest = self._parts
+            self._walls, self._rests = Cache(self._read_day), Cache(self._met)
+            self._caches: list[tuple[Cache[str, int], Cache[str, int]]] = [
+                (Cache(self._begin_of), Cache(partial(self._rest_of, has_offset=False))),
+                (self._walls, Cache(partial(self._rest_of, has_offset=True))),
             ]
         self.dates = Cache(self._date)
         if self._unit:
@@ -114,15 +137,15 @@ class Moments:
         else:
             self.of = self._of_parts if self._parts else self._of_whole
 
-    def make_of_day(self):
+    def make_of_day(self) -> None:
         """Reads spreadsheet numbers as fractions of a day, for times whose day is in another column."""
         self.is_of_day = True
         named = {"clock": self._clock, "gtfs": gtfs, "hmm": hmm, "hmmss": hmmss, "excel": self._part_of_day}
-        read = (lambda text: (named[self.form](text), None)) if self.form in named else _clock_as(self.form)
-        cache = Cache(lambda text: read(there(text))[0])
+        read = named[self.form] if self.form in named else _since_midnight(_clock_as(self.form))
+        cache: Cache[str, int] = Cache(lambda text: read(there(text)))
         self.of = lambda text, than=None, until=None: cache[text]
 
-    def is_one(self, text):
+    def is_one(self, text: str) -> bool:
         """Returns whether a text has the format."""
         try:
             self.of(text)
@@ -130,19 +153,19 @@ class Moments:
         except (ValueError, OverflowError):
             return False
 
-    def _clock(self, text):
+    def _clock(self, text: str) -> int:
         value, has_half = clock(text), text[-1] in "mM."
         if has_half or HOUR <= value < 13 * HOUR:
             self.halves.add(has_half)
         return value
 
-    def _part_of_day(self, text):
+    def _part_of_day(self, text: str) -> int:
         value = excel(text)
         if value >= DAY:
             raise Unread("not a fraction of a day")
         return value
 
-    def _of_number(self, text, than=None, until=None):
+    def _of_number(self, text: str, than: int | None = None, until: int | None = None) -> int:
         text = there(text)
         if text.isdigit() and text.isascii():
             return int(text) * self._unit
@@ -151,53 +174,54 @@ class Moments:
         whole, _, rest = text.partition(".")
         if self.form == "ticks" or not (whole.isdigit() and rest.isdigit() and text.isascii()):
             raise Unread("not a whole number" if self.form == "ticks" else "not a number")
-        return int(whole) * self._unit + int(rest) * self._unit // 10 ** len(rest)
+        parts: int = 10 ** len(rest)
+        return int(whole) * self._unit + int(rest) * self._unit // parts
 
-    def _of_spreadsheet(self, text, than=None, until=None):
+    def _of_spreadsheet(self, text: str, than: int | None = None, until: int | None = None) -> int:
         self.has_none = True
         return self.zone.utc(excel(there(text)) + SPREADSHEET, self._seen, than, until)
 
-    def _met(self, rest):
+    def _met(self, rest: str) -> tuple[int, int | None]:
         """Reads what follows the day, and records whether it has an offset."""
-        since, offset = self._parts[2](rest)
+        since, offset = self._read_rest(rest)
         self.has_none |= offset is None
         self.has_offsets |= offset is not None
         return since, offset
 
-    def _of_parts(self, text, than=None, until=None):
+    def _of_parts(self, text: str, than: int | None = None, until: int | None = None) -> int:
         text = there(text)
         try:
-            day, rest = self._parts[0](text)
+            day, rest = self._split(text)
         except ValueError:
             raise Unread(f"not of the format {self.form}") from None
         since, offset = self._rests[rest]
         return self.zone.utc(self._walls[day] + since, self._seen, than, until) if offset is None else self._walls[day] + since - offset
 
-    def many(self, texts):
+    def many(self, texts: Sequence[str]) -> list[int]:
         """Returns the moments (list of int) of texts that need no individual treatment; raises Unread if one may. Each text takes two cache look-ups
         and a sum."""
-        parts = list(map(self._parts[0], texts)) if self._parts and not self.is_of_day else []
+        parts = list(map(self._split, texts)) if self._parts and not self.is_of_day else []
         if set(map(len, parts)) != {2}:
             raise Unread("one by one")
         days, rests = zip(*parts)
         days_of, rest_of = self._caches[self._rests[rests[0]][1] is not None]
         return list(map(add, map(days_of.__getitem__, days), map(rest_of.__getitem__, rests)))
 
-    def _begin_of(self, day):
+    def _begin_of(self, day: str) -> int:
         """Returns the moment at which a day begins; raises Unread if clocks change on it."""
         begin = self.zone.whole_day(self._walls[day])
         if begin is None:
             raise Unread("one by one")
         return begin
 
-    def _rest_of(self, rest, has_offset):
+    def _rest_of(self, rest: str, has_offset: bool) -> int:
         """Returns what to add to the midnight of a day; raises Unread if only some texts have an offset."""
         since, offset = self._rests[rest]
         if (offset is not None) != has_offset:
             raise Unread("one by one")
         return since - (offset or 0)
 
-    def _of_whole(self, text, than=None, until=None):
+    def _of_whole(self, text: str, than: int | None = None, until: int | None = None) -> int:
         found = _read_as(self.form)(there(text))
         if found.tzinfo is not None:
             self.has_offsets = True
@@ -205,7 +229,7 @@ class Moments:
         self.has_none = True
         return self.zone.utc(nanos(found), self._seen, than, until)
 
-    def _date(self, text):
+    def _date(self, text: str) -> int:
         """Returns the wall-clock midnight of a date."""
         text = there(text)
         if self.form == "excel":
@@ -213,8 +237,8 @@ class Moments:
         elif self.is_of_day or self._unit:
             raise Asks(f"the format {self.form} has no day: give another --date-format")
         elif self._parts:
-            day, *rest = self._parts[0](text)
-            value = self._parts[1](day) + sum(self._parts[2](item)[0] for item in rest)
+            day, *rest = self._split(text)
+            value = self._read_day(day) + sum(self._read_rest(item)[0] for item in rest)
         else:
             value = nanos(_read_as(self.form)(text).replace(tzinfo=None))
         if value % DAY:

@@ -1,5 +1,7 @@
 """Reads days with the name of their month, in English, German, French, Spanish, Italian and Dutch."""
 
+from __future__ import annotations
+
 import re
 
 from .texts import Unread, day_of
@@ -25,7 +27,7 @@ _FIRST = re.compile(rf"{_WEEKDAY}(\d{{1,2}})(?:\.|er|st|nd|rd|th|º)?[\s-]+(?:(?
 _SECOND = re.compile(rf"{_WEEKDAY}{_NAME}\s+(\d{{1,2}})(?:st|nd|rd|th)?,?\s+(\d{{4}}),?")
 
 
-def parts(text):
+def parts(text: str) -> tuple[str, str]:
     """Returns the day of a text, which begins it, and the rest (str)."""
     at = text.find(":")
     at = len(text) if at < 0 else max(at - 2, 0)
@@ -34,23 +36,23 @@ def parts(text):
     return text[:at], text[at:]
 
 
-def day(text):
+def day(text: str) -> int:
     """Returns the midnight (int, nanoseconds since 1970) of a day such as `2. März 2026` or `Mar 2, 2026`. Raises Unread.
 
     >>> day("2. März 2026") == day("Mar 2, 2026") == day("2 de marzo de 2026")
     True
     """
     text = re.sub(r"\s+(?:at|um|à|a las|alle|om)$", "", text.strip().casefold()).rstrip(",").strip()
-    found = _FIRST.fullmatch(text)
-    number, name, year = found.groups() if found else (None, None, None)
-    if not found and (found := _SECOND.fullmatch(text)):
+    if found := _FIRST.fullmatch(text):
+        number, name, year = found.groups()
+    elif found := _SECOND.fullmatch(text):
         name, number, year = found.groups()
     if not found or name not in MONTHS:
         raise Unread("not a day with the name of its month")
     return day_of(int(year), MONTHS[name], int(number))
 
 
-def is_one(text):
+def is_one(text: str) -> bool:
     """Returns whether a text begins with such a day."""
     try:
         day(parts(text)[0])

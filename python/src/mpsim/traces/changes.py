@@ -1,12 +1,19 @@
 """Reads changes to the records of a trace: rows that name columns, or edits for mpedit."""
 
+from __future__ import annotations
+
 import codecs
 import csv
 import io
 import re
-from typing import Dict, NamedTuple, Optional
+from typing import TYPE_CHECKING, Dict, NamedTuple, Optional
 
 from ..wording import counted
+
+if TYPE_CHECKING:
+    from collections.abc import Iterator, Sequence
+
+    from ..shapes import Path
 
 EXPECTED = "expected record followed by column names or, with --model, set or add"
 # Names with a meaning of their own in the header of changes; `empty` loses it if the trace has a column of that name.
@@ -26,7 +33,7 @@ class Change(NamedTuple):
     has_commas: bool = False
 
 
-def decoded(path, data):
+def decoded(path: Path, data: bytes) -> str:
     """Decodes changes (bytes): UTF-16 if they have its byte order mark, else UTF-8, in which invalid bytes are kept (surrogateescape). Raises
     ValueError if they are neither."""
     is_wide = data.startswith((codecs.BOM_UTF16_LE, codecs.BOM_UTF16_BE))
@@ -39,7 +46,7 @@ def decoded(path, data):
     return text
 
 
-def recoded(path, data):
+def recoded(path: Path, data: bytes) -> str:
     """Decodes changes (bytes) that aren't UTF-8, although the trace is, as Windows-1252; `prepare` reads exports the same way. Raises ValueError with
     the line if that fails, or if the file has a UTF-8 byte order mark."""
     encoding, why = "cp1252", "neither UTF-8 nor Windows-1252"
@@ -52,7 +59,7 @@ def recoded(path, data):
         raise ValueError(f"{path}: line {line}: the byte {data[error.start]:02x} is {why}") from None
 
 
-def _parted(text):
+def _parted(text: str) -> tuple[str, int]:
     """Returns the delimiter of a CSV text and the number of rows before its header. The delimiter is taken from a spreadsheet's `sep=;` line, or else
     from the character after the word record."""
     if mark := re.match(r"sep=([;\t,|])\r?\n", text):
@@ -61,16 +68,17 @@ def _parted(text):
     return found[2] if found else ",", 0
 
 
-def by_names(path, text, header):
+def by_names(path: Path, text: str, header: Sequence[str]) -> Iterator[Change]:
     """Yields the changes (Change) in a CSV text for a trace with this header. Raises ValueError with the row if one is invalid."""
     delimiter, before = _parted(text)
-    names, number, reader = None, 0, csv.reader(io.StringIO(text, newline=""), delimiter=delimiter)
+    names: list[str] | None = None
+    number, reader = 0, csv.reader(io.StringIO(text, newline=""), delimiter=delimiter)
     try:
         for number, fields in enumerate(reader, 1):
             where = f"{path}: row {number}"
             if names is None and fields:
                 names = _judged_names(where, fields, header) if number > before else None
-            elif any(fields):
+            elif names is not None and any(fields):
                 # Empty fields at the end may be omitted. A multi-line row that ends early more likely has an unclosed quote.
                 if any(fields[len(names) :]) or len(fields) < len(names) and re.search(r"[\r\n]", fields[-1]):
                     raise ValueError(f"{where}: {counted(len(fields), 'field')}, but the header has {len(names)}")
@@ -81,7 +89,7 @@ def by_names(path, text, header):
         raise ValueError(f"{path}: it is empty: {EXPECTED}")
 
 
-def _by_names(where, fields, header, has_commas):
+def _by_names(where: str, fields: dict[str, str], header: Sequence[str], has_commas: bool) -> Change:
     """Returns the change in a row, given its fields by name (dict of str)."""
     record, out, emptied = fields.pop("record"), fields.pop("out", ""), "" if "empty" in header else fields.pop("empty", "")
     given = {name: it for name, it in fields.items() if it}
@@ -98,7 +106,7 @@ def _by_names(where, fields, header, has_commas):
     return Change(where, None if record == "+" and not out else record, values, bool(out), has_commas=has_commas)
 
 
-def _judge_name(where, name, header):
+def _judge_name(where: str, name: str, header: Sequence[str]) -> None:
     """Raises ValueError unless exactly one column has this name."""
     if name not in header:
         raise ValueError(f'{where}: "{name}" is not a column of the trace; it has {", ".join(header)}')
@@ -106,7 +114,7 @@ def _judge_name(where, name, header):
         raise ValueError(f'{where}: "{name}" appears twice in the header of the trace')
 
 
-def _judged_names(where, fields, header):
+def _judged_names(where: str, fields: Sequence[str], header: Sequence[str]) -> list[str]:
     """Returns the column names (list of str) in the header of changes. Empty names at its end are dropped unless the trace has one; the case of names
     that aren't the trace's doesn't matter. Raises ValueError for an unknown or ambiguous name."""
     words = [word for word in WORDS if word != "empty" or word not in header]
@@ -127,7 +135,7 @@ def _judged_names(where, fields, header):
     return names
 
 
-def by_edits(path, text, names, places):
+def by_edits(path: Path, text: str, names: Sequence[str], places: Sequence[int]) -> Iterator[Change]:
     """Yields the changes (Change) in edits for mpedit (str), for a model that names these columns; `places` are the indices of the source, the time
     and these columns. Raises ValueError with the line if one is invalid."""
     for number, line in enumerate(text.split("\n"), 1):

@@ -1,8 +1,14 @@
 """Scales the load of a trace up or down."""
 
+from __future__ import annotations
+
 from collections import Counter
+from typing import TYPE_CHECKING
 
 from .trace import Trace
+
+if TYPE_CHECKING:
+    from collections.abc import Collection, Sequence
 
 TIMES = (
     "each time is {n}/{k} of its old value: the same jobs arrive {faster}, and their service times don't change. "
@@ -14,7 +20,7 @@ TWINS = (
 )
 
 
-def closer(times, k, n):
+def closer(times: Sequence[int], k: int, n: int) -> list[tuple[int, int]]:
     """Returns pairs (list) of a time and the index of its record, in order of arrival. Each time (int, ticks) is multiplied by n/k and rounded down.
 
     >>> from mpsim.traces.scale import closer
@@ -24,7 +30,7 @@ def closer(times, k, n):
     return [(times[at] * n // k, at) for at in sorted(range(len(times)), key=times.__getitem__)]
 
 
-def copies(times, sources, k, n, shift=0, only=()):
+def copies(times: Sequence[int], sources: Sequence[str], k: int, n: int, shift: int = 0, only: Collection[str] = ()) -> list[tuple[int, int]]:
     """Returns pairs (list) of a time and the index of its record, in order of time, then of records: k for every n records, spread as evenly as
     possible within each source.
 
@@ -51,7 +57,7 @@ def copies(times, sources, k, n, shift=0, only=()):
     return sorted(made)
 
 
-def around(time, count, shift, first, last):
+def around(time: int, count: int, shift: int, first: int, last: int) -> list[int]:
     """Returns the times (list of int) of this many copies of a record (int, including the record), each `shift` after the one before, starting at its
     `time` and wrapping round between `first` and `last` (int, ticks). If that gives too few times, they may lie up to an eighth of a shift outside,
     so that a record from an early or late minute also gets its other days. Raises ValueError if that isn't enough.
@@ -72,8 +78,15 @@ def around(time, count, shift, first, last):
     return [front + ((time - front) // shift + copy) % rounds * shift for copy in range(count)]
 
 
-def scaled(trace, k, n, way, shift=None, only=()):
-    """Returns the trace (Trace) with k/n of the load of another, in order of time; `way` is "times", "twins" or "shift"."""
+def scaled(trace: Trace, k: int, n: int, way: str, shift: int | None = None, only: Collection[str] = ()) -> Trace:
+    """Returns the trace (Trace) with k/n of the load of another, in order of time; `way` is "times", "twins" or "shift".
+
+    >>> from mpsim.traces import Trace
+    >>> from mpsim.traces.scale import scaled
+    >>> trace = Trace("t.csv", ["source", "time", "talk"], [["door", "0", "9"], ["door", "8", "4"]])
+    >>> scaled(trace, 2, 1, "times").rows
+    [['door', '0', '9'], ['door', '4', '4']]
+    """
     times = trace.times()
     for name in only:
         if name not in trace.sources():
@@ -81,17 +94,17 @@ def scaled(trace, k, n, way, shift=None, only=()):
     if way == "times":
         made = closer(times, k, n)
     else:
-        made = copies(times, trace.sources(), k, n, shift if way == "shift" else 0, only)
+        made = copies(times, trace.sources(), k, n, (shift or 0) if way == "shift" else 0, only)
     return Trace(trace.path, trace.header, [[trace.rows[at][0], str(time), *trace.rows[at][2:]] for time, at in made])
 
 
-def count_of(trace, k, n, way, only):
+def count_of(trace: Trace, k: int, n: int, way: str, only: Collection[str]) -> int:
     """Returns the number of records that `scaled` would make, to reject too many before making any."""
     taken = 0 if way == "times" else sum(not only or source in only for source in trace.sources())
     return len(trace.rows) - taken + k * taken // n
 
 
-def means(k, n, way, shift=None, only=()):
+def means(k: int, n: int, way: str, shift: int | None = None, only: Sequence[str] = ()) -> str:
     """Returns a description (str) of what `scaled` does.
 
     >>> from mpsim.traces.scale import means

@@ -33,7 +33,7 @@ plus-served-requires c =
     let step = c.args.self.now in
     let demand = firsts-at step.demands.now c.args.at c.loop-stage.stage c.get-in-loop-stage-2.result.now c.at.result c.get-in-loop-stage-2.ensures c.at.ensures in
     let some = some-kept step.places.now c.loop-stage.stage c.kept_of.result step.load.stages.room c.kept_of.ensures in
-    let fits = served-fits (job_act step.places.now step.arrive.now step.demands.now c.args.at c.args.rows.now) (kept step.places.now) (firsts (map (drop c.args.at) step.demands.now)) step.rows c.loop-stage.time c.loop-stage.rows c.loop-stage.row c.loop-stage.stage c.kept_of.result c.at.result c.kept_of.ensures demand some c.requires.fits c.loop-stage.invariant in
+    let fits = served-fits (job_act step.places.now step.arrive.now step.demands.now c.args.at c.args.rows.now) (kept step.places.now) (firsts (map (drop c.args.at) step.demands.now)) step.rows c.loop-stage.time c.loop-stage.rows c.loop-stage.row c.loop-stage.stage c.kept_of.result c.at.result c.kept_of.ensures demand some (c.requires.fits c.loop-stage.row) c.loop-stage.invariant in
     subst (λ (x : Mp). Fits (mp_plus x (At c.at.result))) (sym (c.max.ensures ∙ ap (mp_max c.loop-stage.time) c.get-in-loop-stage.ensures)) fits
 
 pub room_behind-requires-clause-room : goal.room_behind-requires-clause-room

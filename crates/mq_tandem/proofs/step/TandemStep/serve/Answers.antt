@@ -37,7 +37,7 @@ overflow_add-done c =
     let amount = c.at.result in
     let demand = firsts-at step.demands.now c.args.at c.loop-stage.stage c.get-in-loop-stage-2.result.now amount c.get-in-loop-stage-2.ensures c.at.ensures in
     let some = some-kept step.places.now c.loop-stage.stage c.kept_of.result step.load.stages.room c.kept_of.ensures in
-    let fits = served-fits (job_act step.places.now step.arrive.now step.demands.now c.args.at c.args.latest.now) (kept step.places.now) (firsts (map (drop c.args.at) step.demands.now)) step.rows (At c.loop-stage.time) c.loop-stage.latest c.loop-stage.row c.loop-stage.stage c.kept_of.result amount c.kept_of.ensures demand some c.requires.fits c.loop-stage.invariant in
+    let fits = served-fits (job_act step.places.now step.arrive.now step.demands.now c.args.at c.args.latest.now) (kept step.places.now) (firsts (map (drop c.args.at) step.demands.now)) step.rows (At c.loop-stage.time) c.loop-stage.latest c.loop-stage.row c.loop-stage.stage c.kept_of.result amount c.kept_of.ensures demand some (c.requires.fits c.loop-stage.row) c.loop-stage.invariant in
     let done : max c.loop-stage.time c.get-in-loop-stage.result + amount < 2 ^ 64 = subst (λ (x : Mp). Fits (mp_plus (mp_max (At c.loop-stage.time) x) (At amount))) c.get-in-loop-stage.ensures fits in
     let later = c.max.ensures in
     omega arith

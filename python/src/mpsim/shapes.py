@@ -1,0 +1,64 @@
+"""The types that the signatures of several modules share. Nothing is imported from here when a program runs."""
+
+from __future__ import annotations
+
+import os
+from typing import IO, TYPE_CHECKING, Hashable, Iterable, Iterator, List, Mapping, Protocol, Sequence, Union
+
+if TYPE_CHECKING:
+    from .inputs import Add, Set
+    from .model import Model
+
+# A file's name.
+Path = Union[str, "os.PathLike[str]"]
+# What a call takes as a model, a record of a trace, a trace, edits, many models, and a report.
+ModelInput = Union["Model", str, bytes, bytearray, "os.PathLike[str]"]
+Record = Union[Mapping[str, object], Sequence[object]]
+TraceInput = Union[str, bytes, bytearray, "os.PathLike[str]", "Frame", Iterable[Record]]
+EditsInput = Union[str, bytes, bytearray, "os.PathLike[str]", Iterable[Union["Set", "Add", str]]]
+Models = Union[Mapping[Hashable, ModelInput], Iterable[ModelInput]]
+ReportInput = Union[str, bytes, IO[bytes]]
+# A row of a table: texts, numbers, None for a missing figure, and labels.
+Row = List[object]
+
+
+class Frame(Protocol):
+    """A data frame, such as one of pandas or polars."""
+
+    @property
+    def columns(self) -> Iterable[str]:
+        """The names of the columns."""
+
+    def __getitem__(self, name: str, /) -> FrameColumn: ...
+
+
+class FrameColumn(Protocol):
+    """A column of a data frame: pandas calls its values `tolist`, polars `to_list`."""
+
+    def to_list(self) -> List[object]:
+        """Returns the values."""
+
+
+class Reader(Protocol):
+    """An iterator of rows that counts lines, such as a CSV reader."""
+
+    @property
+    def line_num(self) -> int:
+        """The number of lines read."""
+
+    def __iter__(self) -> Iterator[List[str]]: ...
+
+    def __next__(self) -> List[str]: ...
+
+
+class _HasKind(Protocol):
+    @property
+    def kind(self) -> str: ...
+
+
+class Nodes(Protocol):
+    """Nodes by name: those of a report, or of a model."""
+
+    def __getitem__(self, name: str, /) -> _HasKind: ...
+
+    def __contains__(self, name: object, /) -> bool: ...
