@@ -155,7 +155,7 @@ class Shifts(InFolder):
             if least_cost is None:
                 status, out, line = planner(*words, "--solver", solver)
                 self.assertEqual((status, out), (1, ""), (need, forms))
-                found = re.search(r"^mpplan: (\d\d:\d\d) needs (\d) agents, and (?:no shift covers it|the forms allow only (\d): )", line)
+                found = re.search(r"^mpplan: (\d\d:\d\d) needs (\d) agents?, and (?:no shift covers it|the forms allow only (\d): )", line)
                 self.assertTrue(found, line)
                 row = next(row for row in rows_of(need) if row["from"] == found[1])
                 self.assertEqual(row["agents"], found[2])

@@ -11,6 +11,7 @@ from fractions import Fraction
 from functools import reduce
 from typing import TYPE_CHECKING, FrozenSet, NamedTuple, Optional
 
+from ..wording import counted
 from .forms import DAY, KINDS, clock_text, day_name
 from .rosters import HEAD
 from .solvers import Program, Row, canonical, least
@@ -91,7 +92,7 @@ def chosen(need: Need, forms: list[Form], solver: str) -> list[Shift]:
     reached = {number for it in every for number in it.covers}
     for number, count in sorted(need.agents.items()):
         if count and number not in reached:
-            raise ValueError(f"{need.name(number)} needs {count} agents, and no shift covers it")
+            raise ValueError(f"{need.name(number)} needs {counted(count, 'agent')}, and no shift covers it")
     unit = reduce(lambda one, other: one * other // math.gcd(one, other), (form.cost.denominator for form in forms))
     found = []
     for group in _groups(every):
@@ -145,7 +146,7 @@ def _judge(need: Need, program: Program, group: list[Candidate], solver: str) ->
         number, lacks = next((number, lacks) for number, lacks in zip(numbers, short) if lacks)
         wanted = need.agents[number]
         why = f"the forms allow only {wanted - lacks}: allow more or other shifts"
-        raise ValueError(f"{need.name(number)} needs {wanted} agents, and {why}")
+        raise ValueError(f"{need.name(number)} needs {counted(wanted, 'agent')}, and {why}")
 
 
 def cost_of(shifts: list[Shift], forms: list[Form]) -> Fraction:
