@@ -123,8 +123,8 @@ class Weeks(InFolder):
         return [calls for day, calls in found.items() if day % 7 == WEEKDAYS.index(weekday)]
 
     def holds(self, days, counts):
-        """Returns whether 80 % of the calls of each half-hour wait at most 20 s, and all are answered, with so many agents per half-hour from 8:00 on.
-        The agents of a half-hour are the first of a list, and the first who is free takes a call."""
+        """Returns whether 80 % of the calls of each half-hour wait at most 20 s, and all are answered, with these numbers of agents from 8:00 on. The
+        agents of a half-hour are the first of a list, and the first who is free takes a call."""
         begins = [288000 + at * 18000 for at in range(len(counts))]
         agents = [[(at, at + 18000) for at, count in zip(begins, counts) if count > place] for place in range(max(counts))]
         levels = [[0, 0] for _ in counts]
