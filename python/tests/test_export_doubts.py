@@ -39,6 +39,18 @@ class Far(Test):
         with self.assertRaisesRegex(ValueError, "row 45: 2036-03-10"):
             prepare(table(*rows), "when", where=["who=a"])
 
+    def test_more_than_five_percent_ten_years_away(self):
+        """An empty date of a system is never the time of a job, however often it occurs, and however few rows there are."""
+        for count, good in (1, DAYS[:1]), (1, DAYS[:2]), (20, DAYS), (60, DAYS), (1, DAYS[:3]):
+            rows = ["1900-01-01 00:00:00,a,1"] * count + good
+            says = "row 2: 1900-01-01T00:00:00: " if count <= len(good) else "row 62: 2026-03-02T08:00:00: the first|after the rest"
+            with self.subTest(count), self.assertRaisesRegex(ValueError, says):
+                prepare(table(*rows), "when")
+            self.assertEqual(len(prepare(table(*rows), "when", far=True)), len(rows))
+            self.assertEqual(len(prepare(table(*rows), "when", begins="2026-03-02")), len(good))
+        twice = [item.replace("2026", "2017") for item in DAYS] + DAYS
+        self.assertEqual(len(prepare(table(*twice), "when")), 100)
+
     def test_what_is_not_far(self):
         """Two weeks over Christmas; the same days of two months; a gap that is shorter than the rest; a clock without a day; ticks."""
         year = [f"2026-{month:02}-01 08:00,a,1" for month in range(1, 8)] + ["2026-11-01 08:00,a,1"]
@@ -112,11 +124,20 @@ class Duplicates(Test):
 class Zeros(Test):
     def test_services_of_0(self):
         made = prepare(table("8:00,a,0:00:00", "8:00,b,0:00:05", "8:01,c,0"), "when", demand=["long=d"], decimal=".")
-        self.assertIn("d: 2 services of 0 ticks: --where 'long>0' leaves them out", made.told)
+        says = "d: 2 services of 0 ticks: --where 'long>0' leaves them out, --abandoned 'long<=0' keeps them as jobs that gave up"
+        self.assertIn(says, made.told)
         made = prepare(table("8:00,a,0:00:00", "8:00,b,0:00:05", "8:01,c,0"), "when", demand=["long=d"], where=["long>0"])
         self.assertEqual((made.values[0].tolist(), any("services" in item for item in made.told)), ([5], False))
         self.assertIn("2 rows excluded by --where, --from or --until", made.told)
         self.assertIn("d: 1 service of 0 ticks", prepare(table("8:00,8:00", "8:00,8:01", header="when,end"), "when", end=["end=d"]).told)
+
+
+class LongServices(Test):
+    def test_an_empty_date_within_a_sum(self):
+        rows = "2026-03-02 08:00,1900-01-01 00:00,2026-03-02 08:05,1", "2026-03-02 08:00,2026-03-02 08:01,2026-03-02 08:05,1"
+        for demand in "talk=End-Answered", "talk=End-Answered+Wrap":
+            made = prepare(table(*rows, header="Start,Answered,End,Wrap"), "Start", demand=[demand])
+            self.assertIn("talk: 1 service longer than 12 hours", made.warned)
 
 
 class HoursThatOccurTwice(Test):
@@ -144,6 +165,33 @@ class HoursThatOccurTwice(Test):
         made = self.made(*rows, twice="order", tick="1min")
         arrivals = [110, 125, 140, 160, 175, 178, 183, 210, 235]
         self.assertEqual((list(made.times), made.values[0].tolist()), (arrivals, [15, 30, 10, 19, 6, 12, 5, 38, 15]))
+        self.assertIn("rows are in order of 'end'", made.told)
+
+    def sums(self, *rows, demand="d=end-answer", **options):
+        rows = [row.replace("@", "2026-10-25 0") for row in rows]
+        options = {"twice": "first", "zone": "Europe/Berlin", "begin": "2026-10-25", "tick": "1min", **options}
+        return prepare(table(*rows, header="when,answer,end,wrap"), "when", demand=[demand], **options)
+
+    def test_a_sum_with_two_lengths(self):
+        says = "row 2, column 'end': '2026-10-25 03:08': its times span 12 or 72 ticks, since an hour occurs twice: give --twice order"
+        for demand in "d=end-answer", "d=end-answer+wrap:min":
+            with self.assertRaisesRegex(ValueError, says):
+                self.sums("@2:55,@2:56,@3:08,1", demand=demand)
+            self.assertEqual(self.sums("@2:55,@2:56,@3:08,0", demand=demand, twice="second").values[0].tolist(), [12])
+        # One length: in one of the hours, around both, and from the first to the second.
+        for twice in "first", "second":
+            rows = "@1:50,@1:51,@1:59,0", "@2:10,@2:11,@2:20,0", "@4:00,@4:01,@6:00,0", "@1:00,@1:01,@4:00,0"
+            self.assertEqual(self.sums(*rows, twice=twice).values[0].tolist(), [239, 8, 9, 119])
+        for twice in "first", "second", "order":
+            self.assertEqual(self.sums("@2:00,@2:05,@2:45,0", twice=twice).values[0].tolist(), [40])
+        self.assertEqual(self.sums("@2:30,@2:35,@3:10,0", twice="second").values[0].tolist(), [35])
+        self.assertEqual(self.sums("@2:00,@2:50,@2:10,0", "@2:50,@2:55,@2:05,0", "@2:50,@2:05,@2:15,0").values[0].tolist(), [20, 10, 10])
+
+    def test_a_sum_with_rows_in_order_of_their_ends(self):
+        rows = "@1:50,@1:55,@2:05,0", "@2:20,@2:21,@2:30,0", "@2:05,@2:07,@2:35,0", "@2:55,@2:58,@2:01,0"
+        rows += "@2:58,@2:05,@2:10,0", "@2:55,@2:56,@3:10,0"
+        made = self.sums(*rows, twice="order")
+        self.assertEqual((list(made.times), made.values[0].tolist()), ([110, 125, 140, 175, 178, 235], [10, 28, 9, 3, 5, 14]))
         self.assertIn("rows are in order of 'end'", made.told)
 
     def test_rows_in_order_of_their_arrivals(self):

@@ -100,6 +100,17 @@ class Fields(InFolder):
         with self.assertRaisesRegex(ValueError, r"row 3: field larger than field limit \(131072\): is a closing quote missing\?"):
             prepare(f'when,who,long\n8:00,a,1\n8:00,"a,1\n{rest * 1000}\n'.encode(), "when")
 
+    def test_an_open_quote_far_down(self):
+        """Beyond the rows that are examined first. The rows that the field swallows would be lost."""
+        good = ["8:01,b,2"] * 33000
+        for end in (good[:1], good[:30], good[:30] + ['8:02,"a",1', *good[:30]], [item.replace(",", ",x") for item in good[:20000]]):
+            says = r"row 33002: (a field contains \d+ rows? of the table|field larger than field limit \(131072\)): is a closing quote missing\?"
+            with self.assertRaisesRegex(ValueError, says):
+                prepare(table(*good, '8:00,"a,1', *end), "when", format="clock")
+        # A remark of several lines isn't a row, nor is one with as many commas.
+        made = prepare(table(*good, '8:00,"a, b, c\nd, e, f\n\n8:00",1', "8:02,a,3"), "when", format="clock", demand=["long"])
+        self.assertEqual((len(made), sum(made.values[0]), made.warned[-1][:5]), (33002, 66004, "times"))
+
     def test_formulas(self):
         """The rows that were left out are opened in a spreadsheet, where none of them may be a formula."""
         out = io.StringIO()

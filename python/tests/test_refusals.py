@@ -270,8 +270,8 @@ class Limits(Test):
         words = [f"2026-03-02 8:0{number},a,k{number}" for number in range(9)]
         values = "long has 9 values, but a split by remainder has at most 8 outputs"
         self.assertEqual(prepare(table(*words), "when", code=["long"]).warned, [values])
-        open_quote = table("2026-03-02 8:00,a,1", '2026-03-02 8:01,a,"1', *["2026-03-02 8:02,a,1"] * 30)
-        self.assertEqual(prepare(open_quote, "when").warned, ["a field has more than 20 lines: is a closing quote missing?"])
+        long_field = table("2026-03-02 8:00,a,1", '2026-03-02 8:01,a,"1', *["a remark, and more"] * 30 + ['end"'])
+        self.assertEqual(prepare(long_field, "when").warned, ["row 3: a field has more than 20 lines: is a closing quote missing?"])
         for mark, whose in ("", "a clock that never changes"), ("T00Z", "UTC"):
             told = prepare(table(f"2026-03-02{mark},a,1", f"2026-03-04{mark},a,1"), "when").told
             self.assertIn(f"days are those of {whose}: give --zone for another", told)

@@ -3,10 +3,13 @@
 COMMANDS = {
     "prepare": "make a trace from an export, whatever its delimiter, encoding, time format and names, and start a model for it",
     "scale": "scale the load of a trace up or down",
+    "resample": "draw other traces from the days of one, and report how much the figures of a node vary",
     "edit": "change, add or remove records of a trace",
     "pool": "divide the calls of a trace among agents who share one queue",
+    "grid": "compare numbers of agents and loads, as a table and a heat map",
     "staff": "find the least number of agents per interval of the day that reaches a service level",
     "shifts": "choose shifts that cover the agents needed at least cost, and write them as a roster",
+    "decision": "write a page for a decision on staffing: the goal, what was, what is proposed, and what it costs",
     "recorded": "report what the telephone system recorded, abandoned calls included, per interval of the day",
     "validate": "compare recorded waits with those of a model, per interval of the day",
     "run": "run a trace through a model, and write its report and an HTML page of it",

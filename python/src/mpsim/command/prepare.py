@@ -3,9 +3,11 @@
 from __future__ import annotations
 
 import contextlib
+import os
 from typing import TYPE_CHECKING
 
-from ..exports.prepare import prepare
+from ..exports.parts import KINDS
+from ..exports.prepare import prepare, prepare_parts
 from ..files import all_written, judge_outputs, written
 from ..runs import judged_text
 from ..times.formats import NUMBERS
@@ -16,7 +18,10 @@ from .messages import say
 
 if TYPE_CHECKING:
     from argparse import ArgumentParser, Namespace
-    from collections.abc import Callable
+    from collections.abc import Callable, Iterable, Mapping
+    from typing import TextIO
+
+    from ..exports.result import Prepared
 
 EXAMPLE = (
     "mpplan prepare calls.csv --time Zeit --source Abteilung --demand 'Dauer=talk:min' --zone Europe/Berlin --out trace.csv --first-lines model.txt"
@@ -25,7 +30,7 @@ EXAMPLE = (
 
 def words(parser: ArgumentParser) -> None:
     """Declares the arguments of `mpplan prepare`."""
-    for declare in _times, _columns, _rows, _file, _outputs:
+    for declare in _times, _columns, _events, _rows, _file, _outputs:
         declare(parser.add_argument)
 
 
@@ -59,8 +64,27 @@ def _columns(add: Callable[..., object]) -> None:
     add("--constant", action="append", default=[], metavar="NAME=LENGTH", help="a service time that all jobs have, e.g. wrap=90s")
     codes = "column of texts, written as numbers for a split; the numbers come from --model, or count from 0 in order of appearance"
     add("--code", action="append", default=[], metavar="COLUMN[=NAME]", help=codes)
+    says = "column with the wait of a job, or the time at which it ended; the first that isn't empty, if repeated"
+    add("--wait", action="append", default=[], metavar="COLUMN[=NAME][:UNIT]", help=says)
+    says = "keep rows that meet this condition (as in --where) as abandoned calls: services of 0, and 1 in a column abandoned; may be repeated"
+    add("--abandoned", action="append", default=[], metavar="CONDITION", help=says)
     add("--empty", metavar="LENGTH", help="service time of an empty field; default: its row is left out")
     add("--rename", action="append", default=[], metavar="OLD=NEW", help="name in the trace (NEW) of a source in the export (OLD)")
+
+
+def _events(add: Callable[..., object]) -> None:
+    add("--unit", metavar="COLUMN", help="an event log: rows with one value in this column are one job")
+    says = "column with the station of an event, for --unit: the services of each station become a column of the trace"
+    add("--steps", metavar="COLUMN", help=says)
+    add("--event", metavar="COLUMN", help="column with the kind of event; default: the one that has those of --begin-event and --end-event")
+    for name, says in (
+        ("arrive", "at which a job arrives; default: its first"),
+        ("begin", "at which a service begins"),
+        ("end", "at which a service ends"),
+        ("abandon", "at which a caller gives up; adds the columns wait and abandoned"),
+    ):
+        add(f"--{name}-event", action="append", default=[], metavar="EVENT", help=f"event {says}; may be repeated")
+    add("--route", metavar="NAME", help="name of a column with the order in which a job passes its stations, as numbers for a split")
 
 
 def _rows(add: Callable[..., object]) -> None:
@@ -78,6 +102,7 @@ def _rows(add: Callable[..., object]) -> None:
 def _file(add: Callable[..., object]) -> None:
     add("--decimal", choices=[".", ","], help="decimal mark; default: detected")
     add("--delimiter", metavar="CHARACTER", help="character between fields, \\t for a tab; default: detected")
+    add("--fixed", metavar="WIDTHS", help="widths of the columns in characters, e.g. 8,20,6, for an export without delimiters")
     says = "text encoding; default: detected (UTF-8, UTF-16 with a byte order mark, or Windows-1252, a superset of printable Latin-1)"
     add("--encoding", metavar="NAME", help=says)
     add("--skip", type=int, default=0, metavar="N", help="number of lines to skip before the header")
@@ -86,6 +111,8 @@ def _file(add: Callable[..., object]) -> None:
 
 
 def _outputs(add: Callable[..., object]) -> None:
+    says = "write one trace per month, week or day, to FILE-2026-03.csv and so on for --out FILE.csv"
+    add("--split-by", choices=list(KINDS), help=says)
     judges = "a model: it sets the order of sources at equal times; rows of other sources are left out; its columns must be present"
     add("--model", metavar="FILE", help=judges)
     add("--left-out", metavar="FILE", help="write the rows that are left out, with their number and the reason")
@@ -96,22 +123,74 @@ def _outputs(add: Callable[..., object]) -> None:
 
 def main(args: Namespace) -> None:
     """Runs `mpplan prepare`."""
-    options = {name: value for name, value in vars(args).items() if name not in ("command", "main", "export", "first_lines", "out_model", "out")}
+    own = "command", "main", "export", "first_lines", "out_model", "out", "split_by"
+    options = {name: value for name, value in vars(args).items() if name not in own}
     # Standard output, as without --out.
     args.out = None if args.out == "-" else args.out
-    judge_outputs([args.out, args.left_out, args.first_lines, args.out_model], {"export": [args.export], "model": [args.model]})
+    inputs = {"export": [args.export], "model": [args.model]}
+    judge_outputs([args.out, args.left_out, args.first_lines, args.out_model], inputs)
     if args.out_model and not args.model:
         raise ValueError("--out-model requires --model")
+    if args.split_by and not args.out:
+        raise ValueError("--split-by requires --out FILE: each trace gets the name of its part, as in FILE-2026-03.csv")
     model = judged_text(args.model, say) if args.model else None
+    if args.split_by:
+        with all_written(args.left_out) as (left_out,):
+            parts = prepare_parts(**{**options, "export": args.export, "by": args.split_by, "model": model, "left_out": left_out})
+            _write_parts(args, model, parts, inputs)
+        return
     with all_written(args.left_out, args.first_lines, args.out_model, args.out) as (left_out, lines, out_model, out):
         made = prepare(**{**options, "export": args.export, "model": model, "left_out": left_out})
-        unlike = [] if args.out_model else [f"{item} (--out-model writes a model for this trace)" for item in made.unlike]
-        warned = [f"warning: {item}" for item in [*made.warned, *unlike]]
-        for line in [*made.told, *warned, f"{counted(len(made), 'record')}, {counted(len(made.names), 'source')}"]:
+        for line in [*_notes(args, made), _size(made)]:
             say(line)
-        if lines:
-            lines.write(made.first_lines())
-        if out_model:
-            out_model.write(made.model(model or ""))
         with contextlib.nullcontext(out) if out else written() as file:
-            file.writelines(made.lines())
+            _write(made, model, lines, out_model, file)
+
+
+def _notes(args: Namespace, made: Prepared) -> list[str]:
+    """Returns the lines about a trace."""
+    unlike = [] if args.out_model else [f"{item} (--out-model writes a model for this trace)" for item in made.unlike]
+    return [*made.told, *(f"warning: {item}" for item in [*made.warned, *unlike])]
+
+
+def _size(made: Prepared) -> str:
+    return f"{counted(len(made), 'record')}, {counted(len(made.names), 'source')}"
+
+
+def _write(made: Prepared, model: str | None, lines: TextIO | None, out_model: TextIO | None, out: TextIO | None) -> None:
+    """Writes a trace, and the first lines and the copy of the model that go with it, to files (None for those that aren't wanted)."""
+    if lines:
+        lines.write(made.first_lines())
+    if out_model:
+        out_model.write(made.model(model or ""))
+    if out:
+        out.writelines(made.lines())
+
+
+def _write_parts(
+    args: Namespace, model: str | None, parts: Iterable[tuple[str, Prepared]], inputs: Mapping[str, Iterable[str | None]]
+) -> None:
+    """Writes the trace of each part to a file of its own, whose name has that of the part before its suffix. A line that was printed for an earlier
+    part isn't repeated."""
+    said: set[str] = set()
+    for name, made in parts:
+        paths = [path and _named(path, name) for path in (args.first_lines, args.out_model, args.out)]
+        judge_outputs(paths, inputs)
+        for line in _notes(args, made):
+            if line not in said:
+                say(line)
+        said.update(_notes(args, made))
+        with all_written(*paths) as files:
+            _write(made, model, *files)
+        say(f"{paths[-1]}: {_size(made)}")
+        del made
+
+
+def _named(path: str, part: str) -> str:
+    """Returns the name of a part's file.
+
+    >>> _named("traces/calls.csv", "2026-03")
+    'traces/calls-2026-03.csv'
+    """
+    begin, suffix = os.path.splitext(path)
+    return f"{begin}-{part}{suffix}"

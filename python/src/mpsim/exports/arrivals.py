@@ -4,7 +4,7 @@ from __future__ import annotations
 
 from array import array
 from itertools import islice
-from typing import TYPE_CHECKING
+from typing import TYPE_CHECKING, NamedTuple
 
 from ..limits import GREATEST_TIME
 from ..times.calendar import length_text
@@ -19,8 +19,20 @@ if TYPE_CHECKING:
     from .result import Prepared
     from .rows import Rows
 
-# Records are far from the rest if the gap is longer than the rest spans, and than this.
+# Some records are far from the rest if the gap is longer than the rest spans, and than this.
 FAR = 30 * DAY
+# Any number of records is far from the rest after such a gap, in which no system was silent.
+AGES = 3653 * DAY
+
+
+class Span(NamedTuple):
+    """A group of records: their first moment and the number of its row, their last moment and the number of its row, and how many they are."""
+
+    first: int
+    first_row: int
+    last: int
+    last_row: int
+    size: int
 
 
 def ticks(plan: Plan, stamps: array[int], begin: str, made: Prepared) -> array[int]:
@@ -84,24 +96,63 @@ def _zero(plan: Plan, begin: str, first: int, is_utc: bool) -> int:
 
 
 def judge_far(plan: Plan, rows: Rows) -> None:
-    """Raises ValueError if the first or the last records (up to 5 percent) lie further from the rest than the rest spans: such a time is usually an
-    empty date of the system that wrote the export."""
+    """Raises ValueError if the first or the last records (up to 5 percent) lie further from the rest than the rest spans, or any number of them ten
+    years: such a time is usually an empty date of the system that wrote the export."""
     stamps = rows.stamps
-    if not plan.has_day or plan.is_ticks or len(stamps) < 3 or max(stamps) - min(stamps) <= FAR:
+    if not plan.has_day or plan.is_ticks or max(stamps) - min(stamps) <= FAR:
         return
     ordered, few = sorted(stamps), max(len(stamps) // 20, 1)
     begin, end = _far(ordered, few), -_far([-item for item in reversed(ordered)], few)
+    if begin == ordered[0] and end == ordered[-1]:
+        begin, end = _ages(ordered)
     is_early = begin > ordered[0]
     if not is_early and end == ordered[-1]:
         return
     far = [at for at, stamp in enumerate(stamps) if (stamp < begin if is_early else stamp > end)]
     gap = begin - max(stamps[at] for at in far) if is_early else min(stamps[at] for at in far) - end
-    which = f"{'the first' if is_early else 'the last'} {len(far):,} records lie" if len(far) > 1 else "its record lies"
+    at = min(far, key=stamps.__getitem__) if is_early else max(far, key=stamps.__getitem__)
+    raise _far_error(plan, rows.row_of(at), stamps[at], len(far), gap, is_early, (begin, end))
+
+
+def _far_error(plan: Plan, row: int, stamp: int, count: int, gap: int, is_early: bool, rest: tuple[int, int]) -> ValueError:
+    """Returns the ValueError for a row with this moment: `count` records, it among them, lie before (`is_early`) or after the rest, whose first and
+    last moments are a pair, with this gap in nanoseconds."""
+    begin, end = rest
+    which = f"{'the first' if is_early else 'the last'} {count:,} records lie" if count > 1 else "its record lies"
     where = f"{which} {counted(gap // DAY, 'day')} {'before' if is_early else 'after'} the rest, which span {counted((end - begin) // DAY, 'day')}"
     bound = f"--from {_day(plan, begin)}" if is_early else f"--until {_day(plan, end + DAY)}"
-    at = min(far, key=stamps.__getitem__) if is_early else max(far, key=stamps.__getitem__)
-    shown = plan.place.shown(stamps[at])
-    raise ValueError(f"row {rows.row_of(at)}: {shown}: {where}: leave out such rows with {bound}, or keep them with --far")
+    return ValueError(f"row {row}: {plan.place.shown(stamp)}: {where}: leave out such rows with {bound}, or keep them with --far")
+
+
+def judge_far_spans(plan: Plan, spans: Sequence[Span]) -> None:
+    """Does what judge_far does for groups of records in order of time. A gap within a group doesn't count."""
+    few = max(sum(span.size for span in spans) // 20, 1)
+    early, late = _cuts(spans, few), _cuts([Span(-span.last, span.last_row, -span.first, span.first_row, span.size) for span in reversed(spans)], few)
+    rest = spans[early].first, spans[len(spans) - late - 1].last
+    if early:
+        gap = spans[early].first - spans[early - 1].last
+        raise _far_error(plan, spans[0].first_row, spans[0].first, sum(span.size for span in spans[:early]), gap, True, rest)
+    if late:
+        gap = spans[-late].first - spans[-late - 1].last
+        raise _far_error(plan, spans[-1].last_row, spans[-1].last, sum(span.size for span in spans[-late:]), gap, False, rest)
+
+
+def _cuts(spans: Sequence[Span], few: int) -> int:
+    """Returns how many of the first groups of records are far before the rest: those with at most `few` records, or less than half after which there
+    is a gap of ten years."""
+    total, last, some = sum(span.size for span in spans), spans[-1].last, 0
+    for span in reversed(spans):
+        some += span.size
+        if some > few:
+            last = span.last
+            break
+    count, found = 0, 0
+    for at in range(1, len(spans)):
+        count += spans[at - 1].size
+        gap = spans[at].first - spans[at - 1].last
+        if count <= few and gap > max(last - spans[at].first, FAR) or 2 * count <= total and gap > AGES:
+            found = at
+    return found
 
 
 def _far(ordered: Sequence[int], few: int) -> int:
@@ -112,6 +163,14 @@ def _far(ordered: Sequence[int], few: int) -> int:
         if ordered[at] - ordered[at - 1] > max(last - ordered[at], FAR):
             return ordered[at]
     return ordered[0]
+
+
+def _ages(ordered: Sequence[int]) -> tuple[int, int]:
+    """Returns the first and the last of these moments (in rising order) between which there is no gap of ten years: of the moments before and after
+    such a gap the more numerous, or the later."""
+    cuts = [0, *(at for at in range(1, len(ordered)) if ordered[at] - ordered[at - 1] > AGES), len(ordered)]
+    begin, end = max(zip(cuts, cuts[1:]), key=lambda cut: (cut[1] - cut[0], cut[1]))
+    return ordered[begin], ordered[end - 1]
 
 
 def _day(plan: Plan, value: int) -> str:

@@ -57,9 +57,9 @@ class Condition:
         return Fraction(*self._read.length(text))
 
 
-def parsed(word: str, export: Table, mark: Callable[[int], str | None]) -> Condition:
-    """Returns the Condition that a text such as `Direction=inbound` gives for an Export; `mark` returns the decimal mark of the numbers of a column.
-    Raises ValueError."""
+def parsed(word: str, export: Table, mark: Callable[[int], str | None], option: str = "--where") -> Condition:
+    """Returns the Condition that a text such as `Direction=inbound`, the value of an option, gives for an Export; `mark` returns the decimal mark of
+    the numbers of a column. Raises ValueError."""
     numbers = re.findall(r"^#[1-9]\d{0,4}", word)
     for name in [*sorted(filter(None, export.header), key=len, reverse=True), *numbers]:
         found = re.match(rf"\s*({'|'.join(map(re.escape, Condition.SIGNS))})", word[len(name) :])
@@ -68,6 +68,6 @@ def parsed(word: str, export: Table, mark: Callable[[int], str | None]) -> Condi
             try:
                 return Condition(column, found[1], word[len(name) + found.end() :], mark(column) if found[1] in _ORDERS else None)
             except (Unread, ValueError) as error:
-                raise ValueError(f"--where {word}: {error}") from None
+                raise ValueError(f"{option} {word}: {error}") from None
     signs = ", ".join(Condition.SIGNS)
-    raise ValueError(f"--where {word}: expected COLUMN, one of {signs}, and a value; the columns are {listed(export.header)}")
+    raise ValueError(f"{option} {word}: expected COLUMN, one of {signs}, and a value; the columns are {listed(export.header)}")

@@ -172,9 +172,9 @@ class Export(Table):
     def rows(self) -> tuple[Reader, int]:
         """Returns a reader of the rows after the header, which counts lines, and the number of the first row, counted as in a spreadsheet."""
         reader = self._reader(self._lines())
-        if self._has_header:
+        if self.has_header:
             next(reader)
-        return reader, self._skip + 1 + self._has_header
+        return reader, self._skip + 1 + self.has_header
 
     @property
     def size(self) -> int:

@@ -4,10 +4,12 @@ from __future__ import annotations
 
 import re
 from fractions import Fraction
+from itertools import product
 from typing import TYPE_CHECKING
 
 from ..limits import GREATEST_VALUE
 from ..times.texts import Asks, Unread
+from .values import REPEATED
 
 if TYPE_CHECKING:
     from collections.abc import Sequence
@@ -58,6 +60,8 @@ class Expression:
     """A sum of columns with signs: `times` (list of pairs of a sign and Times), of which as many are added as subtracted, and `lengths` (list of
     triples of a sign, the index of a column and its Lengths). The result is rounded to ticks once."""
 
+    is_service = True
+
     def __init__(
         self, name: str, times: list[tuple[int, Times]], lengths: list[tuple[int, int, Lengths]], tick: int, empty: int | None = None
     ) -> None:
@@ -68,10 +72,13 @@ class Expression:
     def of(self, row: Sequence[str], begun: Sequence[int]) -> int:
         """Returns the ticks (int) of a row. `begun` has the moment of the arrival first. Raises Unread and Asks."""
         total, at = Fraction(0), self.column
+        found: list[int] = []
         try:
-            for sign, item in self.times:
+            for _, item in self.times:
                 at = item.column
-                total += sign * item.later(row, begun[0])
+                found.append(item.later(row, begun[0]))
+            at = self.column
+            total += self._between(begun[0], found) if found else 0
             for sign, at, how in self.lengths:
                 if self.empty is not None and not row[at].strip():
                     total += sign * self.empty * self.tick
@@ -84,11 +91,38 @@ class Expression:
         except (Unread, Asks) as error:
             error.column = at
             raise
-        ticks = (2 * total + self.tick) // (2 * self.tick)
+        ticks = self._ticks(total)
         if ticks > GREATEST_VALUE:
             raise Unread("above 2^36 ticks")
         self.rounded += total % self.tick > 0
-        return int(ticks)
+        return ticks
+
+    def _between(self, arrival: int, found: Sequence[int]) -> int:
+        """Returns the sum of these moments (list of int) with their signs. In an hour that occurs twice each is the first not before the arrival, or
+        the second if the sum is below 0 otherwise. Raises Asks if the sum would be smaller with another arrival or another of these hours."""
+        total, zone = self._sum(found), self.times[0][1].zone
+        if not zone.name or 0 <= total < REPEATED:
+            return total
+        both = [zone.both(moment) for moment in found]
+        sums = {begin: self._sums(begin, both) for begin in zone.both(arrival)}
+        chosen = next((value for value in sums[arrival] if value >= 0), total)
+        least = min((value for values in sums.values() for value in values if value >= 0), default=chosen)
+        if least < chosen and zone.twice in ("first", "second"):
+            lengths = f"{self._ticks(Fraction(least))} or {self._ticks(Fraction(chosen))} ticks"
+            raise Asks(f"its times span {lengths}, since an hour occurs twice: give --twice order, for rows in order of --time or of the ends")
+        return chosen
+
+    def _sums(self, begin: int, both: Sequence[Sequence[int]]) -> list[int]:
+        """Returns the sums (list of int) for each choice among moments, none before `begin`, the first moments first."""
+        readings = [[moment for moment in moments if moment >= begin] or moments[-1:] for moments in both]
+        choices = sorted(product(*readings), key=sum)
+        return [self._sum(choice) for choice in choices]
+
+    def _sum(self, moments: Sequence[int]) -> int:
+        return sum(sign * moment for (sign, _), moment in zip(self.times, moments))
+
+    def _ticks(self, length: Fraction) -> int:
+        return int((2 * length + self.tick) // (2 * self.tick))
 
     def many(self, columns: Sequence[Sequence[str]]) -> list[int]:
         """Raises Unread, since each row needs individual treatment."""

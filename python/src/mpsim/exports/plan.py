@@ -19,18 +19,21 @@ from ..times.zones import Zone
 from ..wording import listed
 from .codes import codes_in
 from .conditions import parsed
+from .events import BEGIN, OPTIONS, Log, found_units
+from .events import END as ENDS
 from .expressions import Expression, terms
 from .records import Dates, Numbers, Records, Times
-from .values import Code, Constant, Demand, End, Sum
+from .values import ABANDONED, WAIT, Abandoned, Code, Constant, Demand, End, Sum, Wait
 
 if TYPE_CHECKING:
-    from collections.abc import Iterable, Sequence
+    from collections.abc import Iterable, Mapping, Sequence
     from typing import Union
 
     from .conditions import Condition
+    from .events import Kind
     from .table import Table
 
-    Column = Union[Demand, Sum, End, Expression, Constant, Code]
+    Column = Union[Demand, Sum, End, Expression, Constant, Code, Wait, Abandoned, Kind]
 
 # The most columns of a trace.
 COLUMNS = 16
@@ -45,12 +48,16 @@ class Plan:
 
     warned: list[str]
     columns: list[Column]
-    conditions: list[Condition]
+    conditions: list[Condition | Log]
+    gone: list[Condition]
+    log: Log | None
 
     def __init__(self, export: Table, place: Zone, per: int, format: str | None, decimal: str | None, model: str | None) -> None:
         self.export, self.place, self.per, self.decimal, self.model = export, place, per, decimal, model
         self.format = judged_format(format) if format else None
         self.notes, self.warned, self.columns, self.conditions = list(export.notes), [], [], []
+        self.gone = []
+        self.known, self.log, self.is_ragged = codes_in(model or ""), None, False
         self._sample = export.sample
 
     def where(self, words: Iterable[str]) -> None:
@@ -69,7 +76,8 @@ class Plan:
                 form = found_format(self._texts(column))
             except ValueError as error:
                 raise ValueError(f"column {name!r}: {error} ({option})") from None
-            self.notes.append(f"column {name!r} is read as {form}")
+            note = f"column {name!r} is read as {form}"
+            self.notes += [] if note in self.notes else [note]
         return Moments(form, self.place)
 
     def _more_times(self, column: int) -> Times:
@@ -162,16 +170,35 @@ class Plan:
         for item in self.columns:
             if isinstance(item, Sum):
                 self.notes.append(f"{item.name} is the sum of {' and '.join(repr(self.export.header[part.column]) for part in item.parts)}")
-        known = codes_in(self.model or "")
         for word in code:
             column, name, _ = self.export.parse(word)
             name = self._named(name, column)
-            self.columns.append(Code(name, column, known.get(name)))
-        if len(self.columns) > COLUMNS:
-            raise ValueError(f"{len(self.columns)} columns; the limit of a trace is {COLUMNS}")
-        lacking = [item for item in columns(self.model or "") if item not in [column.name for column in self.columns]]
+            self.columns.append(Code(name, column, self.known.get(name)))
+
+    def waits(self, wait: Sequence[str], abandoned: Sequence[str]) -> None:
+        """Sets the column of waits, and which jobs gave up."""
+        parts: list[Demand | End] = []
+        for word in wait:
+            column, name, unit = self.export.parse(word, has_unit=True)
+            if unit is None and self._is_time(column):
+                parts.append(End(name or WAIT, self._more_times(column), 1 if self.is_ticks else self.per))
+            else:
+                parts.append(Demand(name or WAIT, column, Lengths(unit or "s", self._mark(column), self.per)))
+        if parts:
+            self.columns.append(Wait(self._named(parts[0].name), parts))
+        if abandoned:
+            self.gone = [parsed(word, self.export, self._mark, "--abandoned") for word in abandoned]
+            self.columns.append(Abandoned(self._named(ABANDONED), self.gone))
+            self.notes += [] if wait else ["jobs that gave up have no wait: --wait COLUMN gives one"]
+
+    def judge_columns(self, names: Sequence[str]) -> None:
+        """Raises ValueError if columns with these names are too many for a trace, or lack one that the model names."""
+        if len(names) > COLUMNS:
+            raise ValueError(f"{len(names)} columns; the limit of a trace is {COLUMNS}" + (f": {listed(names)}" if self.log else ""))
+        lacking = [item for item in columns(self.model or "") if item not in names]
         if lacking:
-            raise ValueError(f"the model names {', '.join(lacking)}, which no --demand, --end, --constant or --code provides")
+            given = "station" if self.log else "--demand, --end, --constant or --code"
+            raise ValueError(f"the model names {', '.join(lacking)}, which no {given} provides")
 
     def _demand(self, word: str, empty: int | None) -> None:
         """Adds a column of service times, or adds it to a column of the same name."""
@@ -224,6 +251,63 @@ class Plan:
         except ValueError as error:
             raise ValueError(f"column {self.export.header[column]!r}: {error} (--decimal)") from None
 
+    def events(self, unit: str | None, steps: str | None, event: str | None, kinds: Sequence[Sequence[str]], route: str | None) -> None:
+        """Sets how the rows of an event log are gathered into records. `kinds` has the names of the events (lists of str) that --arrive-event,
+        --begin-event, --end-event and --abandon-event give."""
+        if unit is None:
+            values: list[object] = [steps, event, route, *kinds]
+            for option in (option for option, value in zip(("--steps", "--event", "--route", *OPTIONS), values) if value):
+                raise ValueError(f"{option} requires --unit")
+            if hint := found_units(self.export.header, self._sample, self._used()):
+                self.warned.append(hint)
+            self.judge_columns([it.name for it in self.columns])
+            return
+        found: dict[str, int] = {}
+        for option, kind, words in zip(OPTIONS, range(len(kinds)), kinds):
+            for word in words:
+                if word in found:
+                    raise ValueError(f"the event {word!r} is given twice ({option})")
+                found[word] = kind
+        if self.gone or any(isinstance(it, Wait) for it in self.columns):
+            raise ValueError("--wait and --abandoned can't be used with --unit: the events give them (--abandon-event)")
+        services = [it for it in self.columns if not isinstance(it, (Code, Constant))]
+        if bool(kinds[BEGIN]) != bool(kinds[ENDS]) or found and not kinds[BEGIN]:
+            raise ValueError("--begin-event and --end-event are given together: without the one, the length of a service is unknown")
+        if found and services:
+            raise ValueError(f"{services[0].name}: the events give the services: leave --demand and --end out")
+        if not found and len(services) != 1:
+            how = "add columns up by giving them one name" if services else "give --begin-event and --end-event, --end, or --demand"
+            raise ValueError(f"each row of --unit {unit} needs one service time, but has {len(services) or 'none'}: {how}")
+        if not found and event:
+            raise ValueError("--event requires --begin-event and --end-event")
+        if route:
+            self._named(route)
+        step = None if steps is None else self.export.column(steps)
+        self.log = Log(self.export.column(unit), step, self._event_column(event, found) if found else None, found, route)
+        self.is_ragged = bool(found) and not self.export.has_header
+        self.columns += self.log.columns()
+        self.conditions.append(self.log)
+
+    def _event_column(self, event: str | None, kinds: Mapping[str, int]) -> int:
+        """Returns the index of the column with these kinds of event (dict): the one given, or the only one that has both a beginning and an end."""
+        if event is not None:
+            return self.export.column(event)
+        found = []
+        for at in range(len(self.export.header)):
+            met = {kinds.get(text.strip()) for text in self._texts(at)}
+            found += [at] if {BEGIN, ENDS} <= met else []
+        if len(found) != 1:
+            names = " and ".join(repr(self.export.header[at]) for at in found)
+            raise ValueError(f"{names or 'no column'} {'have' if found else 'has'} the events {listed(list(kinds))}: give --event")
+        self.notes.append(f"column {self.export.header[found[0]]!r} has the events")
+        return found[0]
+
+    def _used(self) -> set[int]:
+        """Returns the indices of the columns that are read as times or services."""
+        dates = self.time.dates
+        days = dates.columns if isinstance(dates, Numbers) else [dates.column] if dates else []
+        return {*days, *(item.column for item in (self.time, *self.answered, *self.columns) if not isinstance(item, Code))}
+
     def sources(self, source: str | None, rename: Iterable[str]) -> None:
         """Sets the sources, which completes the plan."""
         header, known = self.export.header, sources(self.model) if self.model else None
@@ -247,6 +331,7 @@ class Plan:
         if renamed and column is None:
             raise ValueError("--rename requires a column for --source")
         self.records = Records(len(header), self.time, self.answered, self.columns, column, only, renamed, known)
+        self.records.gone = self.gone
         self.records.conditions, self.records.ended = self.conditions, self._in_order_of()
         # The rows from which formats were detected aren't needed any more.
         self._sample = self.export.sample = []
@@ -254,7 +339,10 @@ class Plan:
     def _in_order_of(self) -> Times | None:
         """Returns the ends of services (Times) if the rows are in order of those and not of the arrivals, which matters for --twice order; else
         None."""
-        ends = [column.times for column in self.columns if isinstance(column, End) and not column.times.how.is_of_day]
+        parts = [part for column in self.columns if column.is_service for part in getattr(column, "parts", [column])]
+        ends = [part.times for part in parts if isinstance(part, End)]
+        ends += [times for part in parts if isinstance(part, Expression) for sign, times in part.times if sign > 0]
+        ends = list({times.column: times for times in ends if not times.how.is_of_day}.values())
         if self.place.twice != "order" or self.time.dates or len(ends) != 1:
             return None
         found = [self._descents(times) for times in (self.time, ends[0])]
@@ -273,8 +361,9 @@ class Plan:
 
     def between(self, begins: str | None, until: str | None) -> None:
         """Sets the times between which jobs arrive."""
-        bounds = ("--from", begins), ("--until", until)
-        self.records.begins, self.records.ends = (self._bound(option, text) if text else None for option, text in bounds)
+        # The jobs of an event log are judged by when they arrive.
+        of = self.log or self.records
+        of.begins, of.ends = (self._bound(option, text) if text else None for option, text in (("--from", begins), ("--until", until)))
 
     def _bound(self, option: str, text: str) -> int:
         """Returns the moment of --from or --until."""

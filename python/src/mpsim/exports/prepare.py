@@ -5,7 +5,7 @@ from __future__ import annotations
 import os
 from array import array
 from itertools import islice
-from typing import TYPE_CHECKING
+from typing import TYPE_CHECKING, NamedTuple
 
 from ..names import is_like, name_for
 from ..times.calendar import Calendar, length_text, settings_in, tick_of
@@ -15,12 +15,15 @@ from ..traces.trace import fields_up_to
 from ..wording import counted
 from .arrivals import judge_far, ticks
 from .delimited import LINES, Export
+from .events import EVENTS, Units
 from .expressions import Expression
+from .fixed import Fixed, widths_in
+from .parts import Parts
 from .plan import Plan
 from .result import Prepared
 from .rows import Rows, TooManyLeft
 from .streams import Stream
-from .values import Code, Demand, End, Sum
+from .values import Abandoned, Code, Demand, End, Sum
 from .workbook import Workbook
 
 if TYPE_CHECKING:
@@ -33,6 +36,54 @@ if TYPE_CHECKING:
 
 # A field with more characters is rejected: an unclosed quote makes one field of the rest.
 FIELD = 1 << 17
+
+
+class _Words(NamedTuple):
+    """The arguments of `prepare`."""
+
+    export: Path | bytes | bytearray
+    time: str
+    format: str | None
+    date: str | None
+    date_format: str | None
+    day: Sequence[str] | None
+    zone: str | None
+    twice: str | None
+    tick: str | None
+    begin: str
+    source: str | None
+    demand: Iterable[str]
+    end: Sequence[str]
+    answered: str | Iterable[str]
+    constant: Iterable[str]
+    code: Iterable[str]
+    empty: str | None
+    rename: Iterable[str]
+    decimal: str | None
+    delimiter: str | None
+    encoding: str | None
+    skip: int
+    header: str | None
+    model: str | None
+    left_out: TextIO | None
+    where: Iterable[str]
+    begins: str | None
+    until: str | None
+    far: bool
+    duplicates: str | None
+    left_out_most: str
+    sheet: str | None
+    fixed: str | None
+    wait: str | Iterable[str]
+    abandoned: Sequence[str]
+    unit: str | None
+    steps: str | None
+    event: str | None
+    arrive_event: Sequence[str]
+    begin_event: Sequence[str]
+    end_event: Sequence[str]
+    abandon_event: Sequence[str]
+    route: str | None
 
 
 def prepare(
@@ -69,6 +120,17 @@ def prepare(
     duplicates: str | None = None,
     left_out_most: str = "5%",
     sheet: str | None = None,
+    fixed: str | None = None,
+    wait: str | Iterable[str] = (),
+    abandoned: Sequence[str] = (),
+    unit: str | None = None,
+    steps: str | None = None,
+    event: str | None = None,
+    arrive_event: Sequence[str] = (),
+    begin_event: Sequence[str] = (),
+    end_event: Sequence[str] = (),
+    abandon_event: Sequence[str] = (),
+    route: str | None = None,
 ) -> Prepared:
     """Returns the trace (Prepared) made from an export, which is a path or bytes.
 
@@ -80,34 +142,106 @@ def prepare(
     >>> list(prepare(export, "When", source="Who", demand=["Long=talk:min"]).rows())
     [('desk', 5, 30), ('desk', 17, 90)]
     """
-    per, place = _tick(tick, model), Zone(zone, twice)
-    name = "the export" if isinstance(export, (bytes, bytearray)) else os.fspath(export)
+    [(_, made)] = _made(None, _Words(**locals()))
+    return made
+
+
+def prepare_parts(export: Path | bytes | bytearray, time: str, by: str, **options: object) -> Iterator[tuple[str, Prepared]]:
+    """Yields the traces of the parts of an export, in order of time: the name of each part, such as 2026-03, and its trace (Prepared).
+
+    `by` is "month", "week" (from Monday, named 2026-W10) or "day"; the other arguments are those of `prepare`, and so are the errors. The export is
+    read once, and only one part at a time is in memory. Each trace is the one that `prepare` makes of the part's days, except that sources and codes
+    keep their order and their numbers over all parts. Rows that are left out are in the account of the first.
+
+    >>> export = b"When,Long\\n2026-03-31T08:00:00,60\\n2026-04-01T08:00:05,90\\n"
+    >>> [(name, list(made.rows())) for name, made in prepare_parts(export, "When", "month", demand=["Long=talk"])]
+    [('2026-03', [('jobs', 0, 60)]), ('2026-04', [('jobs', 5, 90)])]
+    """
+    defaults = prepare.__kwdefaults__
+    for name in options.keys() - defaults.keys():
+        raise TypeError(f"prepare_parts() got an unexpected argument {name!r}")
+    words: dict[str, object] = {**defaults, **options, "export": export, "time": time}
+    return _made(by, _Words._make(map(words.__getitem__, _Words._fields)))
+
+
+def _made(by: str | None, words: _Words) -> Iterator[tuple[str, Prepared]]:
+    """Yields the name and the trace of each part, or the whole trace if `by` is None. `words` has the arguments of `prepare`."""
+    per, place = _tick(words.tick, words.model), Zone(words.zone, words.twice)
+    name = "the export" if isinstance(words.export, (bytes, bytearray)) else os.fspath(words.export)
     try:
-        with fields_up_to(FIELD), Stream(export) as stream:
-            plan = Plan(_table(stream, encoding, delimiter, sheet, skip, header), place, per, format, decimal, model)
-            plan.where(where)
-            plan.times(time, date, date_format, day, [answered] if isinstance(answered, str) else answered)
-            plan.values(demand, end, constant, code, empty)
-            plan.sources(source, rename)
-            plan.between(begins, until)
-            rows, most = Rows(plan, left_out), given("--left-out-most", percent, left_out_most)
+        with fields_up_to(FIELD), Stream(words.export) as stream:
+            plan = _planned(_table(stream, words), place, per, words)
+            most = given("--left-out-most", percent, words.left_out_most)
+            if by is not None:
+                yield from _in_parts(plan, by, most, words)
+                return
+            rows = Rows(plan, words.left_out, EVENTS if plan.log else None)
             rows.read()
-            return _finished(plan, rows, begin, most, far, duplicates)
+            unnamed = plan.judge_renames()
+            rows.judge_left(most)
+            repeats, read = _judge_repeats(rows, words.duplicates), [rows]
+            if plan.log:
+                rows = Units(plan, plan.log, rows)
+                rows.judge_left(most)
+                read.append(rows)
+            if not words.far:
+                judge_far(plan, rows)
+            made = _finished(plan, rows, words.begin, repeats, words.duplicates)
+            for some in read:
+                _note_left(some, made)
+            made.warned += unnamed
+            yield "", made
     except ValueError as error:
         raise (TooManyLeft if isinstance(error, TooManyLeft) else ValueError)(f"{name}: {error}") from None
     except OverflowError:
         raise ValueError(f"{name}: times are before the year 1 or after the year 9999: is --format right?") from None
 
 
-def _table(stream: Stream, encoding: str | None, delimiter: str | None, sheet: str | None, skip: int, header: str | None) -> Table:
+def _in_parts(plan: Plan, by: str, most: float, words: _Words) -> Iterator[tuple[str, Prepared]]:
+    """Yields the name and the trace of each part of an export."""
+    if plan.log:
+        raise ValueError("--split-by can't be used with --unit: choose units by their arrivals with --from and --until")
+    with Parts(plan, by, words.left_out) as rows:
+        rows.read()
+        unnamed = plan.judge_renames()
+        rows.judge(most, words.far)
+        for part in rows.parts():
+            made = _finished(plan, part, words.begin, _judge_repeats(part, words.duplicates), words.duplicates)
+            _note_left(part, made)
+            made.warned += unnamed
+            yield part.label, made
+            # The next part is read into the memory of this one.
+            del part, made
+
+
+def _planned(table: Table, place: Zone, per: int, words: _Words) -> Plan:
+    """Returns the Plan for a table."""
+    plan = Plan(table, place, per, words.format, words.decimal, words.model)
+    plan.where(words.where)
+    answered, wait = ([item] if isinstance(item, str) else list(item) for item in (words.answered, words.wait))
+    plan.times(words.time, words.date, words.date_format, words.day, answered)
+    plan.values(words.demand, words.end, words.constant, words.code, words.empty)
+    plan.waits(wait, words.abandoned)
+    kinds = words.arrive_event, words.begin_event, words.end_event, words.abandon_event
+    plan.events(words.unit, words.steps, words.event, kinds, words.route)
+    plan.sources(words.source, words.rename)
+    plan.between(words.begins, words.until)
+    return plan
+
+
+def _table(stream: Stream, words: _Words) -> Table:
     """Returns the table that a file contains (Export or Workbook)."""
     if not stream.is_workbook:
-        if sheet is not None:
-            raise ValueError(f"--sheet {sheet}: this isn't a spreadsheet")
-        return Export(stream, encoding, delimiter, skip, header)
-    if encoding or delimiter:
-        raise ValueError("--encoding and --delimiter can't be used with a spreadsheet")
-    return Workbook(stream, sheet, skip, header)
+        if words.sheet is not None:
+            raise ValueError(f"--sheet {words.sheet}: this isn't a spreadsheet")
+        if words.fixed is None:
+            return Export(stream, words.encoding, words.delimiter, words.skip, words.header)
+        if words.delimiter:
+            raise ValueError("--fixed and --delimiter exclude each other: give one of them")
+        return Fixed(stream, given("--fixed", widths_in, words.fixed), words.encoding, words.skip, words.header)
+    if words.encoding or words.delimiter or words.fixed:
+        raise ValueError("--encoding, --delimiter and --fixed can't be used with a spreadsheet")
+    return Workbook(stream, words.sheet, words.skip, words.header)
 
 
 def _tick(tick: str | None, model: str | None) -> int:
@@ -130,16 +264,11 @@ def percent(text: str) -> float:
     return value
 
 
-def _finished(plan: Plan, rows: Rows, begin: str, most: float, far: bool, duplicates: str | None) -> Prepared:
-    """Returns the trace made from the rows read."""
-    unnamed = plan.judge_renames()
-    rows.judge_left(most)
-    if not far:
-        judge_far(plan, rows)
-    repeats = _judge_repeats(rows, duplicates)
-    made = Prepared(["source", "time", *(column.name for column in plan.columns)], _order(plan, rows.sources), plan.per, plan.place.name)
+def _finished(plan: Plan, rows: Rows, begin: str, repeats: str | None, duplicates: str | None) -> Prepared:
+    """Returns the trace made from the rows read. `repeats` is a note on rows that repeat an earlier one, or None."""
+    made = Prepared(["source", "time", *(column.name for column in rows.columns)], _order(plan, rows.sources), plan.per, plan.place.name)
     made.told += [*plan.notes, *([repeats] if duplicates and repeats else [])]
-    made.warned += [*plan.warned, *unnamed, *([repeats] if repeats and not duplicates else [])]
+    made.warned += [*plan.warned, *([repeats] if repeats and not duplicates else [])]
     at = ticks(plan, rows.stamps, begin, made)
     made.told += plan.place.notes()
     _judge_zero(plan, made)
@@ -150,14 +279,19 @@ def _finished(plan: Plan, rows: Rows, begin: str, most: float, far: bool, duplic
     _sort(made, rows, at)
     if rows.unwanted:
         made.told.append(f"{counted(rows.unwanted, 'row')} excluded by --where, --from or --until")
-    if rows.left:
-        left = rows.reasons()
-        made.left = {why: count for why, (count, _) in rows.left.items()}
-        made.told += [counted(sum(made.left.values()), "row") + f" {'is' if sum(made.left.values()) == 1 else 'are'} left out", *left[:LINES]]
-        made.told += [f"and for {len(left) - LINES} other reasons"] if left[LINES:] else []
     if rows.long:
-        made.warned.append(f"a field has more than {LINES} lines: is a closing quote missing?")
+        made.warned.append(f"row {rows.long}: a field has more than {LINES} lines: is a closing quote missing?")
     return made
+
+
+def _note_left(rows: Rows, made: Prepared) -> None:
+    """Notes the rows or the units that are left out."""
+    if rows.left:
+        left, count = rows.reasons(), sum(count for count, _ in rows.left.values())
+        made.left.update((why, count) for why, (count, _) in rows.left.items())
+        made.told += [counted(count, rows.what) + f" {'is' if count == 1 else 'are'} left out", *left[:LINES]]
+        made.told += [f"and for {len(left) - LINES} other reasons"] if left[LINES:] else []
+        made.told += rows.hints()
 
 
 def _judge_repeats(rows: Rows, duplicates: str | None) -> str | None:
@@ -174,9 +308,9 @@ def _judge_repeats(rows: Rows, duplicates: str | None) -> str | None:
 
 def _order(plan: Plan, used: Iterable[str]) -> list[str]:
     """Returns the sources in the order of the model, or else of the export."""
-    found = dict.fromkeys(used)
-    known = plan.records.known
-    return list(found) if known is None else [item for item in known if item in found]
+    found, known = set(used), plan.records.known
+    order = (plan.records.names.values() or used) if known is None else known
+    return [item for item in dict.fromkeys(order) if item in found]
 
 
 def _alike(records: Records, names: Collection[str]) -> Iterator[str]:
@@ -200,9 +334,15 @@ def _judge_zero(plan: Plan, made: Prepared) -> None:
 
 
 def _note_values(plan: Plan, rows: Rows, made: Prepared) -> None:
-    for it, values in zip(plan.columns, rows.values):
-        if isinstance(it, (Demand, Sum, End, Expression)) and (zeros := values.count(0)):
-            where = f": --where '{plan.export.header[it.column]}>0' leaves them out" if isinstance(it, Demand) else ""
+    gone = sum(values.count(1) for it, values in zip(rows.columns, rows.values) if isinstance(it, Abandoned))
+    made.told += [f"{counted(gone, 'job')} that gave up"] if gone else []
+    served = plan.records.served
+    made.warned += [f"{counted(served, 'service')} above 0 of jobs that gave up: taken as 0"] if served else []
+    for it, values in zip(rows.columns, rows.values):
+        if isinstance(it, (Demand, Sum, End, Expression)) and (zeros := values.count(0) - gone):
+            name = plan.export.header[it.column]
+            keeps = "" if gone else f", --abandoned '{name}<=0' keeps them as jobs that gave up"
+            where = f": --where '{name}>0' leaves them out{keeps}" if isinstance(it, Demand) else ""
             made.told.append(f"{it.name}: {counted(zeros, 'service')} of 0 ticks{where}")
         if isinstance(it, (Demand, Sum, Expression)) and it.rounded:
             made.told.append(f"{it.name}: {counted(it.rounded, 'different value')} between two ticks, rounded to the nearest")
@@ -212,7 +352,7 @@ def _note_values(plan: Plan, rows: Rows, made: Prepared) -> None:
             made.warned += _code_warnings(it)
             if plan.model is not None and it.known is None:
                 made.unlike.append(f"{it.name}: the model doesn't say which word has which number, so another export may number them differently")
-        elif isinstance(it, End) and not plan.is_ticks:
+        if not plan.is_ticks and any(isinstance(part, End) or getattr(part, "times", None) for part in getattr(it, "parts", [it])):
             over = sum(value > 12 * HOUR // plan.per for value in values)
             if over:
                 made.warned.append(f"{it.name}: {counted(over, 'service')} longer than 12 hours")

@@ -2,13 +2,14 @@
 
 from __future__ import annotations
 
+import contextlib
 import re
 from typing import TYPE_CHECKING
 
 from ..limits import SOURCES
 from ..names import name_for
 from ..times.texts import DAY, Asks, Cache, Unread, day_of
-from .values import Code
+from .values import Code, Demand
 
 if TYPE_CHECKING:
     from collections.abc import Mapping, Sequence
@@ -16,8 +17,9 @@ if TYPE_CHECKING:
     from ..times.moments import Moments
     from ..times.zones import Zone
     from .conditions import Condition
+    from .events import Log
     from .plan import Column
-    
+
 # Moments are stored as 64-bit integers, which reach from 1684 to 2255.
 MOST = 9 * 10**18
 
@@ -128,10 +130,12 @@ class Records:
     an `End` (list of Times), `values` the columns of the trace. `source` is a column, or `only` the name that all records get; `renamed` has given
     names, and `known` the allowed ones (None for any). Rows that don't meet all `conditions` (list of Condition), and those that arrive before
     `begins` or not before `ends` (moments or None), are excluded. `ended` (Times or None) are ends of services if the rows are in their order, which
-    says which hour is meant if it occurs twice."""
+    says which hour is meant if it occurs twice. Jobs that meet all conditions of `gone` (list of Condition), if there are any, gave up;
+    `served` counts services of theirs above 0, which are taken as 0."""
 
     names: dict[str, str]
-    conditions: list[Condition]
+    conditions: list[Condition | Log]
+    gone: list[Condition]
     begins: int | None
     ends: int | None
     ended: Times | None
@@ -152,7 +156,7 @@ class Records:
         self.width, self.time, self.answered, self.values = width, time, answered, values
         self.source, self.only, self.known = source, only or "", known
         self.renamed, self.names, self.conditions, self.begins, self.ends = renamed or {}, {}, [], None, None
-        self.ended = None
+        self.ended, self.gone, self.served = None, [], 0
         self._taken, self._used = set(self.renamed.values()), set()
         self._named, self._numbers = Cache(self._name_of), {}
         self._codes = [(at, it) for at, it in enumerate(values) if isinstance(it, Code)]
@@ -174,12 +178,11 @@ class Records:
         return made
 
     def many(self, rows: Sequence[Sequence[str]]) -> list[Sequence[str] | Sequence[int]]:
-        """Returns records as columns (sources, moments, and each of the values) for rows that need no individual treatment. Raises ValueError if one
-        may; nothing visible has changed then."""
-        if self.time.dates or self.answered or self.ended or set(map(len, rows)) != {self.width}:
+        """Returns records as columns (sources, moments, and each of the values) for rows that meet the conditions and need no individual treatment.
+        Raises ValueError if one may; nothing visible has changed then."""
+        if self.time.dates or self.answered or self.ended or self.gone:
             raise Unread("one by one")
-        if not all(condition.holds(row) for condition in self.conditions for row in rows):
-            raise Unread("one by one")
+        self.judge_widths(rows)
         columns = list(zip(*rows))
         stamps = self.time.how.many(columns[self.time.column])
         first, last = min(stamps), max(stamps)
@@ -190,6 +193,18 @@ class Records:
         for at, column in self._codes:
             values[at] = list(map(column.code, rows))
         return [named, stamps, *values]
+
+    def judge_widths(self, rows: Sequence[Sequence[str]]) -> None:
+        """Raises ValueError unless all rows have as many fields as the header."""
+        if set(map(len, rows)) != {self.width}:
+            raise Unread("one by one")
+
+    def _unserved(self, value: Column, row: Sequence[str]) -> int:
+        """Returns the service of a job that gave up, and counts it if the export has another."""
+        if isinstance(value, Demand) and row[value.column].strip():
+            with contextlib.suppress(ValueError):
+                self.served += value.how.ticks[row[value.column]] > 0
+        return 0
 
     def _is_within(self, stamp: int) -> bool:
         return (self.begins is None or stamp >= self.begins) and (self.ends is None or stamp < self.ends)
@@ -215,8 +230,13 @@ class Records:
                 raise Unread("out of the range of times")
             if not self._is_within(stamp):
                 raise Unwanted
-            begun = [stamp]
-            for item in self.answered:
+            begun, gone = [stamp], False
+            for condition in self.gone:
+                at = condition.column
+                gone = condition.holds(row)
+                if not gone:
+                    break
+            for item in [] if gone else self.answered:
                 at = item.column
                 begun.append(item.later(row, stamp))
                 if begun[-1] < stamp:
@@ -224,7 +244,7 @@ class Records:
             values = []
             for value in self.values:
                 at = value.column
-                values.append(value.of(row, begun))
+                values.append(self._unserved(value, row) if gone and value.is_service else value.of(row, begun))
             at = -1 if self.source is None else self.source
             source = self.only if self.source is None else self._named[row[at]]
         except Unread as error:

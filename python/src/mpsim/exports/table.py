@@ -16,15 +16,17 @@ if TYPE_CHECKING:
 
 class Table:
     """What exports of all forms have: a `header` (list of str), `rows()`, their number or that of the lines (`size`), a `sample` of them, and `notes`
-    (list of str)."""
+    (list of str). `has_header` says whether the names are the file's own."""
 
     header: list[str]
     sample: list[list[str]]
+    # The character between fields, if the form has one.
+    delimiter = ","
 
     def __init__(self, skip: int, header: str | None, notes: Iterable[str]) -> None:
         if skip < 0:
             raise ValueError(f"--skip {skip}: expected a number of lines, 0 or more")
-        self.notes, self._skip, self._has_header = list(notes), skip, header is None
+        self.notes, self._skip, self.has_header = list(notes), skip, header is None
 
     @property
     def size(self) -> int:

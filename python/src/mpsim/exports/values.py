@@ -1,4 +1,4 @@
-"""The columns of a trace after the time: service times, and words as numbers."""
+"""The columns of a trace after the time: service times and waits, and words as numbers. The services (`is_service`) of a job that gave up are 0."""
 
 from __future__ import annotations
 
@@ -11,15 +11,35 @@ if TYPE_CHECKING:
     from collections.abc import Mapping, Sequence
 
     from ..times.lengths import Lengths
+    from ..times.zones import Zone
+    from .conditions import Condition
     from .expressions import Expression
     from .records import Times
 
 # Clocks are set back by half an hour or more: a shorter service is the shortest there may be.
 REPEATED = HOUR // 2
+# The columns that jobs which gave up need: how long each waited, and whether it gave up.
+WAIT, ABANDONED = "wait", "abandoned"
+
+
+def other_length(zone: Zone, begin: int, end: int) -> int | None:
+    """Returns the nanoseconds (int) between two moments if they would be fewer with one of them in the other of two hours that the clock of a Zone
+    shows alike; None if they wouldn't, or if the order of the rows says which hour it is.
+
+    >>> from mpsim.times.zones import Zone
+    >>> other_length(Zone("Europe/Berlin", "first"), 1792889700 * 10**9, 1792894080 * 10**9) // 10**9
+    780
+    """
+    if not zone.name or end - begin < REPEATED or zone.twice not in ("first", "second"):
+        return None
+    least = min(last - first for first in zone.both(begin) for last in zone.both(end) if first <= last)
+    return least if least < end - begin else None
 
 
 class Demand:
     """A column of service times (Lengths); `empty` is the number of ticks for an empty field, or None to leave the row out."""
+
+    is_service = True
 
     def __init__(self, name: str, column: int, how: Lengths, empty: int | None = None) -> None:
         self.name, self.column, self.how, self.empty = name, column, how, empty
@@ -41,6 +61,8 @@ class Demand:
 
 class Sum:
     """Service times (`parts`, a list of Demand, End or Expression) with one name, which are rounded to ticks and added up."""
+
+    is_service = True
 
     def __init__(self, parts: Sequence[Demand | End | Expression]) -> None:
         self.parts, self.name = parts, parts[0].name
@@ -77,6 +99,8 @@ class End:
     """The time from the beginning of a service to its end in a column (Times), rounded to ticks. `begin` (int) selects the beginning: 0 is the
     arrival, 1 and up those of `Records.answered`."""
 
+    is_service = True
+
     def __init__(self, name: str, times: Times, tick: int, empty: int | None = None, begin: int = 0) -> None:
         self.name, self.times, self.tick, self.empty, self.begin = name, times, tick, empty, begin
         self.column: int = times.column
@@ -89,8 +113,10 @@ class End:
         end = self.times.later(row, begin)
         if end < begin:
             raise Unread("before the service begins")
-        if self.times.zone.name and end - begin >= REPEATED:
-            self._judge(begin, end)
+        least = other_length(self.times.zone, begin, end)
+        if least is not None:
+            lengths = f"{self._ticks(least)} or {self._ticks(end - begin)} ticks"
+            raise Asks(f"the service is {lengths} long, since an hour occurs twice: give --twice order, for rows in order of --time or of --end")
         return self._ticks(end - begin)
 
     def _ticks(self, length: int) -> int:
@@ -99,16 +125,46 @@ class End:
             raise Unread("above 2^36 ticks")
         return ticks
 
-    def _judge(self, begin: int, end: int) -> None:
-        """Raises Asks if the service would be shorter with its beginning or its end in the other of two hours that a clock shows alike."""
-        zone = self.times.zone
-        if zone.twice not in ("first", "second"):
-            return
-        begins, ends = zone.both(begin), zone.both(end)
-        least = min(last - first for first in begins for last in ends if first <= last)
-        if least < end - begin:
-            lengths = f"{self._ticks(least)} or {self._ticks(end - begin)} ticks"
-            raise Asks(f"the service is {lengths} long, since an hour occurs twice: give --twice order, for rows in order of --time or of --end")
+    def many(self, columns: Sequence[Sequence[str]]) -> list[int]:
+        """Raises Unread, since each row needs individual treatment."""
+        raise Unread("one by one")
+
+
+class Wait:
+    """How long a job waited, in the first of some columns (`parts`, a list of Demand or End) that isn't empty."""
+
+    is_service = False
+
+    def __init__(self, name: str, parts: Sequence[Demand | End]) -> None:
+        self.name, self.parts = name, parts
+        self.column: int = parts[0].column
+
+    def of(self, row: Sequence[str], begun: Sequence[int]) -> int:
+        """Returns the ticks (int) of a row. `begun` has the moment of the arrival first. Raises Unread and Asks, with the `column`."""
+        part = next((part for part in self.parts if row[part.column].strip()), self.parts[0])
+        try:
+            return part.of(row, begun)
+        except (Unread, Asks) as error:
+            error.column = part.column
+            raise
+
+    def many(self, columns: Sequence[Sequence[str]]) -> list[int]:
+        """Raises Unread, since each row needs individual treatment."""
+        raise Unread("one by one")
+
+
+class Abandoned:
+    """Whether a job gave up, which it did if it meets all conditions (list of Condition), as 1 or 0."""
+
+    # It is in several columns of the export, or none.
+    is_service, column = False, -1
+
+    def __init__(self, name: str, conditions: Sequence[Condition]) -> None:
+        self.name, self.conditions = name, conditions
+
+    def of(self, row: Sequence[str], begun: Sequence[int]) -> int:
+        """Returns 1 for the row of a job that gave up, else 0. Raises Unread and Asks."""
+        return int(all(condition.holds(row) for condition in self.conditions))
 
     def many(self, columns: Sequence[Sequence[str]]) -> list[int]:
         """Raises Unread, since each row needs individual treatment."""
@@ -117,6 +173,8 @@ class End:
 
 class Constant:
     """The same ticks for all records."""
+
+    is_service = True
 
     def __init__(self, name: str, ticks: int) -> None:
         # It is in no column of the export.
@@ -134,6 +192,8 @@ class Constant:
 class Code:
     """A column of words as numbers. Words in `known` (dict or None) have theirs; others are numbered in order of their first record, from 0 or from
     the greatest known number plus 1."""
+
+    is_service = False
 
     def __init__(self, name: str, column: int, known: Mapping[str, int] | None = None) -> None:
         self.name, self.column, self.known, self.codes = name, column, known, dict(known or {})

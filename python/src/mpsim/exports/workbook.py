@@ -60,9 +60,9 @@ class Workbook(Table):
     def rows(self) -> tuple[Reader, int]:
         """Returns a reader of the rows after the header, and the number of the first row, counted as in the spreadsheet."""
         rows, width = self._all(), len(self.header)
-        if self._has_header:
+        if self.has_header:
             next(rows, None)
-        return _Counted(_fitted(row, width) for row in rows), self._skip + 1 + self._has_header
+        return _Counted(_fitted(row, width) for row in rows), self._skip + 1 + self.has_header
 
 
 def _fitted(row: list[str], width: int) -> list[str]:

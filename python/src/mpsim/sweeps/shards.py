@@ -150,7 +150,7 @@ def one_line(error: BaseException) -> str:
 
 
 def rows_of(plan: Plan, trace: TraceFile, at: int, scenario: Scenario, pool_notes: PoolLines, nodes: Collection[str] = ()) -> list[Row]:
-    """Yields the rows (lists) of a scenario, given the number of its model: one per node or pool, or one that says why it was refused. `told`
+    """Returns the rows (lists) of a scenario, given the number of its model: one per node or pool, or one that says why it was refused. `pool_notes`
     (PoolLines) collects what to print about pools."""
     label, values, text = plan.model(at)
     head: Row = [trace["label"], label, *values.values(), scenario.status]
