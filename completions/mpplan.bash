@@ -4,7 +4,7 @@ _mpplan() {
     local word=${COMP_WORDS[COMP_CWORD]} i choices='' given=' ' options='' repeated=' ' left=''
     COMPREPLY=()
     if ((COMP_CWORD == 1)); then
-        COMPREPLY=($(compgen -W 'inspect prepare scale resample edit pool grid staff decision recorded validate run days table compare service hours sojourns sweep page --help --version' -- "$word"))
+        COMPREPLY=($(compgen -W 'inspect prepare scale resample edit pool grid staff shifts decision recorded validate run days table compare service hours sojourns sweep page --help --version' -- "$word"))
         return
     fi
     case ${COMP_WORDS[1]} in
@@ -42,6 +42,9 @@ _mpplan() {
         staff)
             options='--node --goal --every --weekday --date --patience --seed --max-occupancy --shrinkage --queue --by --tick --start --zone
                 --format --csv-style --help'
+            ;;
+        shifts)
+            options='--forms --column --every --solver --help'
             ;;
         decision)
             options='--node --out --title --goal --every --weekday --date --agents --roster --queue --first --then --choose --wait
@@ -115,6 +118,7 @@ _mpplan() {
         staff.--by) choices='source' ;;
         staff.--format) choices='csv json md xlsx' ;;
         staff.--csv-style) choices='plain excel-de' ;;
+        shifts.--solver) choices='scipy glpk' ;;
         decision.--weekday) choices='Monday Tuesday Wednesday Thursday Friday Saturday Sunday' ;;
         decision.--choose) choices='longest-idle first' ;;
         recorded.--format) choices='csv json md xlsx' ;;
@@ -141,13 +145,13 @@ _mpplan() {
         sojourns.--csv-style) choices='plain excel-de' ;;
         sweep.--csv-style) choices='plain excel-de' ;;
         *.--abandon-event | *.--abandoned | *.--add | *.--agents | *.--answered | *.--arrive-event | *.--assume | *.--begin | \
-            *.--begin-event | *.--by | *.--close | *.--code | *.--constant | *.--cost | *.--count | *.--date | *.--date-format | *.--day | \
-            *.--delimiter | *.--demand | *.--empty | *.--encoding | *.--end | *.--end-event | *.--event | *.--every | *.--first | *.--fixed \
-            | *.--format | *.--from | *.--goal | *.--header | *.--labels | *.--left-out-most | *.--load | *.--max-occupancy | *.--missing | \
-            *.--node | *.--open | *.--patience | *.--percentile | *.--pool | *.--queue | *.--rename | *.--route | *.--seed | *.--set | \
-            *.--shard | *.--sheet | *.--shift | *.--shrinkage | *.--skip | *.--source | *.--start | *.--steps | *.--then | *.--tick | \
-            *.--time | *.--title | *.--trust-calls | *.--trust-interval | *.--trust-overall | *.--unit | *.--until | *.--wait | *.--what-if \
-            | *.--where | *.--within | *.--zone) return ;;
+            *.--begin-event | *.--by | *.--close | *.--code | *.--column | *.--constant | *.--cost | *.--count | *.--date | *.--date-format \
+            | *.--day | *.--delimiter | *.--demand | *.--empty | *.--encoding | *.--end | *.--end-event | *.--event | *.--every | *.--first \
+            | *.--fixed | *.--format | *.--from | *.--goal | *.--header | *.--labels | *.--left-out-most | *.--load | *.--max-occupancy | \
+            *.--missing | *.--node | *.--open | *.--patience | *.--percentile | *.--pool | *.--queue | *.--rename | *.--route | *.--seed | \
+            *.--set | *.--shard | *.--sheet | *.--shift | *.--shrinkage | *.--skip | *.--source | *.--start | *.--steps | *.--then | \
+            *.--tick | *.--time | *.--title | *.--trust-calls | *.--trust-interval | *.--trust-overall | *.--unit | *.--until | *.--wait | \
+            *.--what-if | *.--where | *.--within | *.--zone) return ;;
     esac
     if [[ $choices ]]; then
         COMPREPLY=($(compgen -W "$choices" -- "$word"))

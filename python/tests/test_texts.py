@@ -2,10 +2,11 @@
 
 import ast
 import doctest
-import importlib
+import importlib.util
 import inspect
 import os
 import re
+import shutil
 import tempfile
 import unittest
 
@@ -99,6 +100,8 @@ class Examples(Test):
             for test in doctest.DocTestFinder().find(module_of(name)):
                 if test.examples:
                     with self.subTest(test.name):
+                        if "solver_named" in test.docstring and not (importlib.util.find_spec("scipy") or shutil.which("glpsol")):
+                            self.skipTest("neither scipy nor glpsol is installed")
                         count += self.runs(test)
         self.assertGreater(count, 50)
 
@@ -148,6 +151,7 @@ OPTIONAL = {
     "tables.sheets": BOOKS,
     "exports.workbook": BOOKS,
     "tables.sojourns": FRAMES,
+    "agents.solvers": {"scipy"},
 }
 
 

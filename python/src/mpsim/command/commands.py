@@ -9,6 +9,7 @@ COMMANDS = {
     "pool": "divide the calls of a trace among agents who share one queue",
     "grid": "compare numbers of agents and loads, as a table and a heat map",
     "staff": "find the least number of agents per interval of the day that reaches a service level",
+    "shifts": "choose shifts that cover the agents needed at least cost, and write them as a roster",
     "decision": "write a page for a decision on staffing: the goal, what was, what is proposed, and what it costs",
     "recorded": "report what the telephone system recorded, abandoned calls included, per interval of the day",
     "validate": "compare recorded waits with those of a model, per interval of the day",
