@@ -163,8 +163,8 @@ def pools_in(text: str, trace: Trace) -> list[ModelPool]:
 
 def varied(texts: Iterable[str], trace: Trace) -> list[str]:
     """Returns the names of pools (list of str) that have different numbers of agents in these models (iterable of str), and whose agents and waits
-    are columns of a trace (Trace): the trace holds for one of the numbers at most. Raises ValueError if there are some, and a pool of these models has
-    a roster, patience or priorities, since its waits can't be worked out again.
+    are columns of a trace (Trace): the trace holds for one of the numbers at most. Raises ValueError if there are some, and a pool of these models
+    has a roster, patience or priorities, since its waits can't be worked out again.
 
     >>> from mpsim.agents.waits import varied
     >>> from mpsim.traces import Trace
