@@ -18,6 +18,7 @@ from mpsim.traces import Trace
 HEAD = ["source", "time", "d"]
 
 
+
 def by_hand(calls, agents):
     """Returns the waits of calls (pairs of arrival and service time, in the order of the queue), by a clock that advances tick by tick: at each tick,
     the first in line goes to a free agent, as long as there is one."""
@@ -369,15 +370,13 @@ class Commands(WithPool):
 
     def test_the_pool_in_front_is_made_first(self):
         model = self.file("two.txt", "model 1\nsource phone\nsource web\nserver desk talk from phone web\nserver back =3 from desk\n")
-        made = [self.folder / item for item in ("b.csv", "b.txt")]
+        made = self.folder / "b.csv", self.folder / "b.txt"
         line = "the pool at back is downstream of desk: make the pool at desk first, since it decides when calls arrive at back"
-        for by in "trunk", "agents":
-            words = "--agents", 2, "--by", by
-            outputs = "--out", made[0], "--out-model", made[1]
-            self.tells("pool", model, self.trace, "--node", "back", *words, *outputs, error=together("phone, web", "back"))
+        for words in ("--agents", 2, "--by", "trunk"), ("--agents", 2, "--by", "agents"):
+            self.assertEqual(planner("pool", model, self.trace, "--node", "back", *words, "--out", made[0], "--out-model", made[1])[0], 0)
             self.refuses(line, "pool", made[1], made[0], "--node", "desk", *words)
             self.assertEqual(planner("pool", model, self.trace, "--node", "desk", *words, "--out", made[0], "--out-model", made[1])[0], 0)
-            self.assertEqual(planner("pool", made[1], made[0], "--node", "back", *words)[0], 0)
+            self.tells("pool", made[1], made[0], "--node", "back", *words, error=together("phone, web", "back"))
 
     def test_waits_that_no_column_has(self):
         trace = self.file("long.csv", "source,time,talk\nweb,1,68719476736\nweb,1,1\nweb,1,1\nphone,0,7\n")
@@ -386,9 +385,10 @@ class Commands(WithPool):
         self.tells("pool", self.model, trace, "--node", "desk", "--agents", 2, error=together("phone, web"))
 
     def test_a_full_disk(self):
-        """Nothing is left, and existing files stay. Neither exists if one of the two can't be written."""
+        """Nothing is left, and existing files stay."""
         words = "pool", self.model, self.trace, "--node", "desk", "--agents", 2
         self.refuses("/dev/full: No space left on device", *words, "--out", "/dev/full")
+        # Neither exists if one of the two can't be written.
         out = self.folder / "o"
         self.refuses("/dev/full: No space left on device", *words, "--out", "/dev/full", "--out-model", out)
         self.refuses(f"{self.folder}/absent/o: No such file or directory", *words, "--out", out, "--out-model", self.folder / "absent" / "o")

@@ -22,10 +22,6 @@ from .options import calendar_of, calendar_words, every_words, table_words
 
 if TYPE_CHECKING:
     from argparse import ArgumentParser, Namespace
-    from collections.abc import Iterable, Sequence
-    from typing import TextIO
-
-    from ..shapes import Row
 
 EXAMPLE = """mpplan staff model.txt trace.csv --node desk --goal 80/20 --weekday monday
          mpplan staff model.txt trace.csv --node desk --goal 90/1min --every 15min --shrinkage 30% --max-occupancy 85% --format md"""

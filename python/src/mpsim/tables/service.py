@@ -5,7 +5,7 @@ from __future__ import annotations
 from bisect import bisect_right
 from typing import TYPE_CHECKING
 
-from ..node_visits import HELD, LOST, NodeVisits, percentile_of
+from ..node_visits import HELD, LOST, percentile_of
 from .visits import Passing, of_source
 
 if TYPE_CHECKING:
