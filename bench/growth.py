@@ -19,7 +19,7 @@ import tempfile
 import time
 
 from growth_picture import STYLES, Point, picture, tables
-from measure import INPUTS, Input, least, measure_small, memory_settings, processors, write_model, write_trace
+from measure import INPUTS, Failed, call, in_turn, least, memory_settings, processors, servers_in_a_row, write_model, write_trace
 
 PICTURE = os.path.join(os.path.dirname(os.path.dirname(os.path.abspath(__file__))), "docs", "growth.svg")
 OVER_ROWS = "server", "call-centre", "twelve"
@@ -40,22 +40,15 @@ def counts(words):
     return sorted(count(part) for part in words.split(","))
 
 
-def in_a_row(servers):
-    """A source and this many servers, which alternate between the service times of the two columns."""
-    names = ["src", *(f"s{number}" for number in range(1, servers + 1))]
-    return Input(["src"], [f"server {name} {'de'[at % 2]} from {names[at]}" for at, name in enumerate(names[1:])], {"d": 9, "e": 9}, 10)
-
-
 def points_of(args, setting, name, at, model, trace):
-    """Returns the points of an input at one size. All numbers of workers run in turn, so that a slow minute affects them equally."""
-    runs = {workers: [] for workers in args.workers}
-    for workers in args.workers * args.runs:
-        run = measure_small([args.program, model, trace, "--report", "2", "--workers", str(workers)], setting)
-        runs[workers].append(run)
-        if run.status or run.out != runs[args.workers[0]][0].out:
-            told = f"status {run.status}: {run.err.decode(errors='replace').strip()}" if run.status else "another report"
-            sys.exit(f"growth: {STYLES[name].name}, {at:,}, --workers {workers}: {told}")
-    points = [Point(name, at, workers, round(least(done), 6), round(max(item.megabytes for item in done), 2)) for workers, done in runs.items()]
+    """Returns the points of an input at one size."""
+    calls = {f"--workers {workers}": call(args.program, model, trace, workers) for workers in args.workers}
+    try:
+        runs = in_turn(calls, args.runs, setting)
+    except Failed as why:
+        sys.exit(f"growth: {STYLES[name].name}, {at:,}, {why}")
+    figures = [(round(least(done), 6), round(max(item.megabytes for item in done), 2)) for done in runs.values()]
+    points = [Point(name, at, workers, *pair) for workers, pair in zip(args.workers, figures)]
     print(f"{STYLES[name].name}, {at:,}:", *(f"{point.seconds:.4f}" for point in points), file=sys.stderr, flush=True)
     return points
 
@@ -70,9 +63,9 @@ def series(args):
             for at in args.rows:
                 write_trace(trace, INPUTS[name], at)
                 rows += points_of(args, setting, name, at, model, trace)
-        write_trace(trace, in_a_row(1), args.over)
+        write_trace(trace, servers_in_a_row(1), args.over)
         for at in args.servers:
-            write_model(model, in_a_row(at))
+            write_model(model, servers_in_a_row(at))
             nodes += points_of(args, setting, "row", at, model, trace)
     took = time.monotonic() - began
     worked, steal = (after - then for after, then in zip(processors(), before))

@@ -17,6 +17,20 @@ BEGINS = 'export "$1"; shift; echo; read -r line; "$@" </dev/null &'
 # the trace has correspondingly fewer records: a node has at most 1,048,576 visits.
 Input = namedtuple("Input", "sources lines columns step version visits", defaults=[1, 1])
 
+
+def in_a_row(nodes, step, *lines):
+    """Returns a source and this many nodes in a row, which alternate between these lines of a model; {} is the name of a node, and then its input."""
+    names = ["src", *(f"n{number}" for number in range(1, nodes + 1))]
+    return Input(["src"], [lines[at % len(lines)].format(name, names[at]) for at, name in enumerate(names[1:])], {"d": 9, "e": 9}, step)
+
+
+def servers_in_a_row(servers):
+    """Returns a source and this many servers, which alternate between the service times of the two columns."""
+    return in_a_row(servers, 10, "server {} d from {}", "server {} e from {}")
+
+
+TANDEM = "tandem {} d / 2 e / 1 d / 3 e from {}"
+
 INPUTS = {
     "server": Input(["src"], ["server desk d from src"], {"d": 9}, 10),
     "two-servers": Input(["src"], ["server a d from src", "server b e from a"], {"d": 9, "e": 9}, 10),
@@ -28,7 +42,12 @@ INPUTS = {
     ),
     "delay": Input(["src"], ["delay w d from src", "server q e from w"], {"d": 100, "e": 9}, 10),
     "fork-join": Input(["src"], ["forkjoin f d | e e from src"], {"d": 9, "e": 5}, 12),
-    "tandem": Input(["src"], ["tandem t d / 2 e / 1 d / 3 e from src"], {"d": 9, "e": 9}, 12),
+    "tandem": in_a_row(1, 12, TANDEM),
+    "three-tandems": in_a_row(3, 12, TANDEM),
+    "ten-tandems": in_a_row(10, 12, TANDEM),
+    "forty-servers": servers_in_a_row(40),
+    # links with tail drop, each followed by its propagation delay
+    "six-links": in_a_row(12, 10, "loss {} 8 d from {}", "delay {} =50 from {}", "loss {} 8 e from {}", "delay {} =50 from {}"),
     "loss": Input(["src"], ["loss l 3 d from src"], {"d": 9}, 6),
     "overload": Input(["src"], ["loss l 1 =2 from src"], {}, 0),
     "trunk": Input(["src"], ["trunk t 30 d from src"], {"d": 300}, 10, 2),
@@ -75,6 +94,11 @@ INPUTS = {
         12,
     ),
 }
+
+
+class Failed(Exception):
+    """Why a series of runs can't go on."""
+
 
 # Times are in seconds: wall-clock time, and CPU time.
 Measure = namedtuple("Measure", "seconds worked megabytes status out err")
@@ -136,6 +160,25 @@ def measure_small(words, setting):
         shell.returncode = 0
     status, usage = next(end[1:] for end in ends if end[0] != shell.pid)
     return Measure(seconds, usage.ru_utime + usage.ru_stime, usage.ru_maxrss / 1024, os.waitstatus_to_exitcode(status), out, err)
+
+
+def in_turn(calls, runs, setting):
+    """Makes these calls, given by name, this many times in turn, so that a slow minute affects all of them equally. Returns the runs of each. The
+    series ends with the first run that fails or writes another report."""
+    done = {name: [] for name in calls}
+    for name, words in [*calls.items()] * runs:
+        run = measure_small(words, setting)
+        if run.status:
+            raise Failed(f"{name}: status {run.status}: {run.err.decode(errors='replace').strip()}")
+        done[name].append(run)
+        if run.out != done[next(iter(calls))][0].out:
+            raise Failed(f"{name}: another report")
+    return done
+
+
+def call(program, model, trace, workers):
+    """Returns the words of a call in form 2, with this many workers."""
+    return [program, model, trace, "--report", "2", "--workers", str(workers)]
 
 
 def processors():

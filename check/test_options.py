@@ -162,7 +162,7 @@ class Planner(Check):
         for before, wanted in (
             ([""], sorted([*mpplan_words.COMMANDS, "--help", "--version"])),
             (["s"], ["scale", "service", "sojourns", "staff", "sweep"]),
-            (["scale", "--shift", "5", "--source", "web", "--s"], ["--source"]),
+            (["scale", "--shift", "5", "--source", "web", "--s"], ["--source", "--start"]),
             (["hours", "--by", ""], ["day", "each", "hour", "weekday"]),
             (["scale", "--by", ""], []),
             (["sojourns", "--by", "s"], ["source"]),

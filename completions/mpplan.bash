@@ -4,7 +4,7 @@ _mpplan() {
     local word=${COMP_WORDS[COMP_CWORD]} i choices='' given=' ' options='' repeated=' ' left=''
     COMPREPLY=()
     if ((COMP_CWORD == 1)); then
-        COMPREPLY=($(compgen -W 'inspect prepare scale edit pool staff recorded validate run days table compare service hours sojourns sweep page --help --version' -- "$word"))
+        COMPREPLY=($(compgen -W 'inspect prepare scale resample edit pool grid staff decision recorded validate run days table compare service hours sojourns sweep page --help --version' -- "$word"))
         return
     fi
     case ${COMP_WORDS[1]} in
@@ -19,27 +19,42 @@ _mpplan() {
             repeated=' --demand --end --answered --constant --code --wait --abandoned --rename --arrive-event --begin-event --end-event --abandon-event --where '
             ;;
         scale)
-            options='--by --shift --times --twins --source --out --help'
+            options='--by --shift --times --twins --source --out --model --tick --start --zone --help'
             repeated=' --source '
+            ;;
+        resample)
+            options='--model --unit --count --seed --out --node --agents --within --percentile --tick --start --zone --format --csv-style
+                --help'
+            repeated=' --node --within --percentile '
             ;;
         edit)
             options='--model --out --edits --help'
             ;;
         pool)
-            options='--node --agents --roster --first --then --choose --patience --seed --every --tick --start --zone --by --out --out-model
-                --report --within --percentile --format --csv-style --help'
+            options='--node --agents --roster --queue --first --then --choose --patience --seed --every --tick --start --zone --by --out
+                --out-model --report --within --percentile --format --csv-style --help'
             repeated=' --first --then --within --percentile '
             ;;
+        grid)
+            options='--node --agents --load --add --goal --shift --times --page --tick --start --zone --format --csv-style --help'
+            repeated=' --add '
+            ;;
         staff)
-            options='--node --goal --every --weekday --date --patience --seed --max-occupancy --shrinkage --format --tick --start --zone
-                --help'
+            options='--node --goal --every --weekday --date --patience --seed --max-occupancy --shrinkage --queue --by --tick --start --zone
+                --format --csv-style --help'
+            ;;
+        decision)
+            options='--node --out --title --goal --every --weekday --date --agents --roster --queue --first --then --choose --wait
+                --abandoned --patience --seed --shrinkage --cost --what-if --assume --missing --tick --start --zone --help'
+            repeated=' --first --then --what-if --assume --missing '
             ;;
         recorded)
-            options='--wait --abandoned --within --every --source --model --tick --start --zone --help'
+            options='--wait --abandoned --within --every --source --queue --model --tick --start --zone --format --csv-style --help'
             repeated=' --source '
             ;;
         validate)
-            options='--node --agents --roster --first --then --choose --wait --abandoned --within --every --tick --start --zone --help'
+            options='--node --agents --roster --queue --first --then --choose --wait --abandoned --within --every --trust-overall
+                --trust-interval --trust-calls --tick --start --zone --format --csv-style --help'
             repeated=' --first --then '
             ;;
         run)
@@ -58,15 +73,15 @@ _mpplan() {
             repeated=' --node '
             ;;
         service)
-            options='--node --pool --within --percentile --format --csv-style --help'
+            options='--node --pool --by --within --percentile --tick --format --csv-style --help'
             repeated=' --node --pool --within --percentile '
             ;;
         hours)
-            options='--node --pool --by --model --within --percentile --tick --start --zone --format --csv-style --help'
-            repeated=' --node --pool --within --percentile '
+            options='--node --pool --by --model --source --within --percentile --tick --start --zone --format --csv-style --help'
+            repeated=' --node --pool --source --within --percentile '
             ;;
         sojourns)
-            options='--by --within --percentile --each --format --csv-style --help'
+            options='--by --within --percentile --each --tick --format --csv-style --help'
             repeated=' --within --percentile '
             ;;
         sweep)
@@ -87,13 +102,26 @@ _mpplan() {
         prepare.--duplicates) choices='drop keep' ;;
         prepare.--decimal) choices='. ,' ;;
         prepare.--split-by) choices='month week day' ;;
+        resample.--unit) choices='day' ;;
+        resample.--format) choices='csv json md xlsx' ;;
+        resample.--csv-style) choices='plain excel-de' ;;
         pool.--choose) choices='longest-idle first' ;;
         pool.--by) choices='trunk agents' ;;
         pool.--format) choices='csv json md xlsx' ;;
         pool.--csv-style) choices='plain excel-de' ;;
+        grid.--format) choices='csv json md xlsx' ;;
+        grid.--csv-style) choices='plain excel-de' ;;
         staff.--weekday) choices='Monday Tuesday Wednesday Thursday Friday Saturday Sunday' ;;
-        staff.--format) choices='csv json md' ;;
+        staff.--by) choices='source' ;;
+        staff.--format) choices='csv json md xlsx' ;;
+        staff.--csv-style) choices='plain excel-de' ;;
+        decision.--weekday) choices='Monday Tuesday Wednesday Thursday Friday Saturday Sunday' ;;
+        decision.--choose) choices='longest-idle first' ;;
+        recorded.--format) choices='csv json md xlsx' ;;
+        recorded.--csv-style) choices='plain excel-de' ;;
         validate.--choose) choices='longest-idle first' ;;
+        validate.--format) choices='csv json md xlsx' ;;
+        validate.--csv-style) choices='plain excel-de' ;;
         days.--format) choices='csv json md xlsx' ;;
         days.--csv-style) choices='plain excel-de' ;;
         table.--of) choices='nodes exits visits' ;;
@@ -102,6 +130,7 @@ _mpplan() {
         compare.--figure) choices='in out lost held wait max p50 p90 p99 busy area peak util mean_wait mean_time share_lost' ;;
         compare.--format) choices='csv json md xlsx' ;;
         compare.--csv-style) choices='plain excel-de' ;;
+        service.--by) choices='source' ;;
         service.--format) choices='csv json md xlsx' ;;
         service.--csv-style) choices='plain excel-de' ;;
         hours.--by) choices='hour day weekday each' ;;
@@ -111,13 +140,14 @@ _mpplan() {
         sojourns.--format) choices='csv json md xlsx' ;;
         sojourns.--csv-style) choices='plain excel-de' ;;
         sweep.--csv-style) choices='plain excel-de' ;;
-        *.--abandon-event | *.--abandoned | *.--agents | *.--answered | *.--arrive-event | *.--begin | *.--begin-event | *.--by | *.--close \
-            | *.--code | *.--constant | *.--date | *.--date-format | *.--day | *.--delimiter | *.--demand | *.--empty | *.--encoding | \
-            *.--end | *.--end-event | *.--event | *.--every | *.--first | *.--fixed | *.--format | *.--from | *.--goal | *.--header | \
-            *.--labels | *.--left-out-most | *.--max-occupancy | *.--node | *.--open | *.--patience | *.--percentile | *.--pool | *.--rename \
-            | *.--route | *.--seed | *.--set | *.--shard | *.--sheet | *.--shift | *.--shrinkage | *.--skip | *.--source | *.--start | \
-            *.--steps | *.--then | *.--tick | *.--time | *.--title | *.--unit | *.--until | *.--wait | *.--where | *.--within | *.--zone) \
-            return ;;
+        *.--abandon-event | *.--abandoned | *.--add | *.--agents | *.--answered | *.--arrive-event | *.--assume | *.--begin | \
+            *.--begin-event | *.--by | *.--close | *.--code | *.--constant | *.--cost | *.--count | *.--date | *.--date-format | *.--day | \
+            *.--delimiter | *.--demand | *.--empty | *.--encoding | *.--end | *.--end-event | *.--event | *.--every | *.--first | *.--fixed \
+            | *.--format | *.--from | *.--goal | *.--header | *.--labels | *.--left-out-most | *.--load | *.--max-occupancy | *.--missing | \
+            *.--node | *.--open | *.--patience | *.--percentile | *.--pool | *.--queue | *.--rename | *.--route | *.--seed | *.--set | \
+            *.--shard | *.--sheet | *.--shift | *.--shrinkage | *.--skip | *.--source | *.--start | *.--steps | *.--then | *.--tick | \
+            *.--time | *.--title | *.--trust-calls | *.--trust-interval | *.--trust-overall | *.--unit | *.--until | *.--wait | *.--what-if \
+            | *.--where | *.--within | *.--zone) return ;;
     esac
     if [[ $choices ]]; then
         COMPREPLY=($(compgen -W "$choices" -- "$word"))

@@ -21,6 +21,11 @@ def planner(*words):
     return status, out.getvalue(), err.getvalue()
 
 
+def together(names, node="desk", how="--every gives each"):
+    """Returns what a call writes to stderr if the figures of a node are those of sources with these names."""
+    return f"mpplan: figures of several sources together ({names}) at {node}; {how}\n"
+
+
 class InFolder(Test):
     """A test with a directory of its own, in which no incomplete file is left."""
 

@@ -30,6 +30,7 @@ class Abandoned(InFolder):
             {"demand": ["talk"], "wait": ["answered", "end"], "abandoned": ["state=gone", "talk="]},
             {"answered": ["answered"], "end": ["end=talk"], "wait": ["answered", "end"], "abandoned": ["answered="]},
             {"demand": ["talk=end-answered"], "wait": ["wait"], "abandoned": ["state~GON"]},
+            {"demand": ["talk"], "wait": ["wait"], "abandoned": ["who=a", "state=gone"]},
         ):
             with self.subTest(options):
                 it = made(**options)

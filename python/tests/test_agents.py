@@ -121,13 +121,17 @@ class Compared(Test):
     def test_the_pool(self):
         """With agents who are always there, one queue and no patience: the agents and the waits of the pool, in both kinds of order."""
         draw = random.Random(4)
-        for number in range(400):
+        for number in range(1000):
             agents, span, longest = draw.randrange(1, 9), draw.choice([5, 60, 400]), draw.choice([1, 6, 40])
             arrivals = [draw.randrange(span) for _ in range(60)]
             services = [draw.randrange(longest) for _ in range(60)]
             if number % 2:
                 arrivals.sort()
-            self.assertEqual(Group([Agent()] * agents).assigned(arrivals, services), pool(arrivals, services, agents))
+            want = pool(arrivals, services, agents)
+            self.assertEqual(Group([Agent()] * agents).assigned(arrivals, services), want)
+            # One interval each, and one queue that all serve.
+            group = Group([Agent([(0, 10**6)], ["desk"])] * agents, {"desk": 1})
+            self.assertEqual(group.assigned(arrivals, services, ["desk"] * 60, [None] * 60), want)
 
     def test_the_checker_sees_each_rule(self):
         """Outcomes that are wrong in one way."""

@@ -47,7 +47,8 @@ class Anew(InFolder):
         for name, count in agents.items():
             out, made = self.folder / f"{name}.{by}.csv", self.folder / f"{name}.{by}.txt"
             words = "--node", name, "--agents", count, "--by", by, "--out", out, "--out-model", made
-            self.assertEqual(planner("pool", model, trace, *words)[::2], (0, ""))
+            status, _, told = planner("pool", model, trace, *words)
+            self.assertEqual(status, 0, told)
             model, trace = made, out
         return model, trace
 

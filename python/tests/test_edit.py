@@ -120,7 +120,7 @@ class Forms(Changing):
         trace = "source,time,empty,note\na,0,1,x\n"
         self.assertEqual(self.rows("record,empty\n1,4\n", trace), ["a,0,4,x\n"])
         self.assertEqual(self.rows("record,empty,out\n1,+4,\n", trace), ["a,0,5,x\n"])
-        self.refused('"empty" of record 1: "note" is not a number, +N, -N or *N', "record,empty\n1,note\n", trace)
+        self.refused('"empty" of record 1: "note" is not a number, +N, -N, *N or +N%', "record,empty\n1,note\n", trace)
         self.refused('"Empty" is not a column of the trace; it has source, time, empty, note', "record,Empty\n1,4\n", trace, where=": row 1: ")
         self.assertEqual(self.rows("record,empty,Empty\n1,Empty,\n", trace.replace("empty", "Empty").replace(",1,", ",b,")), ["a,0,,x\n"])
 
@@ -135,6 +135,34 @@ class Forms(Changing):
         self.assertEqual(self.rows("record,g,out\n1,5,\n1,,yes\n", told="2 records (from 3): 0 changed, 0 added, 1 removed"), [b, c])
         changes = "record,source,time,out\n+,b,5,\n2,,,yes\n+,b,6,\n3,,+1,\n"
         self.assertEqual(self.rows(changes, "source,time\na,0\n", told="2 records (from 1): 0 changed, 1 added, 0 removed"), ["a,0\n", "b,7\n"])
+
+    def test_all_records_and_those_to_the_end(self):
+        """`*` is every record that is left, those added before included; `2-` goes to the end."""
+        trace = "source,time,d\na,0,10\na,5,20\na,9,30\n"
+        told = "3 records (from 3): 3 changed, 0 added, 0 removed"
+        self.assertEqual(self.rows("record,d\n*,+1\n", trace, told=told), ["a,0,11\n", "a,5,21\n", "a,9,31\n"])
+        self.assertEqual(self.rows("record,d\n2-,*2\n", trace), ["a,0,10\n", "a,5,40\n", "a,9,60\n"])
+        changes = "record,source,time,d,out\n+,b,7,40,\n2,,,,yes\n*,,+1,,\n3-,,,+1,\n"
+        told = "3 records (from 3): 2 changed, 1 added, 1 removed"
+        self.assertEqual(self.rows(changes, trace, told=told), ["a,1,10\n", "a,10,31\n", "b,8,41\n"])
+        told = "0 records (from 3): 0 changed, 0 added, 3 removed"
+        self.assertEqual(self.rows("record,out\n2,yes\n*,yes\n", trace, told=told), [])
+        self.assertEqual(self.rows("record,out\n3-,yes\n", trace), ["a,0,10\n", "a,5,20\n"])
+        self.refused('record "4-": expected a number from 1 to 3, a range as 100-109 or 100-, *, or +', "record,time\n4-,1\n", trace)
+
+    def test_percent(self):
+        """Exact, and rounded half up."""
+        trace = "source,time,d\n" + "".join(f"a,0,{value}\n" for value in (0, 1, 4, 5, 10, 25, 1000, 10**9 + 7))
+        for text, factor in ("+12%", (112, 100)), ("-10%", (9, 10)), ("+12.5%", (1125, 1000)), ("+0.2 %", (1002, 1000)), ("+250%", (35, 10)):
+            want = [(2 * value * factor[0] + factor[1]) // (2 * factor[1]) for value in (0, 1, 4, 5, 10, 25, 1000, 10**9 + 7)]
+            self.assertEqual(self.rows(f"record,d\n*,{text}\n", trace), [f"a,0,{it}\n" for it in want])
+        self.assertEqual(self.rows("record;d\n*;+12,5%\n", "source,time,d\na,0,8\n"), ["a,0,9\n"])
+        self.refused('"d" of record 1: "-150%" turns 10 into -5, which is below 0', "record,d\n1,-150%\n", "source,time,d\na,0,10\n")
+        says = '"d" of record 1: "+1,5%" is not a valid +N%: in a comma-separated file, write a decimal point'
+        self.refused(says, 'record,d\n1,"+1,5%"\n', "source,time,d\na,0,10\n")
+        says = '"d" of record 1: "+1,500%" could mean 1.5 or 1500: write +1.5% or +1500%'
+        self.refused(says, "record;d\n1;+1,500%\n", "source,time,d\na,0,10\n")
+        self.refused('"d" of record 1: "12%" is not a number, +N, -N, *N or +N%', "record,d\n1,12%\n", "source,time,d\na,0,10\n")
 
     def test_bytes_that_stay(self):
         """Unchanged rows stay as they were, including quotes, line ends and a byte order mark; changed ones keep their line end."""
@@ -164,7 +192,7 @@ class Forms(Changing):
         changes = '\ufeff"record","note",time\r\n\r\n1,"p\nq",\r\n,,\r\n"2-3",\udce4,"+1"\r\n'
         self.assertEqual(self.rows(changes, CALLS.replace("z", "\udcfc"))[-1], "phone,10,2,0,\udce4\n")
         changes = self.file("c.csv", 'record,note,time\n\n1,"p\nq",\n1,,x5\n')
-        line = f'{changes}: row 4: "time" of record 1: "x5" is not a number, +N, -N or *N'
+        line = f'{changes}: row 4: "time" of record 1: "x5" is not a number, +N, -N, *N or +N%'
         self.refuses(line, "edit", self.file("t.csv", CALLS), changes)
 
     def test_long_fields_of_a_library(self):
@@ -234,11 +262,11 @@ class Refusals(Changing):
         self.refused("2 fields, but the header has 3", 'record,note,time\r1,"x,5\r2,y,6\r')
         # With another delimiter than the header.
         for row in "1;+5", "1|+5", "1 +5":
-            self.refused(f'record "{row}": expected a number from 1 to 3, a range as 100-109, or +', f"record,time\n{row}\n")
-        forms = "expected a number from 1 to 3, a range as 100-109, or +"
+            self.refused(f'record "{row}": expected a number from 1 to 3, a range as 100-109 or 100-, *, or +', f"record,time\n{row}\n")
+        forms = "expected a number from 1 to 3, a range as 100-109 or 100-, *, or +"
         for record in "0", "4", "1-4", "3-2", "0-1", "x", "", "-1", "+1", " 1", "1 - 2", "1-2-3", "1.0", "\u0663", "000000000000000000001", "++":
             self.refused(f'record "{record}": {forms}', f"record,time\n{record},2\n")
-        self.refused('record "+": expected a number from 1 to 3, a range as 100-109', "record,out\n+,yes\n")
+        self.refused('record "+": expected a number from 1 to 3, a range as 100-109 or 100-, *', "record,out\n+,yes\n")
         path = self.folder / "c.csv"
         self.refused(f"record 2 is already removed ({path}: row 2)", "record,out,time\n2,yes,\n1-3,,5\n", where=": row 3: ")
         self.refused(f"record 2 is already removed ({path}: row 2)", "record,out\n2,yes\n2,yes\n", where=": row 3: ")
@@ -258,24 +286,24 @@ class Refusals(Changing):
 
     def test_values(self):
         for name, text, why in (
-            ("time", "x5", "is not a number, +N, -N or *N"),
-            ("time", "8:00", "is not a number, +N, -N or *N"),
-            ("time", "5.0", "is not a number, +N, -N or *N"),
-            ("time", "+5.5", "is not a number, +N, -N or *N"),
-            ("time", "+-5", "is not a number, +N, -N or *N"),
-            ("time", " 5", "is not a number, +N, -N or *N"),
-            ("time", "*1.", "is not a number, +N, -N or *N"),
-            ("time", "*.5", "is not a number, +N, -N or *N"),
-            ("time", "*1e3", "is not a number, +N, -N or *N"),
-            ("time", "*-1", "is not a number, +N, -N or *N"),
-            ("time", "\u0665", "is not a number, +N, -N or *N"),
+            ("time", "x5", "is not a number, +N, -N, *N or +N%"),
+            ("time", "8:00", "is not a number, +N, -N, *N or +N%"),
+            ("time", "5.0", "is not a number, +N, -N, *N or +N%"),
+            ("time", "+5.5", "is not a number, +N, -N, *N or +N%"),
+            ("time", "+-5", "is not a number, +N, -N, *N or +N%"),
+            ("time", " 5", "is not a number, +N, -N, *N or +N%"),
+            ("time", "*1.", "is not a number, +N, -N, *N or +N%"),
+            ("time", "*.5", "is not a number, +N, -N, *N or +N%"),
+            ("time", "*1e3", "is not a number, +N, -N, *N or +N%"),
+            ("time", "*-1", "is not a number, +N, -N, *N or +N%"),
+            ("time", "\u0665", "is not a number, +N, -N, *N or +N%"),
             ("time", "000000000000000000005", "has more than 20 digits in a row"),
             ("time", "+000000000000000000005", "has more than 20 digits in a row"),
             ("g", f"*0.{'3' * 36}", "has more than 20 digits in a row"),
-            ("g", f"x{'3' * 36}", "is not a number, +N, -N or *N"),
+            ("g", f"x{'3' * 36}", "is not a number, +N, -N, *N or +N%"),
             ("g", '"*1,5"', "is not a valid *N: in a comma-separated file, write a decimal point"),
-            ("g", '"+1,5"', "is not a number, +N, -N or *N"),
-            ("g", "x", "is not a number, +N, -N or *N"),
+            ("g", '"+1,5"', "is not a number, +N, -N, *N or +N%"),
+            ("g", "x", "is not a number, +N, -N, *N or +N%"),
             ("time", "-10", "turns 9 into -1, which is below 0"),
             ("time", TIME + 1, f"is above {TIME}"),
             ("time", f"+{TIME}", f"turns 9 into {TIME + 9}, which is above {TIME}"),
@@ -290,7 +318,7 @@ class Refusals(Changing):
             self.refused(f'"{name}" of record 3: "{shown}" {why}', f"record,{name}\n3,{text}\n")
         self.refused('"time" of record 4: "+5" is not a number', "record,source,time,g,kind,note\n+,web,+5,1,1,1\n")
         self.refused('"time" of record 2: "+5" needs a number to change, but the record has "x"', "record,time\n1-2,+5\n", "source,time\na,1\na,x\n")
-        self.refused('"g" of record 3: "*1,x" is not a number, +N, -N or *N', "record;g\n3;*1,x\n")
+        self.refused('"g" of record 3: "*1,x" is not a number, +N, -N, *N or +N%', "record;g\n3;*1,x\n")
         for word, why in (
             ("*1,500", "could mean 1.5 or 1500: write *1.5 or *1500"),
             ("*1.500", "could mean 1.5 or 1500: write *1.5 or *1500"),
@@ -311,7 +339,7 @@ class Refusals(Changing):
             self.assertEqual(planner("edit", self.file("t.csv", trace), self.file("c.csv", changes))[1].splitlines(True)[1:], [wanted])
 
         trace = f"source,time,id\na,1,{VALUE + 1}\n"
-        self.refused('"id" of record 1: "x" is not a number, +N, -N or *N', "record,id\n1,x\n", trace)
+        self.refused('"id" of record 1: "x" is not a number, +N, -N, *N or +N%', "record,id\n1,x\n", trace)
         made = (VALUE + 1) * 10**10
         why = f"turns {VALUE + 1} into {made}, which is above {10**20 - 1}"
         self.refused(f'"id" of record 1: "*10000000000" {why}', "record,id\n1,*10000000000\n", trace)

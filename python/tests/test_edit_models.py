@@ -13,7 +13,7 @@ class Models(Changing):
         model = self.file("m.txt", "model 1\nsource phone\nsource branch\nserver s g from phone branch\n")
         words = "--model", model
         self.refused(f'"source" of record 1: "web" is not a source of {model}', "record,source\n1,web\n", CALLS, *words)
-        self.refused('"g" of record 1: "x" is not a number, +N, -N or *N', "record,g\n1,x\n", CALLS, *words)
+        self.refused('"g" of record 1: "x" is not a number, +N, -N, *N or +N%', "record,g\n1,x\n", CALLS, *words)
         # Columns that it doesn't name may hold anything, although the trace has numbers there.
         out = planner("edit", self.file("t.csv", CALLS), self.file("c.csv", "record,source,kind\n3,branch,k\n"), *words)[1]
         self.assertTrue(out.endswith("branch,9,2,k,z\n"), out)

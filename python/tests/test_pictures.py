@@ -3,9 +3,9 @@
 import re
 import unittest
 
-from ground import Test, nodes_of
+from ground import Test, nodes_of, waits_of
 from looking import DRIVER, NODE, Browser, StandIn, webdriver
-from test_looks import Looking
+from test_looks import Looking, day, places
 from test_page import number
 
 import mpsim
@@ -48,6 +48,37 @@ class Pictures(Looking):
                 want = f"{at:,} to {at + len(mine):,}: {mean} in the node on average, {max(mine)} at most"
                 self.assertEqual(self.texts("[data-told=number]"), [want])
                 self.looker.press("[data-picture=number]", "ArrowRight")
+
+    def test_one_curve_a_load(self):
+        """Runs by agents and by load: the number with more values is the axis, and each load has a line of its own, in rising order."""
+        runs = {(places_, load): mpsim.run(places(places_), day(load, 300), jobs=True) for load in (2, 5) for places_ in (6, 2, 3)}
+        self.looker.show(page(runs.values(), runs))
+        self.looker.click("g.node", self.nodes()["expert"])
+        self.looker.pick("#figure", self.texts("#figure option").index("mean wait"))
+        self.assertEqual(self.attributes("#curve path.share", "data-curve"), ["2", "5"])
+        self.assertEqual(self.texts("#curve text.curve"), ["2", "5"])
+        labels, *both = (self.attributes("#curve circle", name) for name in ("data-label", "cx", "cy"))
+        dots = dict(zip(labels, zip(*both)))
+        self.assertEqual(set(dots), {f"{one}, {load}" for one, load in runs})
+        for load, path in zip((2, 5), self.attributes("#curve path.share", "d")):
+            self.assertEqual(re.findall(r"[ML]([\d.]+) ([\d.]+)", path), [dots[f"{it}, {load}"] for it in (2, 3, 6)])
+        self.assertEqual(len(set(self.attributes("#curve path.share", "stroke-dasharray"))), 2)
+        # Plain labels have one line; labels without a number one by one.
+        for labels, curves in ([2, 3, 6], [""]), ([("a", "b"), ("a", "c"), ("d", "e")], [""]), (["x", ("a", 1), ("b", 2)], [""]):
+            self.looker.show(page(self.several, labels))
+            self.assertEqual(self.attributes("#curve path.share", "data-curve"), curves)
+
+    def test_the_time_to_be_served_within(self):
+        """The field begins with the time that the page was made for, and shows the shares of it; without one with the median."""
+        self.looker.show(page([self.report], within=60))
+        self.looker.click("g.node", self.nodes()["expert"])
+        self.assertEqual(self.attributes("#ticks", "value"), ["60"])
+        waits, came = waits_of(self.text, "expert"), int(next(node["in"] for node in nodes_of(self.text) if node["name"] == "expert"))
+        told = [float(found) for found in re.findall(r"([\d.]+) %", self.texts("#of-all")[0])]
+        self.assertTrue(told[0] - 0.051 <= 100 * sum(wait <= 60 for wait in waits) / came <= told[-1] + 0.051)
+        self.looker.show(page([self.report]))
+        self.looker.click("g.node", self.nodes()["expert"])
+        self.assertEqual(self.attributes("#ticks", "value"), [next(node["p50"] for node in nodes_of(self.text) if node["name"] == "expert")])
 
     def test_a_pool(self):
         """Its box, cards and charts show the waits in its queue; without job lines its box has the mean wait, in each run."""

@@ -7,7 +7,7 @@ import math
 import random
 import unittest
 
-from commands import InFolder, planner
+from commands import InFolder, planner, together
 from ground import DESK, EXAMPLES, Test, nodes_of, text_of, waits_of, words_of
 
 import mpsim
@@ -16,6 +16,7 @@ from mpsim.agents.queues import Queue, pool
 from mpsim.traces import Trace
 
 HEAD = ["source", "time", "d"]
+
 
 
 def by_hand(calls, agents):
@@ -224,14 +225,14 @@ class Commands(WithPool):
         want = "source,time,talk,note,desk_agent,desk_wait\nweb,1,4,a,1,6\nphone,1,9,\"b,c\",2,0\nphone,0,7,d,1,0\n"
         for by in "trunk", "agents":
             words = "pool", self.model, self.trace, "--node", "desk", "--agents", 2, "--by", by, "--out", out, "--out-model", model, "--within", 3
-            told = self.tells(*words)
+            told = self.tells(*words, error=together("phone, web"))
             self.assertEqual(told.splitlines()[0].split(",")[:8], ["agents", "util", "came", "departed", "lost", "held", "mean_wait", "p50"])
             self.assertEqual(told.splitlines()[1], "2,0.9090,3,3,0,0,2.0,0,6,6,6,6,0.666667,0.666667")
             self.assertEqual(text_of(out), want)
             jobs.write_text("".join(mpsim.run(model, out, jobs=True).lines()))
             told = self.tells("pool", "--report", jobs, "--node", "desk", "--within", 3)
             self.assertEqual(told.splitlines()[1], "desk,3,3,0,0,2.0,0,6,6,6,6,0.666667,0.666667")
-            self.assertEqual(self.tells("service", jobs, "--pool", "desk", "--within", 3), told)
+            self.assertEqual(planner("service", jobs, "--pool", "desk", "--within", 3)[1], told)
 
     def test_staffing(self):
         """A row per number of agents, compared with the queue written by hand."""
@@ -250,7 +251,7 @@ class Commands(WithPool):
             self.assertEqual(row["util"], f"{sum(row[1] for row in rows) / int(row['agents']) / span:.6f}"[:6])
 
     def test_one_agent_is_a_server(self):
-        told = self.tells("pool", self.model, self.trace, "--node", "desk", "--agents", 1).splitlines()[1].split(",")
+        told = self.tells("pool", self.model, self.trace, "--node", "desk", "--agents", 1, error=together("phone, web")).splitlines()[1].split(",")
         waits = waits_of("".join(mpsim.run(self.model, self.trace, jobs=True).lines()), "desk")
         self.assertEqual(told[6:8], [str(round(sum(waits) / 3, 3)), str(sorted(waits)[1])])
 
@@ -365,7 +366,7 @@ class Commands(WithPool):
         self.assertEqual([row.split(",")[0] for row in rows], ["desk_queue", "desk"])
         other.write_text("model 2\nsource door\nsource side\ndelay desk_queue desk_wait from door\ntrunk desk 9 d from desk_queue side\n")
         self.file("other.csv", "source,time,d,desk_wait\ndoor,0,4,1\nside,0,4,1\n")
-        self.assertEqual(len(self.tells("service", other, calls).splitlines()), 3)
+        self.assertEqual(len(planner("service", other, calls)[1].splitlines()), 3)
 
     def test_the_pool_in_front_is_made_first(self):
         model = self.file("two.txt", "model 1\nsource phone\nsource web\nserver desk talk from phone web\nserver back =3 from desk\n")
@@ -373,16 +374,16 @@ class Commands(WithPool):
         line = "the pool at back is downstream of desk: make the pool at desk first, since it decides when calls arrive at back"
         for by in "trunk", "agents":
             words = "--agents", 2, "--by", by
-            self.tells("pool", model, self.trace, "--node", "back", *words, "--out", made[0], "--out-model", made[1])
+            self.tells("pool", model, self.trace, "--node", "back", *words, "--out", made[0], "--out-model", made[1], error=together("phone, web", "back"))
             self.refuses(line, "pool", made[1], made[0], "--node", "desk", *words)
-            self.tells("pool", model, self.trace, "--node", "desk", *words, "--out", made[0], "--out-model", made[1])
-            self.tells("pool", made[1], made[0], "--node", "back", *words)
+            self.assertEqual(planner("pool", model, self.trace, "--node", "desk", *words, "--out", made[0], "--out-model", made[1])[0], 0)
+            self.assertEqual(planner("pool", made[1], made[0], "--node", "back", *words)[0], 0)
 
     def test_waits_that_no_column_has(self):
         trace = self.file("long.csv", "source,time,talk\nweb,1,68719476736\nweb,1,1\nweb,1,1\nphone,0,7\n")
         line = "with 1 agent at desk a call waits 68719476743 ticks; the limit of a column is 68719476736"
         self.refuses(line, "pool", self.model, trace, "--node", "desk", "--agents", 1)
-        self.tells("pool", self.model, trace, "--node", "desk", "--agents", 2)
+        self.tells("pool", self.model, trace, "--node", "desk", "--agents", 2, error=together("phone, web"))
 
     def test_a_full_disk(self):
         """Nothing is left, and existing files stay."""

@@ -3,6 +3,11 @@
 import csv
 import doctest
 import io
+import json
+import os
+import pathlib
+import subprocess
+import sys
 import unittest
 
 from commands import InFolder, planner
@@ -10,9 +15,21 @@ from ground import EXAMPLES, Test, text_of
 
 import mpsim.agents.validation
 
+try:
+    import openpyxl
+except ImportError:
+    openpyxl = None
+
 WEEK = EXAMPLES / "week" / "model.txt", EXAMPLES / "week" / "trace.csv"
 ROSTER = EXAMPLES / "week" / "roster.csv"
 MODEL = "model 1\n# a tick is 1s\nsource phone\nsource mail\nserver desk d from phone mail\n"
+
+
+def spreadsheet(*words):
+    """Returns the bytes that a call writes to standard output."""
+    code = "import sys; from mpsim.command import main; sys.exit(main(sys.argv[1:]))"
+    settings = {**os.environ, "PYTHONPATH": str(pathlib.Path(mpsim.__file__).parents[1])}
+    return subprocess.run([sys.executable, "-c", code, *map(str, words)], capture_output=True, check=True, env=settings).stdout
 
 
 class Validate(Test):
@@ -58,6 +75,51 @@ class Commands(InFolder):
         self.assertEqual([row[2:6] for row in got], [["1", "1", "0", "0.0"], ["3", "2", "1", "0.3333"]])
         self.refuses(f"{trace}: no source 'fax'; it has phone, mail", *words, "--source", "fax")
         self.refuses(f"{trace}: no column 'w'; it has d, wait, gone", *words[:-3], "w")
+
+    def test_forms_and_times(self):
+        """Each table in each form, with a time for --within, by quarter, half and whole hours."""
+        trace = EXAMPLES / "week" / "recorded.csv"
+        more = "--wait", "wait", "--abandoned", "gone"
+        commands = ("recorded", trace, "--model", WEEK[0], *more), ("validate", WEEK[0], trace, "--node", "desk", "--roster", ROSTER, *more)
+        for words in commands:
+            for every, count in ("15min", 40), ("30min", 20), ("1h", 10):
+                rows, _ = self.table(*words, "--every", every)
+                self.assertEqual(len([row for row in rows if row[0] != "all"]), count)
+                self.assertEqual(self.table(*words, "--every", every, "--within", "20s")[0], rows)
+                self.assertEqual(self.table(*words, "--every", every, "--within", "1min")[0], self.table(*words, "--every", every, "--within", 60)[0])
+            text = planner(*words)[1]
+            header, *rows = csv.reader(io.StringIO(text))
+            objects = json.loads(planner(*words, "--format", "json")[1])
+            self.assertEqual([["" if it is None else str(it) for it in row.values()] for row in objects], rows)
+            self.assertEqual(list(objects[0]), header)
+            lines = planner(*words, "--format", "md")[1].splitlines()
+            self.assertEqual([line.strip("|").strip().split(" | ")[:3] for line in lines[2:]], [row[:3] for row in rows])
+            german = planner(*words, "--csv-style", "excel-de")[1]
+            self.assertEqual(next(csv.reader(io.StringIO(german.removeprefix("\ufeff")), delimiter=";")), header)
+            if openpyxl:
+                path = self.folder / "t.xlsx"
+                path.write_bytes(spreadsheet(*words, "--format", "xlsx"))
+                sheet = openpyxl.load_workbook(path).active
+                typed = [["" if it is None else it if isinstance(it, str) else float(it) for it in row] for row in sheet.values]
+                self.assertEqual(typed, [header, *([*row[:2], *(it and float(it) for it in row[2:])] for row in rows)])
+
+    def test_the_thresholds(self):
+        """The same gaps are trusted or not as the options say."""
+        words = "validate", WEEK[0], EXAMPLES / "week" / "recorded.csv", "--node", "desk", "--wait", "wait", "--abandoned", "gone"
+        three = *words, "--agents", 3
+        rows, said = self.table(*three)
+        self.assertIn("may not be trusted", said)
+        overall, each = float(rows[0][5]), max(abs(float(row[5])) for row in rows[1:])
+        enough = "--trust-overall", f"{100 * overall + 0.01:.2f}", "--trust-interval", f"{100 * each + 0.01:.2f}"
+        self.assertIn("the model may be trusted", self.table(*three, *enough)[1])
+        self.assertIn("may not be trusted", self.table(*three, *enough[:2])[1])
+        self.assertIn("may not be trusted", self.table(*three, *enough[2:])[1])
+        self.assertIn("the model may be trusted", self.table(*three, *enough[:2], "--trust-calls", 714)[1])
+        said = self.table(*three, *enough[:2], "--trust-interval", 100, "--trust-calls", 1)[1]
+        self.assertIn("no interval of 1 call or more differs by more than 100 points", said)
+        for option, text in ("--trust-overall", "-1"), ("--trust-interval", "x"), ("--trust-interval", "101"):
+            self.refuses(f"{option} {text}: expected percentage points from 0 to 100, such as 2.5", *three, f"{option}={text}")
+        self.refuses("--trust-calls 0: expected a number of calls, 1 or more", *three, "--trust-calls", 0)
 
     def test_a_model_of_itself_is_right_and_another_is_not(self):
         """Waits that a roster gave, as if they had been recorded: all agree. With other agents they don't."""

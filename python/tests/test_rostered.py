@@ -2,6 +2,7 @@
 
 import csv
 import io
+import re
 import unittest
 
 from commands import InFolder, planner
@@ -11,7 +12,9 @@ from ticking_agents import ticking
 import mpsim
 from mpsim.agents import Agent, Call
 from mpsim.agents.rosters import counts_roster, read_roster
-from mpsim.times.calendar import Calendar
+from mpsim.agents.waits import carried
+from mpsim.sweeps.days import by_calendar
+from mpsim.times.calendar import Calendar, settings_in
 from mpsim.times.texts import SECOND
 
 WEEK = EXAMPLES / "week" / "model.txt", EXAMPLES / "week" / "trace.csv"
@@ -96,6 +99,27 @@ class Pools(InFolder):
                 lines = text_of(self.model).splitlines()
                 self.assertEqual([line for line in lines if not line.startswith("# desk is a pool")], text_of(model).splitlines())
 
+    def test_a_plain_pool_of_several_sources_says_so(self):
+        """The table per interval has a row for each source; the plain one says that it has all of them together."""
+        model, trace = self.file("m.txt", MODEL), self.file("t.csv", "source,time,d\nphone,0,50\nmail,10,50\n")
+        words = "pool", model, trace, "--node", "desk", "--agents", 1
+        self.tells(*words, error="mpplan: figures of several sources together (mail, phone) at desk; --every gives each\n")
+        rows = list(csv.DictReader(io.StringIO(self.tells(*words, "--every", "1h"))))
+        want = [("all", "2", "0.5"), ("mail", "1", "0.0"), ("phone", "1", "1.0")]
+        self.assertEqual([(row["queue"], row["offered"], row["within"]) for row in rows[:3]], want)
+        self.tells("pool", model, self.file("t.csv", "source,time,d\nphone,0,50\n"), "--node", "desk", "--agents", 1)
+
+    def test_the_model_keeps_its_first_lines(self):
+        """What a tick is, when time 0 is, and other comments: with one agent, with several, and with a roster; also with carriage returns."""
+        lines = MODEL.splitlines()
+        for end in "\n", "\r\n":
+            model, trace = self.file("m.txt", end.join([*lines, ""])), self.file("t.csv", "source,time,d\nphone,0,50\n")
+            plain = ("--agents", 1), ("--agents", 3), ("--agents", 9, "--by", "agents")
+            for words in *plain, ("--agents", "0:00=2"), ("--agents", 1, "--patience", "5s"):
+                self.tells("pool", model, trace, "--node", "desk", *words, "--out-model", self.model)
+                self.assertEqual(text_of(self.model).splitlines()[1], lines[1])
+                self.assertEqual(settings_in(text_of(self.model)), (SECOND, "2026-03-02T00:00:00+01:00", "Europe/Berlin"))
+
     def made(self, *words, calls=((0, 50), (10, 50), (20, 5), (70, 30), (3600, 9)), queues="phone mail mail phone phone"):
         """Runs a pool over calls; returns the table and the outcomes in the trace."""
         rows = "".join(f"{queue},{time},{talk},{patience}\n" for queue, (time, talk), patience in zip(queues.split(), calls, (9, 20, 15, 0, 5)))
@@ -140,11 +164,13 @@ class Pools(InFolder):
     def test_callers_who_left_are_lost_wherever_the_package_reports_them(self):
         self.made("--agents", 1, "--patience", "patient")
         told = "mpplan: desk is a pool: its waits are those of desk_queue\n"
+        together = "mpplan: figures of several sources together (mail, phone) at desk; {}\n"
         report = mpsim.run(self.model, self.out, jobs=True)
         self.assertEqual((report["desk"].lost, report["desk_gone"].out), (0, 2))
-        (row,) = csv.DictReader(io.StringIO(self.tells("service", self.model, self.out, "--node", "desk", error=told)))
+        said = told + together.format("--by source gives each")
+        (row,) = csv.DictReader(io.StringIO(self.tells("service", self.model, self.out, "--node", "desk", error=said)))
         self.assertEqual([row[name] for name in ("came", "departed", "lost", "within_20_of_all")], ["5", "3", "2", "0.6"])
-        rows = self.tells("hours", self.model, self.out, "--node", "desk", error=told).splitlines()
+        rows = self.tells("hours", self.model, self.out, "--node", "desk", error=told + together.format("--source NAME gives one")).splitlines()
         self.assertEqual([row.split(",")[:4] for row in rows[1:]], [["00:00", "4", "2", "2"], ["01:00", "1", "1", "0"]])
         lacks = "mpplan: a pool's max, p50, p90 and p99 need job lines: run mpsim with --jobs\n"
         rows = list(csv.DictReader(io.StringIO(self.tells("table", self.model, self.out, error=told + lacks))))
@@ -152,8 +178,86 @@ class Pools(InFolder):
         self.assertEqual([rows[2][name] for name in ("kind", "in", "out", "lost")], ["pool", "5", "3", "2"])
         visits = self.tells("table", self.model, self.out, "--of", "visits", "--node", "desk", error=told).splitlines()[1:]
         self.assertEqual(visits[:2], ["1,desk,0,0,50,left", "2,desk,10,,,lost"])
-        why = "its waits hold only for the whole trace; run mpplan pool for each part"
-        self.refuses(f"desk is a pool with a roster, patience or priorities: {why}", "days", self.model, self.out)
+        why = "desk has a roster, patience or priorities, so its waits are those of the whole trace"
+        why += "; on 0 of 1 days they may depend on calls of another"
+        (row,) = csv.DictReader(io.StringIO(self.tells("days", self.model, self.out, "--node", "desk", error=f"{told}mpplan: {why}\n")))
+        self.assertEqual([row[name] for name in ("kind", "in", "out", "lost")], ["pool", "5", "3", "2"])
+
+    def test_days_of_a_roster(self):
+        """Where nobody is left over night, each day is that of a pool made for the day alone; where somebody is, a line counts the days."""
+        self.table(*WEEK, "--roster", EXAMPLES / "week" / "roster.csv", "--patience", "exp:120s", "--seed", 7)
+        status, text, said = planner("days", self.model, self.out, "--node", "desk")
+        self.assertEqual(status, 0, said)
+        self.assertIn("; on 0 of 6 days they may depend on calls of another\n", said)
+        rows, whole = list(csv.DictReader(io.StringIO(text))), mpsim.traces.Trace.read(self.out)
+        days = Calendar(SECOND, "2026-03-23T00:00:00+01:00", "Europe/Berlin")
+        pieces, _ = by_calendar(whole.times(), days)
+        agents, _ = read_roster(EXAMPLES / "week" / "roster.csv", days, max(whole.times()), ["calls"])
+        patience, talk = whole.numbers("desk_patience"), whole.numbers("talk")
+        for row, piece in zip(rows, pieces):
+            calls = [Call(whole.times()[at], talk[at], "calls", patience[at]) for at in piece.records]
+            waits = [it.wait for it in mpsim.agents.Group(agents).serve(calls) if it.agent]
+            self.assertEqual((int(row["out"]), int(row["wait"]), int(row["in"])), (len(waits), sum(waits), len(calls)))
+        # Pieces of half an hour cut calls, but most of those that are cut don't keep anybody waiting.
+        said = planner("days", self.model, self.out, "--every", 1800)[2]
+        shared = int(re.search(r"; in (\d+) of (\d+) pieces they may", said)[1])
+        self.assertTrue(5 < shared < 42, said)
+
+    def test_pieces_that_share_agents(self):
+        """A call is there at the first arrival of a piece, or comes before the last of its calls begins; one that ends then, or comes later, isn't
+        counted."""
+        model = "model 2\nsource a\nsource b\ndelay desk_queue desk_wait from a b\ntrunk desk 2 d from desk_queue\n"
+        head = ["source", "time", "d", "desk_wait"]
+        for others, shared in [
+            ([["b", 0, 10, 0]], 0),
+            ([["b", 0, 11, 0]], 1),
+            ([["b", 0, 5, 6]], 1),
+            ([["b", 15, 1, 0]], 1),
+            ([["b", 20, 1, 0]], 1),
+            ([["b", 21, 1, 0]], 0),
+        ]:
+            rows = sorted([["a", 10, 4, 0], ["a", 12, 4, 8], *others], key=lambda row: row[1])
+            report = mpsim.run(model, [head, *rows], jobs=True)
+            self.assertEqual(carried(report, "desk", [[at for at, row in enumerate(rows) if row[0] == "a"]]), shared, others)
+
+    def test_a_sweep_over_its_number_is_rejected(self):
+        """The waits of a roster don't follow from a number of agents."""
+        self.table(*WEEK, "--agents", 2, "--patience", "60s")
+        text = text_of(self.model)
+        path = self.file("many.txt", text.replace("trunk desk 2", "trunk desk {agents}"))
+        why = "its waits hold only for the whole trace; run mpplan pool for each number of agents"
+        self.refuses(f"desk is a pool with a roster, patience or priorities: {why}", "sweep", path, self.out, "--set", "agents=2..4")
+
+    def test_a_column_as_the_queue(self):
+        """As if its values were the sources: in the roster, in the priorities and in the table; words of the model's comments stand for numbers."""
+        rows = [(0, 50, 1), (10, 50, 1), (20, 5, 2), (25, 5, 3), (70, 30, 2), (3600, 9, 1)]
+        names = {1: "service", 2: "sales", 3: "3"}
+        by_column = self.file("c.csv", "source,time,d,kind\n" + "".join(f"phone,{time},{d},{kind}\n" for time, d, kind in rows))
+        by_source = self.file("s.csv", "source,time,d\n" + "".join(f"{names[kind].replace('3', 'three')},{time},{d}\n" for time, d, kind in rows))
+        comment = '# kind: 1 is "service", 2 is "sales", 3 is "other things"\n'
+        front = "\n".join(MODEL.splitlines()[:2])
+        model = self.file("m.txt", f"{front}\n{comment}source phone\nserver desk d from phone\n")
+        three = "source service\nsource sales\nsource three\nserver desk d from service sales three\n"
+        other = self.file("o.txt", f"{front}\n{three}")
+        head = "agent,queues,from,to\nA,service {},0,4000\nB,sales,20,4000\n"
+        rosters = self.file("r.csv", head.format("3")), self.file("q.csv", head.format("three"))
+        want = self.table(other, by_source, "--roster", rosters[1], "--first", "sales", "--then", "three")
+        made = text_of(self.out)
+        found = self.table(model, by_column, "--roster", rosters[0], "--first", "sales", "--then", 3, "--queue", "kind")
+        values = [tuple(it.replace("three", "3") for it in row.values()) for row in want]
+        self.assertEqual(sorted(values), sorted(tuple(row.values()) for row in found))
+        self.assertEqual([row.split(",")[-2:] for row in made.splitlines()[1:]], [row.split(",")[-2:] for row in text_of(self.out).splitlines()[1:]])
+        self.assertEqual([row["queue"] for row in found[:4]], ["all", "3", "sales", "service"])
+        rows = list(csv.DictReader(io.StringIO(self.tells("staff", model, by_column, "--node", "desk", "--queue", "kind", "--by", "source"))))
+        self.assertEqual([row["queue"] for row in rows], ["all", "3", "sales", "service", "all", "service"])
+        rows = list(csv.reader(io.StringIO(self.tells("recorded", by_column, "--model", model, "--wait", "d", "--queue", "kind"))))
+        self.assertEqual([row[1] for row in rows], ["queue", "all", "3", "sales", "service", "all", "service"])
+        words = "validate", model, by_column, "--node", "desk", "--wait", "d", "--queue", "kind", "--agents", 1
+        rows = list(csv.reader(io.StringIO(planner(*words)[1])))
+        self.assertEqual([row[1] for row in rows[1:5]], ["all", "3", "sales", "service"])
+        words = "pool", model, by_column, "--node", "desk", "--agents", 1
+        self.refuses(f"{by_column}: no column 'k'; it has d, kind", *words, "--queue", "k")
+        self.refuses("no value 'mail' in kind; the trace has service, sales, 3", *words, "--queue", "kind", "--first", "mail")
 
     def test_drawn_patience_is_written_and_can_be_repeated(self):
         words = *WEEK, "--agents", 2, "--patience", "exp:60s"

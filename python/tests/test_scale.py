@@ -12,7 +12,8 @@ import mpsim
 from mpsim.command import scale
 from mpsim.command.scale import ratio
 from mpsim.traces import Trace
-from mpsim.traces.scale import closer, copies, scaled
+from mpsim.times.calendar import Calendar
+from mpsim.traces.scale import Walls, closer, copies, scaled
 
 WEEK = 604800
 
@@ -20,8 +21,10 @@ WEEK = 604800
 class Scales(Test):
     def test_ratios(self):
         self.assertEqual([ratio(item) for item in ("2", "3/2", "9/10")], [(2, 1), (3, 2), (9, 10)])
-        for bad in "0", "1.5", "1/0", "x", "2/", "-2", " 2":
-            self.assertRaisesRegex(ValueError, "expected K or K/N", ratio, bad)
+        decimals = "1.12", "1,12", "112%", "+12%", "+12,0 %", "-10%", "0.9", "2.0"
+        self.assertEqual([ratio(item) for item in decimals], [(28, 25)] * 5 + [(9, 10)] * 2 + [(2, 1)])
+        for bad in "0", "1/0", "x", "2/", "-2", " 2", "0.0", "+12", "-100%", "0%", "1.5/2":
+            self.assertRaisesRegex(ValueError, "expected a factor above 0, such as 2, 3/2, 1.12, 112% or [+]12%", ratio, bad)
 
     def test_how_many_come_out(self):
         """In total as many as the ratio says, and within one for each source; evenly, each at a time of its own record or whole shifts later."""
@@ -110,6 +113,76 @@ class Scales(Test):
         self.assertTrue(3.2 < waits["times"] < 5 and 3.2 < waits["shift"] < 5 and 7 < waits["twins"] < 10, waits)
 
 
+class ByTheCalendar(InFolder):
+    """Three weeks of a shop in Berlin that opens at 8 and closes at 18; clocks go forward in the night before the last Sunday of March 2026."""
+
+    START = "2026-03-16T00:00:00+01:00"
+
+    def setUp(self):
+        super().setUp()
+        self.days = Calendar(10**9, self.START, "Europe/Berlin")
+        self.walls = Walls(self.days)
+        # One call a quarter of an hour, as the clock shows it, on 21 days.
+        clock = [day * 86400 + at * 900 for day in range(21) for at in range(32, 72)]
+        self.times = [self.walls.tick(time * 10**9) for time in clock]
+
+    def hours(self, times):
+        """Returns the days and the times of day, in quarters of an hour, that the clock shows."""
+        return Counter(self.walls.of(time) // 10**9 // 900 for time in times)
+
+    def test_copies_keep_the_time_of_day(self):
+        """Each quarter of an hour in which the shop is open gets another call of its weekday, and none comes after it has closed."""
+        made = copies(self.times, ["a"] * len(self.times), 2, 1, WEEK, days=self.days)
+        self.assertEqual(self.hours(time for time, _ in made), dict.fromkeys(self.hours(self.times), 2))
+        self.assertEqual(made, sorted(made))
+        for time, at in made:
+            self.assertEqual((self.walls.of(time) - self.walls.of(self.times[at])) % (WEEK * 10**9), 0)
+        # By ticks alone a fortnight's Sunday has calls at seven, or at six in the evening.
+        plain = copies(self.times, ["a"] * len(self.times), 2, 1, WEEK)
+        self.assertNotEqual(self.hours(time for time, _ in plain), self.hours(time for time, _ in made))
+
+    def test_the_hours_that_are_skipped_and_repeated(self):
+        """A copy in the hour that is skipped comes at its end; one in an hour that occurs twice comes in the first."""
+        self.assertEqual([self.walls.tick((13 * 86400 + at) * 10**9) - 13 * 86400 for at in (7199, 7200, 9000, 10800)], [7199, 7200, 7200, 7200])
+        days = Calendar(10**9, "2026-10-19T00:00:00+02:00", "Europe/Berlin")
+        made = copies([9000, 6 * 86400 + 9000 + 3600, 7 * 86400 + 3600], ["a"] * 3, 2, 1, 6 * 86400, days=days)
+        self.assertEqual([time for time, at in made if at == 0], [9000, 6 * 86400 + 9000])
+        # The second of the two half past twos keeps its own time.
+        self.assertEqual([time for time, at in made if at == 1], [9000, 6 * 86400 + 9000 + 3600])
+
+    def made(self, *words):
+        trace = self.file("t.csv", "source,time\n" + "".join(f"a,{time}\n" for time in self.times))
+        out = self.folder / "o.csv"
+        status, _, told = planner("scale", trace, "--by", 2, "--out", out, *words)
+        self.assertEqual(status, 0, told)
+        return Trace.read(out).times(), told
+
+    def test_command(self):
+        wanted = [time for time, _ in copies(self.times, ["a"] * len(self.times), 2, 1, WEEK, days=self.days)]
+        model = self.file("m.txt", f"model 1\n# a tick is 1s, time 0 is {self.START} in Europe/Berlin\nsource a\n")
+        says = "each record has one copy, 7 days by the clock of Europe/Berlin later; copies past the end wrap round to the start"
+        own = "--tick", "1s", "--start", self.START, "--zone", "Europe/Berlin"
+        for words in ("--shift", WEEK, "--model", model), ("--shift", "7d", "--model", model), ("--shift", "7d", *own):
+            times, told = self.made(*words)
+            self.assertEqual((times, told), (wanted, f"mpplan: 1680 records (from 840): {says}\n".replace("1680", "1,680")))
+        # Ticks without a zone, and a shift that isn't whole days, are as they were.
+        plain = [time for time, _ in copies(self.times, ["a"] * len(self.times), 2, 1, WEEK)]
+        self.assertEqual(self.made("--shift", WEEK)[0], plain)
+        self.assertEqual(self.made("--shift", "7d", "--tick", "1s")[0], plain)
+        self.assertEqual(self.made("--shift", "30h", "--model", model)[0], [it for it, _ in copies(self.times, ["a"] * 840, 2, 1, 108000)])
+
+    def test_what_is_rejected(self):
+        trace, bare = self.file("t.csv", "source,time\na,0\na,9\n"), self.file("m.txt", "model 1\nsource a\n")
+        why = "expected a number of ticks; for a time, give --model, or --tick with --start and --zone"
+        self.refuses(f"--shift 7d: {why}", "scale", trace, "--by", 2, "--shift", "7d")
+        words = "scale", trace, "--by", 2, "--shift", 5, "--model", bare
+        self.refuses(f"{bare}: the model doesn't say what a tick is: give --tick and --start", *words)
+        self.refuses("--shift -3: expected a positive number of ticks, such as those of a day or a week", "scale", trace, "--by", 2, "--shift=-3")
+        own = "--tick", "1s", "--start", self.START, "--zone", "Europe/Berlin"
+        why = "within the trace there is no other time whole shifts away from 0, but 2 records need one"
+        self.refuses(f"--shift 86400: {why}", "scale", trace, "--by", 2, "--shift", 86400, *own)
+
+
 class Command(InFolder):
     def setUp(self):
         super().setUp()
@@ -182,9 +255,8 @@ class Command(InFolder):
     def test_refusals(self):
         trace = str(self.trace)
         self.refuses("--by 2: choose how: --shift TICKS (those of a day or a week), --times or --twins", "scale", trace, "--by", 2)
-        fractions = ("1.5", ", e.g. 3/2"), ("0,9", ", e.g. 9/10"), ("2.0", ", e.g. 2")
-        for text, says in *fractions, ("x", ""), ("0.0", ""), ("0", ""), ("1/0", ""), ("-1.5", ""):
-            why = f"--by {text}: expected K or K/N, whole numbers of 1 or more{says}"
+        for text in "x", "0.0", "0", "1/0", "-1.5":
+            why = f"--by {text}: expected a factor above 0, such as 2, 3/2, 1.12, 112% or +12%"
             self.refuses(why, "scale", trace, f"--by={text}", "--twins")
         self.refuses("--shift 0: expected a positive number of ticks, such as those of a day or a week", "scale", trace, "--by", 2, "--shift", 0)
         why = "--shift 8: within the trace there is no other time whole shifts away from 7, but 2 records need one"

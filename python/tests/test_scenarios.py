@@ -6,6 +6,7 @@ from commands import InFolder
 from ground import Test
 
 from mpsim.command.sweep import ranges
+from mpsim.sweeps.local import label_of
 from mpsim.sweeps.plans import Plan, labels_of, sets_of, values_of
 
 
@@ -60,6 +61,14 @@ class Plans(Test):
     def test_labels(self):
         self.assertEqual(labels_of(["x/a.txt", "b.model.csv"]), ["a", "b.model"])
         self.assertEqual(labels_of(["x/a.txt", "y/a.txt"]), ["x/a.txt", "y/a.txt"])
+
+    def test_labels_of_scenarios(self):
+        """A tuple of the texts that differ, so that a page has one curve per load; one text by itself."""
+        plan = Plan([["x", "{a}{b}"]], {"a": [1, 2], "b": ["p", "q"]}, [{"label": "s"}])
+        self.assertEqual([label_of(plan, plan.traces[0], at) for at in range(4)], [("1", "p"), ("1", "q"), ("2", "p"), ("2", "q")])
+        plan = Plan([["x", "{a}"]], {"a": [1, 2]}, [{"label": "s"}, {"label": "t"}])
+        self.assertEqual(label_of(plan, plan.traces[1], 1), ("t", "2"))
+        self.assertEqual(label_of(Plan([["x", "{a}"]], {"a": [1, 2]}, [{"label": "s"}]), {"label": "s"}, 1), "2")
 
     def test_ranges(self):
         self.assertEqual([ranges(item) for item in ([1], [1, 2, 3, 7], range(5), [])], ["1", "1-3, 7", "0-4", ""])

@@ -178,7 +178,36 @@ class Command(InFolder):
         self.assertEqual([{key: "" if value is None else str(value) for key, value in row.items()} for row in json.loads(text)], rows)
         lines = self.tells("staff", *words, "--format", "md").splitlines()
         self.assertEqual([line.strip("| ").split(" | ")[0:2] for line in lines[2:]], [[row["weekday"], row["from"]] for row in rows])
-        self.assertEqual(set(lines[1]), set("| -"))
+        self.assertEqual(set(lines[1]), set("|-"))
+        german = self.tells("staff", *words, "--csv-style", "excel-de").removeprefix("\ufeff").splitlines()
+        plain = [line.replace(",", ".").replace(";", ",") for line in german[1:]]
+        self.assertEqual(plain, [",".join(row.values()) for row in rows])
+
+    def test_each_source(self):
+        """The rows of all sources are those without --by; each source has its own calls, and its agents are those of all."""
+        model = self.file("m.txt", "model 1\n# a tick is 1s\nsource a\nsource b\nserver desk d from a b\n")
+        draw = random.Random(3)
+        calls = sorted((draw.randrange(4 * 3600), draw.choice("aab"), draw.randrange(1, 400)) for _ in range(300))
+        trace = self.file("t.csv", "source,time,d\n" + "".join(f"{source},{time},{d}\n" for time, source, d in calls))
+        words = model, trace, "--node", "desk", "--every", "15min"
+        together = "mpplan: figures of several sources together (a, b) at desk; --by source gives each\n"
+        plain = list(csv.DictReader(io.StringIO(self.tells("staff", *words, error=together))))
+        rows = self.table(*words, "--by", "source")
+        self.assertEqual([{key: it for key, it in row.items() if key != "queue"} for row in rows if row["queue"] == "all"], plain)
+        counts, steps = {row["from"]: row["agents"] for row in plain}, []
+        for number in range(96):
+            steps.append(f"{mpsim.times.intervals.label(number, 15 * MINUTE)}={counts.get(mpsim.times.intervals.label(number, 15 * MINUTE), 0)}")
+        pool = "pool", model, trace, "--node", "desk", "--agents", ",".join(steps), "--choose", "first", "--every", "15min"
+        pooled = {(row["from"], row["queue"]): row for row in csv.DictReader(io.StringIO(self.tells(*pool)))}
+        for row in rows:
+            it = pooled[row["from"], row["queue"]]
+            self.assertEqual((float(row["calls"]), row["within"], row["p90"]), (int(it["offered"]), it["within"], it["p90"]))
+        for name in "ab":
+            mine = [(float(row["calls"]), float(row["handling_time"])) for row in rows if row["queue"] == name]
+            self.assertEqual(sum(count for count, _ in mine), sum(source == name for _, source, _ in calls))
+            work = sum(d for _, source, d in calls if source == name)
+            self.assertAlmostEqual(sum(count * mean for count, mean in mine), work, delta=0.05 * len(calls))
+            self.assertEqual({(row["agents"], row["rostered"], row["erlang_c"]) for row in rows if row["queue"] == name}, {("", "", "")})
 
     def test_when_clocks_change(self):
         """The hour that occurs twice is one interval; all calls are counted, and each interval after it begins by the clock."""

@@ -19,10 +19,13 @@ from mpsim.tables.comparison import compare
 from mpsim.tables.service import figures, service
 from mpsim.tables.sojourns import sojourns
 from mpsim.tables.sojourns import table as sojourn_table
+from mpsim.times.calendar import with_settings
+from mpsim.times.texts import SECOND
 
 CALLS = EXAMPLES / "callcentre"
 JOBS, REPORT, SWEEP = CALLS / "jobs.txt", CALLS / "report.txt", EXAMPLES / "sweep" / "report.txt"
 NO_TICK = "the length of a tick is unknown: give --tick and --start, or {} whose first lines mpplan prepare wrote"
+TOGETHER = "mpplan: figures of several sources together (phone, web) at {}; --by source gives each\n"
 NO_JOBS = f"{REPORT}: the report has no job lines: run mpsim with --jobs"
 
 
@@ -41,25 +44,73 @@ class Service(InFolder):
         want = "node,came,departed,lost,held,mean_wait,p95,max,within_5_of_all,within_5_of_departed\n"
         want += "desk,7,7,0,0,4.286,8,8,0.571429,0.571429\nexpert,6,3,3,0,3.0,5,5,0.5,1.0\n"
         words = "--node", "desk", "--node", "expert", "--within", 5, "--percentile", 95
-        self.assertEqual(self.tells("service", JOBS, *words), want)
-        self.assertEqual(self.tells("service", MODEL, TRACE, *words), want)
-        told = rows_of(self.tells("service", JOBS))
+        self.assertEqual(self.tells("service", JOBS, *words, error=TOGETHER.format("desk, expert")), want)
+        self.assertEqual(self.tells("service", MODEL, TRACE, *words, error=TOGETHER.format("desk, expert")), want)
+        told = rows_of(self.tells("service", JOBS, error=TOGETHER.format("greet, expert, desk, wrap")))
         self.assertEqual([item[0] for item in told[1:]], ["greet", "expert", "desk", "wrap"])
         self.assertEqual(told[0][-2:], ["within_20_of_all", "within_20_of_departed"])
-        told = rows_of(self.tells("service", JOBS, "--node", "desk", "--within", 4, "--within", 3, "--percentile", 99.9))
+        words = "--node", "desk", "--within", 4, "--within", 3, "--percentile", 99.9
+        told = rows_of(self.tells("service", JOBS, *words, error=TOGETHER.format("desk")))
         self.assertEqual((told[0][6], told[1][6:]), ("p99.9", ["8", "8"] + 4 * ["0.428571"]))
+
+    def test_each_source(self):
+        """The desk's calls by hand: each source has the waits of its own jobs, and all together are as without sources."""
+        text = text_of(JOBS)
+        lines = [line.split() for line in text.splitlines() if line.startswith("job ")]
+        sources = {job[1]: job[2] for job in lines if job[2] in ("phone", "web")}
+        words = "service", JOBS, "--node", "desk", "--within", 5, "--percentile", 90
+        (plain,) = records_of(self.tells(*words, error=TOGETHER.format("desk")))
+        found = records_of(self.tells(*words, "--by", "source"))
+        self.assertEqual([(row["node"], row.pop("source")) for row in found], [("desk", name) for name in ("all", "phone", "web")])
+        self.assertEqual(found[0], plain)
+        for row, name in zip(found[1:], ("phone", "web")):
+            waits = [int(job[6]) for job in lines if job[2] == "desk" and sources[job[1]] == name]
+            self.assertEqual((int(row["came"]), float(row["within_5_of_all"])), (len(waits), round(sum(it <= 5 for it in waits) / len(waits), 6)))
+            (hour,) = records_of(self.tells("hours", JOBS, "--node", "desk", "--tick", "1h", "--by", "day", "--within", 5, "--source", name))[:1]
+            self.assertIn("within_5_of_all", hour)
+        words = "hours", JOBS, "--node", "desk", "--tick", "1s", "--percentile", 90
+        both = [records_of(self.tells(*words, "--source", name)) for name in ("phone", "web")]
+        every = records_of(self.tells(*words, error=TOGETHER.format("desk").replace("--by source gives each", "--source NAME gives one")))
+        self.assertEqual(sum(int(row["came"]) for rows in both for row in rows), sum(int(row["came"]) for row in every))
+        self.assertEqual(records_of(self.tells(*words, "--source", "web", "--source", "phone")), every)
+        self.refuses(f"{JOBS}: no source 'fax'; it has phone, web", *words, "--source", "fax")
+
+    def test_times_in_place_of_ticks(self):
+        """Half seconds: 2.4 s are four whole ticks. The tick comes from --tick or from the model; a time and its ticks have one column."""
+        bare = text_of(MODEL)
+        model = self.file("m.txt", with_settings(bare, SECOND // 2, None, None))
+        error = TOGETHER.format("desk")
+        want = self.tells("service", JOBS, "--node", "desk", "--within", 4, error=error)
+        self.assertIn("within_4_of_all", want)
+        for words in (JOBS, "--tick", "500ms"), (model, TRACE), (MODEL, TRACE, "--tick", "500ms"):
+            for times in ("--within", "2s"), ("--within", "2.4s"), ("--within", "4", "--within", "2s"):
+                self.assertEqual(self.tells("service", *words, "--node", "desk", *times, error=error), want)
+        one = error.replace("--by source gives each", "--source NAME gives one")
+        hours = "hours", JOBS, "--node", "desk", "--tick", "500ms"
+        self.assertEqual(self.tells(*hours, "--within", "2s", error=one), self.tells(*hours, "--within", 4, error=one))
+        sojourns = "sojourns", model, TRACE
+        self.assertEqual(self.tells(*sojourns, "--within", "10s"), self.tells(*sojourns, "--within", 20))
+        self.assertEqual(self.tells("sojourns", JOBS, "--tick", "1min", "--within", "1h"), self.tells("sojourns", JOBS, "--within", 60))
+        pages = [self.folder / name for name in ("one.html", "other.html")]
+        for path, within in zip(pages, ("2s", "4")):
+            self.assertEqual(planner("page", JOBS, "--model", model, "--title", "x", "--within", within, "--out", path)[0], 0)
+        self.assertEqual(*map(text_of, pages))
+        why = "the length of a tick is unknown: give a number of ticks, --tick, or a model whose first lines mpplan prepare wrote"
+        for words in ("service", JOBS), ("sojourns", JOBS), ("page", JOBS, "--out", pages[0]), ("sweep", MODEL, TRACE):
+            self.refuses(f"--within 2s: {why}", *words, "--within", "2s")
 
     def test_a_figure_that_is_asked_twice(self):
         """It is reported once, at its first place."""
         twice = "--within", 5, "--percentile", 90, "--within", 0, "--within", "05", "--percentile", 50, "--percentile", "90.0"
-        told = rows_of(self.tells("service", JOBS, "--node", "desk", *twice))[0]
+        told = rows_of(self.tells("service", JOBS, "--node", "desk", *twice, error=TOGETHER.format("desk")))[0]
         shares = [f"within_{item}_of_{whom}" for item in (5, 0) for whom in ("all", "departed")]
         self.assertEqual(told[6:], ["p90", "p50", "max", *shares])
         told = rows_of(self.tells("sojourns", JOBS, "--by", "all", *twice))[0]
         self.assertEqual(told, ["jobs", "mean_sojourn", "p90", "p50", "max", "within_5", "within_0"])
         # The name has all digits.
         for words, at in (("service", JOBS, "--node", "desk"), 6), (("sojourns", JOBS, "--by", "all"), 2):
-            told = rows_of(self.tells(*words, "--percentile", "99.99995", "--percentile", "100.0"))[0]
+            error = TOGETHER.format("desk") if words[0] == "service" else ""
+            told = rows_of(self.tells(*words, "--percentile", "99.99995", "--percentile", "100.0", error=error))[0]
             self.assertEqual(told[at : at + 2], ["p99.99995", "p100"])
 
     def test_beside_each_stored_report(self):
@@ -99,8 +150,9 @@ class Service(InFolder):
         self.refuses(f"{JOBS}: no node 'deck'; it has phone, web, greet, menu, expert, desk, wrap", "service", JOBS, "--node", "deck")
         self.refuses("a percentile is from 0 to 100, not 101.0", "service", JOBS, "--percentile", 101)
         pool, sweep, page = ("--node", "desk", "--agents", 2), (MODEL, TRACE), (JOBS, "--out", self.folder / "page.html")
+        expected = "expected a number of ticks, 0 or more, or a time such as 20s or 1min"
         for words in ("service", JOBS), ("hours", JOBS), ("pool", MODEL, TRACE, *pool), ("sojourns", JOBS), ("sweep", *sweep), ("page", *page):
-            for text, why in ("-1", "-1: expected a number of ticks, 0 or more"), ("1.5", "1.5: expected a number of ticks, 0 or more"):
+            for text, why in ("-1", f"-1: {expected}"), ("1.5", f"1.5: {expected}"), ("5x", f"5x: {expected}"):
                 self.refuses(f"argument --within: {why} (see mpplan {words[0]} --help)", *words, f"--within={text}", status=2)
         self.refuses("/absent: cannot read the model", "service", "/absent", "/absent", status=6)
         self.assertEqual(planner("service", "/absent"), (1, "", "mpplan: /absent: No such file or directory\n"))

@@ -144,6 +144,23 @@ def counts_roster(text: str, days: Calendar, last: int) -> list[Agent]:
     return [Agent(mine) for mine in intervals]
 
 
+def queues_in(trace: Trace, column: str, words: dict[str, int]) -> list[str]:
+    """Returns the queue of each record (list of str) of a trace from the values of a column: the word that stands for the value, if `words` (dict of
+    word to number) has one without spaces, else the value itself. Raises ValueError for an unknown column.
+
+    >>> from mpsim.agents.rosters import queues_in
+    >>> from mpsim.traces.trace import Trace
+    >>> trace = Trace("t.csv", ["source", "time", "kind"], [["door", "0", "1"], ["door", "9", "2"]])
+    >>> queues_in(trace, "kind", {"orders": 1, "other things": 2})
+    ['orders', '2']
+    """
+    if column not in trace.header[2:]:
+        raise ValueError(f"{trace.path}: no column {column!r}; it has {', '.join(trace.header[2:]) or 'none'}")
+    names = {str(number): word for word, number in words.items() if word and not re.search(r"\s", word)}
+    place = trace.header.index(column, 2)
+    return [names.get(row[place], row[place]) for row in trace.rows]
+
+
 def patience_in(text: str, trace: Trace, tick: int, seed: int) -> tuple[list[int], bool]:
     """Returns the patience (list of int, ticks) of each record of a trace from the value of --patience: a length of time, the name of a column, or
     `exp:240s` for random ones with this mean, drawn with a seed (int). Returns as well whether they are drawn. Raises ValueError for another

@@ -41,7 +41,8 @@ class Goal(NamedTuple):
 
 class Interval(NamedTuple):
     """What is found for an interval: the number of agents (int); how many calls arrive in it (int), the ticks of service that they bring (int), and
-    the waits of those that are served (list of int, ticks); the ticks that agents work in it, and those that they are there (int)."""
+    the waits of those that are served (list of int, ticks); the ticks that agents work in it, and those that they are there (int); and the calls, the
+    service and the waits of each queue (tuples, by name)."""
 
     agents: int
     calls: int
@@ -49,6 +50,7 @@ class Interval(NamedTuple):
     waits: List[int]
     worked: int
     there: int
+    queues: Dict[str, Tuple[int, int, List[int]]] = {}
 
     def within(self, ticks: int) -> float | None:
         """Returns the share of calls that are served within this many ticks (float; None without calls)."""
@@ -56,21 +58,23 @@ class Interval(NamedTuple):
 
 
 class Waiting(NamedTuple):
-    """A call that waits: the number of the interval in which it arrived, and its arrival, service and patience (int, ticks; patience may be None)."""
+    """A call that waits: the number of the interval in which it arrived, its arrival, service and patience (int, ticks; patience may be None), and
+    the name of its queue (str)."""
 
     number: int
     arrive: int
     service: int
     patience: Optional[int]
+    queue: str = ""
 
 
 class _Passed(NamedTuple):
     """A day at the end of an interval: when agents end their calls (dict of place to tick), the calls that wait (list of Waiting), the waits of the
-    calls that began in the interval (pairs of the number of an interval and ticks), and the ticks that agents of the interval worked."""
+    calls that began in the interval (tuples of the number of an interval, ticks, and a queue), and the ticks that agents of the interval worked."""
 
     busy: Dict[int, int]
     waiting: List[Waiting]
-    began: List[Tuple[int, int]]
+    began: List[Tuple[int, int, str]]
     worked: int
 
 
@@ -87,11 +91,11 @@ def passed(before: _Passed, number: int, bounds: tuple[int, int], calls: list[Wa
     began, left = [], []
     free = [max(begin, busy.get(place, begin)) for place in range(1, agents + 1)]
     group = Group([Agent([(at, end)] if at < end else []) for at in free], choose=FIRST)
-    _, arrivals, services, patience = zip(*waiting)
+    _, arrivals, services, patience, _ = zip(*waiting)
     for call, agent, wait in zip(waiting, *group.assigned(arrivals, services, None, patience)):
         if agent:
             at = call.arrive + wait
-            began.append((call.number, wait))
+            began.append((call.number, wait, call.queue))
             worked += max(0, min(at + call.service, last) - at)
             if at + call.service > busy.get(agent, 0):
                 busy[agent] = at + call.service
@@ -119,6 +123,8 @@ class Search:
         self.calls = [sum(len(calls[number]) for _, calls in days) for number in range(len(self.bounds[0]))]
         self.waits = [[] for _ in self.calls]
         self.hits = [0] * len(self.calls)
+        # Per interval the waits of each queue.
+        self.queues: list[dict[str, list[int]]] = [{} for _ in self.calls]
         self.found = []
 
     def step(self) -> None:
@@ -132,17 +138,23 @@ class Search:
         while agents and not self.holds(agents, tried):
             agents += 1
             tried = self.tried(agents)
-        self._choose(number, agents, tried)
+        self.choose(number, agents, tried)
 
-    def _choose(self, number: int, agents: int, tried: list[_Passed]) -> None:
+    def choose(self, number: int, agents: int, tried: list[_Passed]) -> None:
+        """Sets the number of agents of the next interval, and each day at its end, which `tried` returned."""
         self.states = tried
         for it in tried:
-            for at, wait in it.began:
+            for at, wait, queue in it.began:
                 self.waits[at].append(wait)
                 self.hits[at] += wait <= self.goal.within
-        service = sum(call.service for _, calls in self.days for call in calls[number])
-        worked = sum(it.worked for it in tried)
-        self.found.append(Interval(agents, self.calls[number], service, self.waits[number], worked, self._there(number, agents)))
+                self.queues[at].setdefault(queue, []).append(wait)
+        each: dict[str, tuple[int, int]] = {}
+        for call in (call for _, calls in self.days for call in calls[number]):
+            calls, service = each.get(call.queue, (0, 0))
+            each[call.queue] = calls + 1, service + call.service
+        queues = {name: (*each[name], self.queues[number].setdefault(name, [])) for name in sorted(each)}
+        worked, service = sum(it.worked for it in tried), sum(service for _, service in each.values())
+        self.found.append(Interval(agents, self.calls[number], service, self.waits[number], worked, self._there(number, agents), queues))
 
     def tried(self, agents: int) -> list[_Passed]:
         """Returns each day at the end of the next interval (list of _Passed), with this many agents in it."""
@@ -160,7 +172,7 @@ class Search:
         open_ = {call.number for state in self.states for call in state.waiting} | ({number} if self.calls[number] else set())
         for it, bounds in zip(tried, self.bounds):
             end = bounds[number][1]
-            for at, wait in it.began:
+            for at, wait, _ in it.began:
                 more[at] = more.get(at, 0) + (wait <= self.goal.within)
             for call in it.waiting:
                 more[call.number] = more.get(call.number, 0) + (end - call.arrive <= self.goal.within)
@@ -189,18 +201,41 @@ def least(days: Sequence[DayCalls], goal: Goal, progress: Callable[[int], object
     return search.found
 
 
+def with_numbers(days: Sequence[tuple[Day, list[list[Waiting]]]], goal: Goal, numbers: Sequence[int]) -> list[Interval]:
+    """Returns an Interval for each interval of a day, with these numbers of agents (list of int), whether they reach a Goal or not; `days` are those
+    of `least`.
+
+    >>> from mpsim.agents.staffing import Goal, Waiting, with_numbers
+    >>> from mpsim.times.calendar import Calendar
+    >>> from mpsim.times.intervals import days_of
+    >>> day, = days_of(Calendar(10**9), 0, 43200 * 10**9)
+    >>> calls = [[Waiting(0, at, 60, None) for at in (0, 10, 20, 100)], []]
+    >>> [it.within(20) for it in with_numbers([(day, calls)], Goal(Fraction(3, 4), 20), [1, 0])]
+    [0.25, None]
+    """
+    search = Search(days, goal)
+    for number, agents in enumerate(numbers):
+        search.choose(number, agents, search.tried(agents))
+    return search.found
+
+
 def calls_of(
-    every: int, days: Sequence[Day], arrivals: Sequence[int], services: Sequence[int], patience: Sequence[int | None] | None
+    every: int,
+    days: Sequence[Day],
+    arrivals: Sequence[int],
+    services: Sequence[int],
+    patience: Sequence[int | None] | None,
+    queues: Sequence[str] | None = None,
 ) -> list[list[list[Waiting]]]:
-    """Returns the calls of each Day (list, per day, of what `least` takes) from arrivals (int, ticks, in any order), services and patience
-    (sequences).
+    """Returns the calls of each Day (list, per day, of what `least` takes) from arrivals (int, ticks, in any order), services, patience and queues
+    (sequences; patience and queues may be None).
 
     >>> from mpsim.agents.staffing import calls_of
     >>> from mpsim.times.calendar import Calendar
     >>> from mpsim.times.intervals import days_of
     >>> days = days_of(Calendar(10**9), 0, 43200 * 10**9)
     >>> calls_of(43200 * 10**9, days, [50000], [60], None)
-    [[[], [Waiting(number=1, arrive=50000, service=60, patience=None)]]]
+    [[[], [Waiting(number=1, arrive=50000, service=60, patience=None, queue='')]]]
     """
     found: list[list[list[Waiting]]] = [[[] for _ in day.begins[1:]] for day in days]
     at = 0
@@ -208,7 +243,8 @@ def calls_of(
         while arrivals[call] >= days[at].begins[-1] and at + 1 < len(days):
             at += 1
         number = days[at].interval(arrivals[call])
-        found[at][number].append(Waiting(number, arrivals[call], services[call], patience[call] if patience else None))
+        queue = queues[call] if queues else ""
+        found[at][number].append(Waiting(number, arrivals[call], services[call], patience[call] if patience else None, queue))
     return found
 
 
@@ -235,22 +271,34 @@ def erlang_c(calls: float, service: float, span: float, share: float | Fraction,
 HEADS = "from", "days", "calls", "handling_time", "agents", "rostered", "within", "p90", "occupancy", "erlang_c"
 
 
-def rows_of(found: Sequence[Interval], count: int, every: int, tick: int, goal: Goal, shrinkage: Fraction = Fraction(0)) -> Iterator[Row]:
+def rows_of(
+    found: Sequence[Interval], count: int, every: int, tick: int, goal: Goal, shrinkage: Fraction = Fraction(0), by_queue: bool = False
+) -> Iterator[Row]:
     """Yields a row (list, as in HEADS) for each Interval of so many days (int) that has calls or agents: the time of day; the days; per day, the
     calls to two decimals; their mean handling time in seconds; the agents needed, and rostered with this shrinkage (Fraction); the share served
     within the goal's time; the 90th percentile of the waits in seconds; the occupancy; and the number of agents by Erlang's formula. None if there is
-    no value."""
+    no value. With `by_queue` the queue follows the time of day: "all", and then each queue with its calls, which have no agents of their own."""
     for number, it in enumerate(found):
         if not it.calls and not it.agents:
             continue
-        handling = it.service / it.calls if it.calls else None
-        share = it.within(goal.within)
-        p90 = percentile_of(sorted(it.waits), 90) if it.waits else None
+        name, handling = label(number, every), it.service / it.calls if it.calls else None
         erlang = erlang_c(it.calls / count, handling, every / tick, goal.share, goal.within) if handling is not None else None
-        shown = [None if handling is None else round(handling * tick / SECOND, 1), it.agents, math.ceil(it.agents / (1 - shrinkage))]
-        shown += [None if share is None else round(share, 4), None if p90 is None else round(p90 * tick / SECOND, 1)]
         occupancy = round(it.worked / it.there, 4) if it.there else None
-        yield [label(number, every), count, round(it.calls / count, 2), *shown, occupancy, erlang]
+        many = [it.agents, math.ceil(it.agents / (1 - shrinkage))]
+        front, within = _figures(it.calls, it.service, it.waits, count, tick, goal)
+        yield [name, *(["all"] if by_queue else []), *front, *many, *within, occupancy, erlang]
+        for queue, mine in it.queues.items() if by_queue else ():
+            front, within = _figures(*mine, count, tick, goal)
+            yield [name, queue, *front, None, None, *within, None, None]
+
+
+def _figures(calls: int, service: int, waits: Sequence[int], count: int, tick: int, goal: Goal) -> tuple[Row, Row]:
+    """Returns the figures of some calls (lists): the days, the calls per day and their handling time; the share within the goal's time, and the 90th
+    percentile of the waits."""
+    handling = round(service / calls * tick / SECOND, 1) if calls else None
+    share = round(sum(wait <= goal.within for wait in waits) / calls, 4) if calls else None
+    p90 = round(percentile_of(sorted(waits), 90) * tick / SECOND, 1) if waits else None
+    return [count, round(calls / count, 2), handling], [share, p90]
 
 
 def groups_of(chosen: Sequence[DayCalls], is_dated: bool, date: str | None) -> tuple[str, list[tuple[str, Sequence[DayCalls]]]]:

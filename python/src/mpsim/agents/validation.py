@@ -5,6 +5,16 @@ from __future__ import annotations
 from typing import TYPE_CHECKING, NamedTuple
 
 from ..times.intervals import label
+from ..wording import counted
+
+
+class Trust(NamedTuple):
+    """When a model is trusted: how far the service levels may differ (float) over all calls, and in an interval of at least this many calls (int)."""
+
+    overall: float = 0.02
+    each: float = 0.05
+    calls: int = 50
+
 
 if TYPE_CHECKING:
     from collections.abc import Iterator, Sequence
@@ -17,9 +27,6 @@ if TYPE_CHECKING:
     from .queues import Queue
 
     Cells = Dict[Tuple[int, str], List["Pair"]]
-
-# When a model is trusted: how far the service levels may differ over all calls, and in an interval of at least so many calls.
-OVERALL, EACH, CALLS = 0.02, 0.05, 50
 HEADS = "from", "queue", "offered", "recorded_within", "modelled_within", "gap", "same"
 
 
@@ -32,14 +39,14 @@ class Pair(NamedTuple):
     served: bool
 
 
-def compared(queue: Queue, group: Group, days: Sequence[Day], waits: Sequence[int], gone: Sequence[bool]) -> Cells:
-    """Returns the calls of a Queue (list of Pair), by the number of their interval and their source (dict), with the agents of a Group in the model.
-    `days` (list of Day) have the intervals; `waits` (list of int, ticks) and `gone` (list of bool) are those that `recorded` returns."""
-    every_source = queue.trace.sources()
-    sources = [every_source[job - 1] for job in queue.jobs]
+def compared(queue: Queue, group: Group, days: Sequence[Day], waits: Sequence[int], gone: Sequence[bool], queues: Sequence[str]) -> Cells:
+    """Returns the calls of a Queue (list of Pair), by the number of their interval and their queue (dict), with the agents of a Group in the model.
+    `days` (list of Day) have the intervals; `waits` (list of int, ticks) and `gone` (list of bool) are those that `recorded` returns; `queues` (list
+    of str) are the queues of the records."""
+    mine = [queues[job - 1] for job in queue.jobs]
     # An abandoned call shows how long the caller waited, any other only that the patience was longer.
     patience = [waits[job - 1] if gone[job - 1] else None for job in queue.jobs]
-    who, modelled = group.assigned(queue.arrivals, queue.demands, sources, patience)
+    who, modelled = group.assigned(queue.arrivals, queue.demands, mine, patience)
     found: Cells = {}
     at = 0
     for call in sorted(range(len(queue.jobs)), key=queue.arrivals.__getitem__):
@@ -47,7 +54,7 @@ def compared(queue: Queue, group: Group, days: Sequence[Day], waits: Sequence[in
             at += 1
         record = queue.jobs[call] - 1
         pair = Pair(waits[record], not gone[record], modelled[call], who[call] > 0)
-        found.setdefault((days[at].interval(queue.arrivals[call]), sources[call]), []).append(pair)
+        found.setdefault((days[at].interval(queue.arrivals[call]), mine[call]), []).append(pair)
     return found
 
 
@@ -73,22 +80,28 @@ def _gap(row: Row) -> tuple[int, float, float, float] | None:
     return None
 
 
-def verdict(rows: Sequence[Row]) -> str:
+def verdict(rows: Sequence[Row], trust: Trust = Trust()) -> str:
     """Returns a line (str) that says whether a model may be trusted, and why not, from rows as in HEADS with the queue "all": the first of all calls,
-    the others per interval."""
+    the others per interval.
+
+    >>> from mpsim.agents.validation import Trust, verdict
+    >>> rows = [["all", "all", 90, 0.8, 0.83, 0.03, 0.99], ["08:00", "all", 90, 0.8, 0.83, 0.03, 0.99]]
+    >>> verdict(rows, Trust(overall=0.03))
+    'the model may be trusted: 80.0 % recorded, 83.0 % modelled, and no interval of 50 calls or more differs by more than 5 points'
+    """
     whole = _gap(rows[0])
     if whole is None:
         return "there are no calls to compare"
     each = [(row[0], found) for row in rows[1:] if (found := _gap(row))]
-    far = [(name, gap) for name, (count, _, _, gap) in each if count >= CALLS and abs(gap) > EACH]
+    far = [(name, gap) for name, (count, _, _, gap) in each if count >= trust.calls and abs(gap) > trust.each]
     _, one, other, gap = whole
-    both = f"{100 * one:.1f} % recorded, {100 * other:.1f} % modelled"
-    if abs(gap) <= OVERALL and not far:
-        return f"the model may be trusted: {both}, and no interval of {CALLS} calls or more differs by more than {100 * EACH:.0f} points"
+    both, points = f"{100 * one:.1f} % recorded, {100 * other:.1f} % modelled", f"{100 * trust.each:g} points"
+    if abs(gap) <= trust.overall and not far:
+        return f"the model may be trusted: {both}, and no interval of {counted(trust.calls, 'call')} or more differs by more than {points}"
     where = ""
     if far:
         name, worst = max(far, key=lambda item: abs(item[1]))
-        where = f"; {len(far)} of {len(rows) - 1} intervals differ by more than {100 * EACH:.0f} points, most at {name} ({100 * worst:+.1f})"
+        where = f"; {len(far)} of {len(rows) - 1} intervals differ by more than {points}, most at {name} ({100 * worst:+.1f})"
     how = "better" if gap > 0 else "worse"
     return f"the model may not be trusted: {both}, and the model is {how}{where}"
 

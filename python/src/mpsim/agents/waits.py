@@ -3,20 +3,23 @@
 from __future__ import annotations
 
 import contextlib
+from bisect import bisect_left, bisect_right
 from typing import TYPE_CHECKING, NamedTuple
 
 from ..errors import BoundError, ModelError, TraceError, VisitsError
 from ..inputs import model_input
 from ..model import nodes_of
+from ..node_visits import NodeVisits
 from ..runs import run
 from .networks import ROSTERED, agent_lines, front, in_front, inputs_of, trunk_lines
 from .pools import agents_of, gone_name, queue_name
 from .queues import calls_at, columns_of
 
 if TYPE_CHECKING:
-    from collections.abc import Iterable, Iterator, Mapping
+    from collections.abc import Iterable, Iterator, Mapping, Sequence
 
     from ..model import ModelNode
+    from ..report import Report
     from ..shapes import ModelInput
     from ..traces.trace import Trace
 
@@ -35,8 +38,9 @@ def model_pools(model: ModelInput, trace: Trace) -> list[ModelPool]:
     """Returns the pools (list of ModelPool) in a model whose lines are those that `mpplan pool` writes, upstream pools first.
 
     A trunk group that loses a call of the trace (Trace) isn't a pool, since the trace was made for another number of agents; if the trace is
-    rejected, it counts as one. The model is any that `mpsim.run` accepts. An invalid model, or one that can't be read twice, has no pools. Raises
-    ValueError for a pool with a roster, patience or priorities, whose agents don't follow from their number.
+    rejected, it counts as one. The model is any that `mpsim.run` accepts. An invalid model, or one that can't be read twice, has no pools. Nor does
+    it have those with a roster, patience or priorities, whose waits don't follow from a number of agents (`rostered_pools`). Raises ValueError if
+    one of those is downstream of another pool: its arrivals would change.
 
     >>> from mpsim.agents.waits import model_pools
     >>> from mpsim.traces import Trace
@@ -52,9 +56,11 @@ def model_pools(model: ModelInput, trace: Trace) -> list[ModelPool]:
     with contextlib.suppress(ValueError):
         nodes = {node.name: node for node in nodes_of(text)}
         found = sorted(_named(nodes), key=lambda item: len(in_front(nodes, [queue_name(item[0])])))
-    for name, *_ in found:
-        if _has_more_rules(text, name):
-            raise ValueError(_rules_error(name, "run mpplan pool for each part"))
+    rostered = rostered_pools(text)
+    found = [it for it in found if it[0] not in rostered]
+    for name in rostered:
+        if above := [it[0] for it in found if it[0] in in_front(nodes, [queue_name(name)])]:
+            raise ValueError(_rules_error(name, f"run mpplan pool for each part, since it is downstream of the pool {above[0]}"))
     if groups := [name for name, *_, end in found if name == end]:
         with contextlib.suppress(ModelError, TraceError, BoundError, VisitsError):
             report = run(front(text, groups), trace.lines())
@@ -69,6 +75,61 @@ def _has_more_rules(text: str, name: str) -> bool:
 
 def _rules_error(name: str, then: str) -> str:
     return f"{name} is a pool with a roster, patience or priorities: its waits hold only for the whole trace; {then}"
+
+
+def rostered_pools(text: str) -> list[str]:
+    """Returns the pools (list of str) of a model's text that have a roster, patience or priorities.
+
+    >>> from mpsim.agents.waits import rostered_pools
+    >>> front = "model 2\\n# desk is a pool with a roster, patience or priorities: its waits hold only for this trace\\nsource door\\n"
+    >>> rostered_pools(front + "delay desk_queue desk_wait from door\\ntrunk desk 1 talk from desk_queue\\n")
+    ['desk']
+    """
+    with contextlib.suppress(ValueError):
+        nodes = {node.name: node for node in nodes_of(text)}
+        return [name for name, *_ in _named(nodes) if _has_more_rules(text, name)]
+    return []
+
+
+def carried(report: Report, pool: str, pieces: Sequence[Sequence[int]]) -> int:
+    """Returns how many of some pieces of a trace (sequences of int, the records of each, from 0) share the agents of a pool with another piece, in a
+    report with visits of the whole trace: a call from elsewhere is waiting or served between the first arrival and the last beginning of a call of
+    the piece. The waits of all other pieces are those that each would have alone, if free agents are alike or their intervals begin with the piece.
+
+    >>> import mpsim
+    >>> from mpsim.agents.waits import carried
+    >>> model = "model 2\\nsource door\\ndelay desk_queue desk_wait from door\\ntrunk desk 1 talk from desk_queue\\n"
+    >>> rows = [("source", "time", "talk", "desk_wait"), ("door", 0, 9, 0), ("door", 2, 4, 7), ("door", 20, 4, 0)]
+    >>> report = mpsim.run(model, rows, jobs=True)
+    >>> carried(report, "desk", [[0], [1], [2]]), carried(report, "desk", [[0, 1], [2]])
+    (1, 0)
+    """
+    came = {job: (arrive, depart) for job, arrive, depart in _columns(report, queue_name(pool))}
+    ends = {job: depart for job, _, depart in _columns(report, pool)}
+    calls = [(arrive, ends[job], begin, job) for job, (arrive, begin) in came.items()]
+    if gone_name(pool) in report:
+        calls += [(arrive, depart, arrive, job) for job, arrive, depart in _columns(report, gone_name(pool))]
+    calls.sort()
+    piece_of = {record + 1: number for number, records in enumerate(pieces) for record in records}
+    arrivals = [call[0] for call in calls]
+    latest: list[int] = []
+    mine: dict[int, tuple[int, int]] = {}
+    for arrive, depart, begin, job in calls:
+        latest.append(max(depart, latest[-1] if latest else 0))
+        if job in piece_of:
+            first, last = mine.get(piece_of[job], (arrive, begin))
+            mine[piece_of[job]] = min(first, arrive), max(last, begin)
+    shared = 0
+    for number, (first, last) in mine.items():
+        before, behind = bisect_left(arrivals, first), bisect_right(arrivals, last)
+        others = any(piece_of.get(calls[at][3]) != number for at in range(before, behind))
+        shared += others or before > 0 and latest[before - 1] > first
+    return shared
+
+
+def _columns(report: Report, node: str) -> Iterator[tuple[int, int, int]]:
+    visits = report.visits[node] if report.visits else NodeVisits(node)
+    return zip(visits.job, visits.arrive, visits.depart)
 
 
 def _named(nodes: Mapping[str, ModelNode]) -> Iterator[tuple[str, int, str, str]]:
@@ -102,8 +163,8 @@ def pools_in(text: str, trace: Trace) -> list[ModelPool]:
 
 def varied(texts: Iterable[str], trace: Trace) -> list[str]:
     """Returns the names of pools (list of str) that have different numbers of agents in these models (iterable of str), and whose agents and waits
-    are columns of a trace (Trace): the trace holds for one of the numbers at most. Raises ValueError if there are some, and a pool of these models has
-    a roster, patience or priorities, since its waits can't be worked out again.
+    are columns of a trace (Trace): the trace holds for one of the numbers at most. Raises ValueError if there are some, and a pool of these models
+    has a roster, patience or priorities, since its waits can't be worked out again.
 
     >>> from mpsim.agents.waits import varied
     >>> from mpsim.traces import Trace

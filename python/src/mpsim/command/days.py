@@ -7,7 +7,7 @@ from typing import TYPE_CHECKING
 from ..agents.pools import pool_lines
 from ..files import text_of
 from ..progress import Progress
-from ..sweeps.days import by_calendar, by_ticks, days
+from ..sweeps.days import by_calendar, by_ticks, days, shared_by
 from ..tables.nodes import table
 from ..tables.sheets import write_table
 from ..traces.trace import Trace
@@ -47,6 +47,10 @@ def main(args: Namespace) -> int:
     write_table(table(sweep, nodes=args.node, head="day"), args.format, args.csv_style)
     for line in pool_lines(sweep.reports().values(), args.node):
         say(line)
+    for pool, shared in shared_by(text, trace, pieces).items():
+        where = f"in {shared} of {len(pieces)} pieces" if args.every else f"on {shared} of {len(pieces)} days"
+        why = f"{pool} has a roster, patience or priorities, so its waits are those of the whole trace"
+        say(f"{why}; {where} they may depend on calls of another")
     if left:
         say(f"{counted(left, 'record')} left out: before a day opens or after it closes" + ("" if pieces else "; no day is left"))
     if over:

@@ -6,7 +6,8 @@ from typing import TYPE_CHECKING
 
 from ..agents.groups import FIRST, LONGEST_IDLE, Agent, Group
 from ..agents.queues import Queue
-from ..agents.rosters import counts_roster, patience_in, read_roster
+from ..agents.rosters import counts_roster, patience_in, queues_in, read_roster
+from ..exports.codes import codes_in
 from ..files import all_written, judge_outputs, text_of
 from ..limits import TRUNK
 from ..runs import run
@@ -28,11 +29,23 @@ if TYPE_CHECKING:
 def group_words(parser: ArgumentParser) -> None:
     """Declares the arguments that say who serves which calls."""
     parser.add_argument("--roster", metavar="FILE", help="who is there when: a CSV file with the columns agent, queues, from and to")
-    parser.add_argument("--first", action="append", default=[], metavar="SOURCE", help="serve calls of this source first; may be repeated")
-    says = "serve calls of this source next; may be repeated, in this order"
-    parser.add_argument("--then", action="append", default=[], metavar="SOURCE", help=says)
+    queue_word(parser)
+    parser.add_argument("--first", action="append", default=[], metavar="QUEUE", help="serve calls of this queue first; may be repeated")
+    says = "serve calls of this queue next; may be repeated, in this order"
+    parser.add_argument("--then", action="append", default=[], metavar="QUEUE", help=says)
     says = "which of several free agents takes a call: the one who has been free longest (the default) or the first in the roster"
     parser.add_argument("--choose", choices=[LONGEST_IDLE, FIRST], help=says)
+
+
+def queue_word(parser: ArgumentParser) -> None:
+    """Declares the argument that chooses the queue of a call."""
+    parser.add_argument("--queue", metavar="COLUMN", help="the queue of a call is its value in this column; default: its source")
+
+
+def queues_of(args: Namespace, trace: Trace, text: str | None) -> list[str]:
+    """Returns the queue of each record (list of str) of a Trace: its source, or the value of --queue, by its word in the comments of a model's text
+    (str) if that is one word."""
+    return queues_in(trace, args.queue, codes_in(text or "").get(args.queue, {})) if args.queue else trace.sources()
 
 
 def roster_words(parser: ArgumentParser) -> None:
@@ -48,26 +61,27 @@ def roster_words(parser: ArgumentParser) -> None:
 
 def asks_for_group(args: Namespace) -> bool:
     """Returns whether a command's arguments ask for more than a number of agents."""
-    more = args.roster, args.patience, args.first, args.then, args.choose, args.every, "=" in (args.agents or "")
+    more = args.roster, args.patience, args.first, args.then, args.choose, args.queue, args.every, "=" in (args.agents or "")
     return any(more)
 
 
-def _priorities(args: Namespace, sources: Collection[str]) -> dict[str, int]:
+def _priorities(args: Namespace, queues: Collection[str]) -> dict[str, int]:
     found = dict.fromkeys(args.first, 1)
     for rank, name in enumerate(args.then, 2):
         if name in found:
             raise ValueError(f"{name} is in --first and --then, or twice in --then")
         found[name] = rank
     for name in found:
-        if name not in sources:
-            raise ValueError(f"no source {name!r}; the trace has {', '.join(sources)}")
+        if name not in queues:
+            what = f"value {name!r} in {args.queue}" if args.queue else f"source {name!r}"
+            raise ValueError(f"no {what}; the trace has {', '.join(queues)}")
     return found
 
 
-def _agents(args: Namespace, days: Calendar, last: int, sources: Sequence[str]) -> list[Agent]:
+def _agents(args: Namespace, days: Calendar, last: int, queues: Sequence[str]) -> list[Agent]:
     """Returns the agents (list of Agent) that the arguments ask for."""
     if args.roster:
-        return read_roster(args.roster, days, last, sources)[0]
+        return read_roster(args.roster, days, last, queues)[0]
     if "=" in args.agents:
         return given("--agents", lambda text: counts_roster(text, days, last), args.agents)
     if not args.agents.isdigit():
@@ -76,13 +90,14 @@ def _agents(args: Namespace, days: Calendar, last: int, sources: Sequence[str]) 
     return [Agent()] * int(args.agents)
 
 
-def group_of(args: Namespace, days: Calendar, last: int, sources: Sequence[str]) -> tuple[list[Agent], Group]:
-    """Returns the agents (list of Agent) and the Group that a command's arguments ask for, for a Calendar, its last tick (int), and the source of
+def group_of(args: Namespace, days: Calendar, last: int, queues: Sequence[str]) -> tuple[list[Agent], Group]:
+    """Returns the agents (list of Agent) and the Group that a command's arguments ask for, for a Calendar, its last tick (int), and the queue of
     each record (list of str). Raises ValueError for invalid arguments."""
-    agents = _agents(args, days, last, list(dict.fromkeys(sources)))
+    names = list(dict.fromkeys(queues))
+    agents = _agents(args, days, last, names)
     if not 1 <= len(agents) <= TRUNK:
         raise ValueError(f"a pool has 1 to {TRUNK} agents, not {len(agents)}")
-    return agents, Group(agents, _priorities(args, set(sources)), args.choose or LONGEST_IDLE)
+    return agents, Group(agents, _priorities(args, names), args.choose or LONGEST_IDLE)
 
 
 def _judge(args: Namespace) -> None:
@@ -103,16 +118,17 @@ def rows_of_group(args: Namespace) -> list[Row]:
     """Returns the header and the rows (lists) of the table of a pool with a roster, patience or priorities, as HEADS says, and writes the
     outputs that the arguments ask for. Raises what Queue does, and ValueError for invalid arguments, and if some calls are never served."""
     _judge(args)
-    days = calendar_of(args, text_of(args.model))
+    text = text_of(args.model)
+    days = calendar_of(args, text)
     every = every_of(args.every or "30min")
     trace = Trace.read(args.trace)
     queue = Queue(args.model, trace, args.node)
-    every_source = trace.sources()
+    every_queue = queues_of(args, trace, text)
     last = max(queue.arrivals, default=0)
-    agents, group = group_of(args, days, last, every_source)
+    agents, group = group_of(args, days, last, every_queue)
     patience, is_drawn = patience_in(args.patience, trace, days.tick, 1 if args.seed is None else args.seed) if args.patience else (None, False)
-    sources = [every_source[job - 1] for job in queue.jobs]
-    who, waits = group.assigned(queue.arrivals, queue.demands, sources, patience and [patience[job - 1] for job in queue.jobs])
+    queues = [every_queue[job - 1] for job in queue.jobs]
+    who, waits = group.assigned(queue.arrivals, queue.demands, queues, patience and [patience[job - 1] for job in queue.jobs])
     queue.judge_waits(days, who, waits)
     model, made = queue.with_group(len(agents), who, waits, patience if is_drawn else None)
     # The program must find that no call is lost.
@@ -125,6 +141,6 @@ def rows_of_group(args: Namespace) -> list[Row]:
             out.writelines(made.texts())
         if out_model:
             out_model.write(model)
-    calls = sources, queue.arrivals, queue.demands, who, waits
+    calls = queues, queue.arrivals, queue.demands, who, waits
     within = (args.within or [20])[0]
     return [[*HEADS], *Table(days_of(days, last, every), calls, agents, within).rows(every, days.tick)]

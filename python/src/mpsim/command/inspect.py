@@ -1,6 +1,11 @@
 """The command `mpplan inspect`."""
 
+from __future__ import annotations
+
 import shlex
+from argparse import ArgumentParser, Namespace
+from collections.abc import Mapping
+from typing import Any
 
 from ..exports.inspection import HEADS, inspected
 from ..exports.recipes import recipe_text
@@ -13,7 +18,7 @@ from .prepare import file_words
 EXAMPLE = "mpplan inspect calls.csv --write-recipe calls.toml"
 
 
-def words(parser):
+def words(parser: ArgumentParser) -> None:
     """Declares the arguments of `mpplan inspect`."""
     parser.add_argument("export", help="the export: a file that `mpplan prepare` reads")
     file_words(parser.add_argument)
@@ -22,7 +27,7 @@ def words(parser):
     table_words(parser)
 
 
-def main(args):
+def main(args: Namespace) -> None:
     """Runs `mpplan inspect`."""
     judge_outputs([args.write_recipe], {"export": [args.export]})
     names = "decimal", "delimiter", "encoding", "fixed", "header", "sheet", "skip"
@@ -39,7 +44,7 @@ def main(args):
     write_table([list(HEADS), *(column.row() for column in found.columns)], args.format, args.csv_style)
 
 
-def _command(export, options):
+def _command(export: str, options: Mapping[str, Any]) -> str:
     """Returns the command of these options, as for a shell.
 
     >>> _command("my calls.csv", {"time": "When", "demand": ["Long:min"], "skip": 2})

@@ -3,11 +3,11 @@
 from __future__ import annotations
 
 import argparse
-from typing import TYPE_CHECKING
+from typing import TYPE_CHECKING, NamedTuple
 
 from ..tables.sheets import STYLES
 from ..times.calendar import Calendar, settings_in, tick_of
-from ..times.texts import given, iso
+from ..times.texts import given, iso, length
 
 if TYPE_CHECKING:
     from argparse import ArgumentParser, Namespace
@@ -43,20 +43,64 @@ def calendar_of(args: Namespace, model: str | None = None) -> Calendar:
 
 def figure_words(parser: ArgumentParser, what: str = "waits", share: str = "report the share served within this many ticks (default: 20)") -> None:
     """Declares the arguments that choose the figures of waits, or of what else is counted."""
-    parser.add_argument("--within", type=ticks, action=Once, metavar="TICKS", help=f"{share}; may be repeated")
+    parser.add_argument("--within", type=ticks, action=Once, metavar="TIME", help=f"{share}, or a time such as 20s; may be repeated")
+    percentile_word(parser, what)
+
+
+def percentile_word(parser: ArgumentParser, what: str = "waits") -> None:
+    """Declares --percentile."""
     says = f"percentile of the {what} to report (default: 50, 90, 95 and 99); may be repeated"
     parser.add_argument("--percentile", type=float, action=Once, metavar="P", help=says)
 
 
-def ticks(text: str) -> int:
-    """Returns the ticks (int) in the value of --within."""
+class Time(NamedTuple):
+    """A length of time as it was written (str), and in nanoseconds (int)."""
+
+    text: str
+    nanos: int
+
+
+def ticks(text: str) -> int | Time:
+    """Returns the value of --within: ticks (int), or a Time such as 20s, which `resolve_within` turns into ticks."""
     try:
         value = int(text)
     except ValueError:
-        value = -1
+        try:
+            return Time(text, length(text))
+        except ValueError:
+            value = -1
     if value < 0:
-        raise argparse.ArgumentTypeError(f"{text}: expected a number of ticks, 0 or more")
+        raise argparse.ArgumentTypeError(f"{text}: expected a number of ticks, 0 or more, or a time such as 20s or 1min")
     return value
+
+
+def within_word(parser: ArgumentParser, says: str) -> None:
+    """Declares --within for one time."""
+    parser.add_argument("--within", type=ticks, metavar="TIME", help=f"{says} this many ticks, or a time such as 20s")
+
+
+def tick_word(parser: ArgumentParser) -> None:
+    """Declares --tick for a command that needs it only for times."""
+    parser.add_argument("--tick", metavar="LENGTH", help="length of a tick, e.g. 1s, for --within 20s; default: from the comments of the model")
+
+
+def resolve_within(args: Namespace, text: str | None = None) -> None:
+    """Turns the times of --within into whole ticks that aren't longer, by --tick or by a model's text. Raises ValueError if neither gives the length
+    of a tick."""
+
+    def resolved(value: int | Time | None) -> int | None:
+        if not isinstance(value, Time):
+            return value
+        tick = given("--tick", tick_of, args.tick) if getattr(args, "tick", None) else settings_in(text or "")[0]
+        if tick is None:
+            how = "a number of ticks, --tick, or a model whose first lines mpplan prepare wrote"
+            raise ValueError(f"--within {value.text}: the length of a tick is unknown: give {how}")
+        return value.nanos // tick
+
+    if isinstance(args.within, list):
+        args.within = list(dict.fromkeys(map(resolved, args.within)))
+    else:
+        args.within = resolved(args.within)
 
 
 class Once(argparse.Action):

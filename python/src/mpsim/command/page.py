@@ -15,7 +15,7 @@ from ..times.calendar import settings_in
 from ..times.texts import SECOND, moment
 from ..wording import counted
 from .messages import say
-from .options import calendar_of, calendar_words, calendar_words_in, ticks
+from .options import calendar_of, calendar_words, calendar_words_in, resolve_within, within_word
 
 if TYPE_CHECKING:
     from argparse import ArgumentParser, Namespace
@@ -34,7 +34,7 @@ def words(parser: ArgumentParser) -> None:
     parser.add_argument("--model", action="append", default=[], metavar="FILE", help=says)
     parser.add_argument("--out", metavar="FILE", required=True, help="the page; if the name ends in .svg, a drawing of the first report's network")
     parser.add_argument("--title", metavar="TEXT", help="title of the page; default: the name of the report")
-    parser.add_argument("--within", type=ticks, metavar="TICKS", help="also show the share served within this many ticks")
+    within_word(parser, "also show the share served within")
     calendar_words(parser)
 
 
@@ -79,6 +79,7 @@ def main(args: Namespace) -> None:
     """Runs `mpplan page`."""
     judge_outputs([args.out], {"report": args.reports, "model": args.model})
     texts, labelled = _models(args), []
+    resolve_within(args, texts[0])
     for at, (path, name) in enumerate(zip(args.reports, labels_of(args.reports))):
         for label, report in _labelled(path, name):
             try:

@@ -7,15 +7,17 @@ from typing import TYPE_CHECKING
 
 from ..agents.pools import pooled
 from ..agents.queues import Queue
-from ..files import all_written, judge_outputs
+from ..files import all_written, judge_outputs, text_of
 from ..progress import Progress
 from ..report import Report
 from ..tables.pools import staffing
 from ..tables.service import PERCENTS, figures, heads
 from ..tables.sheets import write_table
+from ..tables.visits import together
 from ..traces.trace import Trace
 from .groups import asks_for_group, roster_words, rows_of_group
-from .options import figure_words, table_words
+from .messages import say
+from .options import figure_words, resolve_within, table_words
 
 if TYPE_CHECKING:
     from argparse import ArgumentParser, Namespace
@@ -56,14 +58,18 @@ def numbers_of(text: str) -> range:
 
 def main(args: Namespace) -> None:
     """Runs `mpplan pool`."""
+    mixed: str | None = None
+    resolve_within(args, text_of(args.model) if args.model else None)
     within, percents = args.within or (20,), args.percentile or PERCENTS
     if asks_for_group(args):
         rows = rows_of_group(args)
     elif args.report:
         rows = _of_report(args, within, percents)
     else:
-        rows = _of_agents(args, within, percents)
+        rows, mixed = _of_agents(args, within, percents)
     write_table(rows, args.format, args.csv_style)
+    if mixed:
+        say(f"{mixed}; --every gives each")
 
 
 def _of_report(args: Namespace, within: Sequence[int], percents: Sequence[float]) -> list[Row]:
@@ -72,10 +78,11 @@ def _of_report(args: Namespace, within: Sequence[int], percents: Sequence[float]
     report = Report.read(args.report)
     if report.visits is None:
         raise ValueError(f"{args.report}: the report has no job lines: run mpsim with --jobs")
-    return [["node", *heads(within, percents)], [args.node, *figures(pooled(report, args.node).wait, within, percents)]]
+    visits = pooled(report, args.node)
+    return [["node", *heads(within, percents)], [args.node, *figures(visits.wait, within, percents)]]
 
 
-def _of_agents(args: Namespace, within: Sequence[int], percents: Sequence[float]) -> list[Row]:
+def _of_agents(args: Namespace, within: Sequence[int], percents: Sequence[float]) -> tuple[list[Row], str | None]:
     if not args.model or not args.trace or not args.agents:
         raise ValueError("give a model, a trace and --agents, or --report")
     agents = numbers_of(args.agents)
@@ -95,4 +102,5 @@ def _of_agents(args: Namespace, within: Sequence[int], percents: Sequence[float]
                 out.writelines(trace.texts())
             if out_model:
                 out_model.write(model)
-    return rows
+    every_source = queue.trace.sources()
+    return rows, together({args.node: [every_source[job - 1] for job in queue.jobs]})

@@ -4,7 +4,7 @@ from __future__ import annotations
 
 import contextlib
 import os
-from typing import TYPE_CHECKING
+from typing import TYPE_CHECKING, Any
 
 from ..exports.parts import KINDS
 from ..exports.prepare import prepare, prepare_parts
@@ -19,7 +19,7 @@ from .recipes import Recipe, apply_recipe
 
 if TYPE_CHECKING:
     from argparse import ArgumentParser, Namespace
-    from collections.abc import Callable, Iterable
+    from collections.abc import Callable, Iterable, Mapping
     from typing import TextIO
 
     from ..exports.result import Prepared
@@ -131,9 +131,9 @@ def _outputs(add: Callable[..., object]) -> None:
 def main(args: Namespace) -> None:
     """Runs `mpplan prepare`."""
     apply_recipe(args)
-    own = "command", "main", "recipe", "first_lines", "out_model", "out", "split_by"
+    own = "command", "main", "recipe", "export", "first_lines", "out_model", "out", "split_by"
     # Options that aren't given have the defaults of the library.
-    options = {name: value for name, value in vars(args).items() if name not in own and value is not None}
+    options: dict[str, Any] = {name: value for name, value in vars(args).items() if name not in own and value is not None}
     # Standard output, as without --out.
     args.out = None if args.out == "-" else args.out
     inputs = {"export": [args.export], "model": [args.model]}
@@ -142,13 +142,14 @@ def main(args: Namespace) -> None:
         raise ValueError("--out-model requires --model")
     if args.split_by and not args.out:
         raise ValueError("--split-by requires --out FILE: each trace gets the name of its part, as in FILE-2026-03.csv")
-    model = options["model"] = judged_text(args.model, say) if args.model else None
+    model = judged_text(args.model, say) if args.model else None
     if args.split_by:
         with all_written(args.left_out) as (left_out,):
-            _write_parts(args, model, prepare_parts(by=args.split_by, **{**options, "left_out": left_out}), inputs)
+            parts = prepare_parts(**{**options, "export": args.export, "by": args.split_by, "model": model, "left_out": left_out})
+            _write_parts(args, model, parts, inputs)
         return
     with all_written(args.left_out, args.first_lines, args.out_model, args.out) as (left_out, lines, out_model, out):
-        made = prepare(**{**options, "left_out": left_out})
+        made = prepare(**{**options, "export": args.export, "model": model, "left_out": left_out})
         for line in [*_notes(args, made), _size(made)]:
             say(line)
         with contextlib.nullcontext(out) if out else written() as file:
@@ -165,21 +166,22 @@ def _size(made: Prepared) -> str:
     return f"{counted(len(made), 'record')}, {counted(len(made.names), 'source')}"
 
 
-def _write(made: Prepared, model: str | None, lines: TextIO | None, out_model: TextIO | None, out: TextIO) -> None:
+def _write(made: Prepared, model: str | None, lines: TextIO | None, out_model: TextIO | None, out: TextIO | None) -> None:
     """Writes a trace, and the first lines and the copy of the model that go with it, to files (None for those that aren't wanted)."""
     if lines:
         lines.write(made.first_lines())
     if out_model:
         out_model.write(made.model(model or ""))
-    out.writelines(made.lines())
+    if out:
+        out.writelines(made.lines())
 
 
 def _write_parts(
-    args: Namespace, model: str | None, parts: Iterable[tuple[str, Prepared]], inputs: dict[str, list[str | None]]
+    args: Namespace, model: str | None, parts: Iterable[tuple[str, Prepared]], inputs: Mapping[str, Iterable[str | None]]
 ) -> None:
     """Writes the trace of each part to a file of its own, whose name has that of the part before its suffix. A line that was printed for an earlier
     part isn't repeated."""
-    said = set()
+    said: set[str] = set()
     for name, made in parts:
         paths = [path and _named(path, name) for path in (args.first_lines, args.out_model, args.out)]
         judge_outputs(paths, inputs)

@@ -2,16 +2,17 @@
 
 from __future__ import annotations
 
-import csv
 from typing import TYPE_CHECKING
 
 from ..agents.groups import Agent
 from ..agents.validation import recorded
-from ..files import text_of, written
+from ..files import text_of
 from ..tables.intervals import HEADS, Table
 from ..times.intervals import days_of, every_of
 from ..traces.trace import Trace
-from .options import calendar_of, calendar_words, every_words, ticks
+from ..tables.sheets import write_table
+from .groups import queue_word, queues_of
+from .options import calendar_of, calendar_words, every_words, resolve_within, table_words, within_word
 
 if TYPE_CHECKING:
     from argparse import ArgumentParser, Namespace
@@ -24,8 +25,10 @@ def words(parser: ArgumentParser) -> None:
     parser.add_argument("trace", help="a trace with the recorded waits as a column")
     recorded_words(parser)
     parser.add_argument("--source", action="append", default=[], metavar="NAME", help="only calls of this source; may be repeated")
+    queue_word(parser)
     parser.add_argument("--model", metavar="FILE", help="a model whose comments give the tick and time 0")
     calendar_words(parser)
+    table_words(parser)
 
 
 def recorded_words(parser: ArgumentParser) -> None:
@@ -34,23 +37,30 @@ def recorded_words(parser: ArgumentParser) -> None:
     parser.add_argument("--wait", required=True, metavar="COLUMN", help=says)
     says = "column that is 0 for answered calls, and another number for abandoned ones; default: none was abandoned"
     parser.add_argument("--abandoned", metavar="COLUMN", help=says)
-    parser.add_argument("--within", type=ticks, default=20, metavar="TICKS", help="report the share answered within this many ticks (default: 20)")
+    within_word(parser, "report the share answered within 20 ticks (the default),")
     every_words(parser)
+
+
+def within_of(args: Namespace) -> int:
+    """Returns the ticks (int) of --within, by default 20."""
+    return 20 if args.within is None else int(args.within)
 
 
 def main(args: Namespace) -> None:
     """Runs `mpplan recorded`."""
-    days = calendar_of(args, text_of(args.model) if args.model else None)
+    text = text_of(args.model) if args.model else None
+    days = calendar_of(args, text)
+    resolve_within(args, text)
     every = every_of(args.every)
     trace = Trace.read(args.trace)
     sources, times, (waits, gone) = trace.sources(), trace.times(), recorded(trace, args.wait, args.abandoned)
+    queues = queues_of(args, trace, text)
     for name in args.source:
         if name not in sources:
             raise ValueError(f"{args.trace}: no source {name!r}; it has {', '.join(dict.fromkeys(sources))}")
     kept = [at for at, source in enumerate(sources) if not args.source or source in args.source]
     arrivals, modelled = [times[at] for at in kept], [int(not gone[at]) for at in kept]
     # Who answered isn't asked for: agent 1 stands for any.
-    calls = [sources[at] for at in kept], arrivals, [0] * len(kept), modelled, [waits[at] for at in kept]
-    table = Table(days_of(days, max(arrivals, default=0), every), calls, [Agent([])], args.within)
-    with written() as file:
-        csv.writer(file, lineterminator="\n").writerows([HEADS[:-2], *(row[:-2] for row in table.rows(every, days.tick))])
+    calls = [queues[at] for at in kept], arrivals, [0] * len(kept), modelled, [waits[at] for at in kept]
+    table = Table(days_of(days, max(arrivals, default=0), every), calls, [Agent([])], within_of(args))
+    write_table([HEADS[:-2], *(row[:-2] for row in table.rows(every, days.tick))], args.format, args.csv_style)

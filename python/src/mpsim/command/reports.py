@@ -8,11 +8,12 @@ from ..agents.pools import pool_lines, pooled
 from ..node_visits import NodeVisits, Visits
 from ..report import Report
 from ..runs import run
-from ..tables.visits import places_of, visits_to
+from ..tables.visits import places_of, sources_in, together, visits_to
 from .messages import say
 
 if TYPE_CHECKING:
     from argparse import Namespace
+    from collections.abc import Sequence
 
 
 def report_of(args: Namespace) -> Report:
@@ -47,3 +48,10 @@ def all_visits(report: Report) -> list[NodeVisits]:
     for line in pool_lines([report]):
         say(line)
     return visits_to(report, places_of(report))
+
+
+def print_mixed(report: Report, visits: Sequence[NodeVisits], how: str) -> None:
+    """Prints which of some visits (list of NodeVisits) of a report are of several sources, and how to get the figures of each (str)."""
+    sources = sources_in(report)
+    if line := together({visit.node: [sources[job] for job in visit.job] for visit in visits}):
+        say(f"{line}; {how}")

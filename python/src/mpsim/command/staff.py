@@ -2,8 +2,6 @@
 
 from __future__ import annotations
 
-import csv
-import json
 import re
 from fractions import Fraction
 from typing import TYPE_CHECKING
@@ -11,12 +9,16 @@ from typing import TYPE_CHECKING
 from ..agents.queues import Queue
 from ..agents.rosters import patience_in
 from ..agents.staffing import HEADS, Goal, calls_of, groups_of, least, rows_of
-from ..files import text_of, written
+from ..files import text_of
 from ..progress import Progress
+from ..tables.sheets import write_table
+from ..tables.visits import together
 from ..times.intervals import days_of, every_of
 from ..times.texts import DAY, WEEKDAYS, given, length
 from ..traces.trace import Trace
-from .options import calendar_of, calendar_words, every_words
+from .groups import queue_word, queues_of
+from .messages import say
+from .options import calendar_of, calendar_words, every_words, table_words
 
 if TYPE_CHECKING:
     from argparse import ArgumentParser, Namespace
@@ -45,8 +47,10 @@ def words(parser: ArgumentParser) -> None:
     parser.add_argument("--seed", type=int, default=1, metavar="N", help="seed of random patience; default: 1")
     parser.add_argument("--max-occupancy", metavar="P", help="agents work at most this share of their time, e.g. 85%%")
     parser.add_argument("--shrinkage", default="0%", metavar="P", help="share of paid time in which an agent isn't available, e.g. 30%%")
-    parser.add_argument("--format", choices=["csv", "json", "md"], default="csv", help="form of the table; default: csv")
+    queue_word(parser)
+    parser.add_argument("--by", choices=["source"], help="also a row per source (or --queue) of each interval; its agents are those of all")
     calendar_words(parser)
+    table_words(parser)
 
 
 def percent(text: str) -> Fraction:
@@ -72,7 +76,8 @@ def goal_of(text: str, tick: int) -> tuple[Fraction, int]:
 
 def main(args: Namespace) -> None:
     """Runs `mpplan staff`."""
-    days = calendar_of(args, text_of(args.model))
+    text = text_of(args.model)
+    days = calendar_of(args, text)
     every = every_of(args.every)
     share, within = given("--goal", lambda text: goal_of(text, days.tick), args.goal)
     occupancy = None if args.max_occupancy is None else given("--max-occupancy", percent, args.max_occupancy)
@@ -88,8 +93,10 @@ def main(args: Namespace) -> None:
     if args.patience:
         values, _ = patience_in(args.patience, trace, days.tick, args.seed)
         patience = [values[job - 1] for job in queue.jobs]
+    every_queue = queues_of(args, trace, text)
+    queues = [every_queue[job - 1] for job in queue.jobs]
     every_day = days_of(days, max(queue.arrivals, default=0), every)
-    chosen = list(zip(every_day, calls_of(every, every_day, queue.arrivals, queue.demands, patience)))
+    chosen = list(zip(every_day, calls_of(every, every_day, queue.arrivals, queue.demands, patience, queues)))
     if args.date:
         chosen = [it for it in chosen if it[0].name == args.date]
         if not chosen:
@@ -105,22 +112,8 @@ def main(args: Namespace) -> None:
     with Progress(len(groups) * (DAY // every), "intervals") as progress:
         for place, (name, mine) in enumerate(groups):
             found = least(mine, goal, lambda done: progress(place * (DAY // every) + done))
-            rows += [[name, *row] for row in rows_of(found, len(mine), every, days.tick, goal, shrinkage)]
-    with written() as file:
-        FORMATS[args.format](file, [head, *HEADS], rows)
-
-
-def _csv(file: TextIO, head: Sequence[str], rows: Iterable[Row]) -> None:
-    csv.writer(file, lineterminator="\n").writerows([head, *rows])
-
-
-def _json(file: TextIO, head: Sequence[str], rows: Iterable[Row]) -> None:
-    file.write(json.dumps([dict(zip(head, row)) for row in rows], indent=1) + "\n")
-
-
-def _md(file: TextIO, head: Sequence[str], rows: Iterable[Row]) -> None:
-    lines = [head, ["---"] * len(head), *([str("" if it is None else it) for it in row] for row in rows)]
-    file.writelines(f"| {' | '.join(line)} |\n" for line in lines)
-
-
-FORMATS = {"csv": _csv, "json": _json, "md": _md}
+            rows += [[name, *row] for row in rows_of(found, len(mine), every, days.tick, goal, shrinkage, bool(args.by))]
+    heads = [head, HEADS[0], *(["queue"] if args.by else []), *HEADS[1:]]
+    write_table([heads, *rows], args.format, args.csv_style)
+    if not args.by and (mixed := together({args.node: queues})):
+        say(f"{mixed}; --by source gives each")

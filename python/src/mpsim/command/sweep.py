@@ -18,7 +18,7 @@ from ..tables.sheets import Writer
 from ..traces.trace import header_of, pool_warning
 from .machines import by_parallel, by_slurm
 from .messages import say
-from .options import style_words, ticks
+from .options import resolve_within, style_words, within_word
 
 if TYPE_CHECKING:
     from argparse import ArgumentParser, Namespace
@@ -41,7 +41,7 @@ def words(parser: ArgumentParser) -> None:
     parser.add_argument("--trace", dest="traces", action="extend", nargs="+", default=[], metavar="FILE", help=says)
     alone = "only rows of this node or pool; may be repeated; --folder stores it with the sweep"
     parser.add_argument("--node", action="append", default=[], metavar="NAME", help=alone)
-    parser.add_argument("--within", type=ticks, metavar="TICKS", help="add two columns with the share served within this many ticks; takes longer")
+    within_word(parser, "takes longer: add two columns with the share served within")
     parser.add_argument("--page", metavar="FILE", help="also write an HTML page with curves over the values")
     style_words(parser)
     folder = parser.add_argument_group("sweeps of any size, on any machines")
@@ -93,6 +93,8 @@ def _print_pools(pool_notes: PoolLines, how: str) -> None:
 def _in_memory(args: Namespace) -> int:
     """Runs one shard after another. Rows are written as they come; reports are kept only for a page."""
     plan, kept, refused, pool_notes = _plan(args), Sweep(), False, PoolLines(args.node)
+    for _, text in plan.models:
+        resolve_within(args, text)
     head = plan.head()
     if args.within is not None:
         head[-1:-1] = [f"within_{args.within}_of_all", f"within_{args.within}_of_departed"]

@@ -2,19 +2,20 @@
 
 from __future__ import annotations
 
-import csv
+import re
 from typing import TYPE_CHECKING
 
 from ..agents.queues import Queue
-from ..agents.validation import HEADS, compared, recorded, rows_of, verdict
-from ..files import text_of, written
+from ..agents.validation import HEADS, Trust, compared, recorded, rows_of, verdict
+from ..files import text_of
+from ..tables.sheets import write_table
 from ..times.intervals import days_of, every_of
-from ..times.texts import SECOND
+from ..times.texts import SECOND, given
 from ..traces.trace import Trace
-from .groups import group_of, group_words
+from .groups import group_of, group_words, queues_of
 from .messages import say
-from .options import calendar_of, calendar_words
-from .recorded import recorded_words
+from .options import calendar_of, calendar_words, resolve_within, table_words
+from .recorded import recorded_words, within_of
 
 if TYPE_CHECKING:
     from argparse import ArgumentParser, Namespace
@@ -30,22 +31,47 @@ def words(parser: ArgumentParser) -> None:
     parser.add_argument("--agents", metavar="C", help="number of agents, or by the time of day: 8:00=3,10:00=5,18:00=0")
     group_words(parser)
     recorded_words(parser)
+    default = Trust()
+    says = f"trust a model whose share of all calls differs by at most this many percentage points (default: {100 * default.overall:g})"
+    parser.add_argument("--trust-overall", metavar="POINTS", help=says)
+    says = f"trust a model whose share in an interval differs by at most this many percentage points (default: {100 * default.each:g})"
+    parser.add_argument("--trust-interval", metavar="POINTS", help=says)
+    says = f"judge intervals with at least this many calls (default: {default.calls})"
+    parser.add_argument("--trust-calls", type=int, default=default.calls, metavar="N", help=says)
     calendar_words(parser)
+    table_words(parser)
+
+
+def points(text: str) -> float:
+    """Returns the share (float) of a text such as `2.5`, which is in percentage points. Raises ValueError for another text."""
+    if not re.fullmatch(r"\d{1,3}(?:\.\d{1,6})?", text) or float(text) > 100:
+        raise ValueError("expected percentage points from 0 to 100, such as 2.5")
+    return float(text) / 100
+
+
+def _trust_of(args: Namespace) -> Trust:
+    """Returns the Trust that the arguments ask for."""
+    if args.trust_calls < 1:
+        raise ValueError(f"--trust-calls {args.trust_calls}: expected a number of calls, 1 or more")
+    options = ("overall", "--trust-overall", args.trust_overall), ("each", "--trust-interval", args.trust_interval)
+    return Trust(calls=args.trust_calls, **{name: given(option, points, text) for name, option, text in options if text is not None})
 
 
 def main(args: Namespace) -> None:
     """Runs `mpplan validate`."""
+    trust = _trust_of(args)
     if bool(args.roster) == bool(args.agents):
         raise ValueError("give --roster or --agents")
-    days = calendar_of(args, text_of(args.model))
+    text = text_of(args.model)
+    days = calendar_of(args, text)
+    resolve_within(args, text)
     every = every_of(args.every)
     trace = Trace.read(args.trace)
     queue = Queue(args.model, trace, args.node)
     waits, gone = recorded(trace, args.wait, args.abandoned)
-    last, sources = max(queue.arrivals, default=0), trace.sources()
-    _, group = group_of(args, days, last, sources)
-    cells = compared(queue, group, days_of(days, last, every), waits, gone)
-    rows = list(rows_of(cells, args.within, max(1, SECOND // days.tick), every))
-    say(verdict([row for row in rows if row[1] == "all"]))
-    with written() as file:
-        csv.writer(file, lineterminator="\n").writerows([HEADS, *rows])
+    last, queues = max(queue.arrivals, default=0), queues_of(args, trace, text)
+    _, group = group_of(args, days, last, queues)
+    cells = compared(queue, group, days_of(days, last, every), waits, gone, queues)
+    rows = list(rows_of(cells, within_of(args), max(1, SECOND // days.tick), every))
+    say(verdict([row for row in rows if row[1] == "all"], trust))
+    write_table([HEADS, *rows], args.format, args.csv_style)

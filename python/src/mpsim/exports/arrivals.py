@@ -5,7 +5,7 @@ from __future__ import annotations
 from array import array
 from itertools import islice, repeat
 from operator import mod
-from typing import TYPE_CHECKING
+from typing import TYPE_CHECKING, NamedTuple
 
 from ..limits import GREATEST_TIME
 from ..times.calendar import length_text
@@ -26,9 +26,19 @@ FAR = 30 * DAY
 AGES = 3653 * DAY
 
 
+class Span(NamedTuple):
+    """A group of records: their first moment and the number of its row, their last moment and the number of its row, and how many they are."""
+
+    first: int
+    first_row: int
+    last: int
+    last_row: int
+    size: int
+
+
 def ticks(plan: Plan, stamps: array[int], begin: str, made: Prepared) -> array[int]:
     """Returns the times of the trace (array), in ticks from time 0."""
-    readers = [reader.how for reader in plan.readers]
+    readers = [reader.how for reader in plan.readers()]
     if any(reader.has_none for reader in readers) and any(reader.has_offsets for reader in readers) and not plan.place.name:
         raise ValueError("some times have an offset from UTC and others have none: give --zone for those")
     if any(len(reader.halves) > 1 for reader in readers):
@@ -106,7 +116,7 @@ def judge_far(plan: Plan, rows: Rows) -> None:
     raise _far_error(plan, rows.row_of(at), stamps[at], len(far), gap, is_early, (begin, end))
 
 
-def _far_error(plan, row, stamp, count, gap, is_early, rest):
+def _far_error(plan: Plan, row: int, stamp: int, count: int, gap: int, is_early: bool, rest: tuple[int, int]) -> ValueError:
     """Returns the ValueError for a row with this moment: `count` records, it among them, lie before (`is_early`) or after the rest, whose first and
     last moments are a pair, with this gap in nanoseconds."""
     begin, end = rest
@@ -116,35 +126,33 @@ def _far_error(plan, row, stamp, count, gap, is_early, rest):
     return ValueError(f"row {row}: {plan.place.shown(stamp)}: {where}: leave out such rows with {bound}, or keep them with --far")
 
 
-def judge_far_spans(plan, spans):
-    """Does what judge_far does for records in groups, in order of time: their first moment and its row, their last moment and its row, and their
-    number (tuples of int). A gap within a group doesn't count."""
-    few = max(sum(span[4] for span in spans) // 20, 1)
-    cuts = _cuts(spans, few), _cuts([(-span[2], span[3], -span[0], span[1], span[4]) for span in reversed(spans)], few)
-    for is_early, cut in zip((True, False), cuts):
-        begin, end = (cuts[0], len(spans) - cuts[1])
-        if cut and is_early:
-            row, stamp, gap = spans[0][1], spans[0][0], spans[cut][0] - spans[cut - 1][2]
-            raise _far_error(plan, row, stamp, sum(span[4] for span in spans[:cut]), gap, True, (spans[begin][0], spans[end - 1][2]))
-        if cut:
-            row, stamp, gap = spans[-1][3], spans[-1][2], spans[-cut][0] - spans[-cut - 1][2]
-            raise _far_error(plan, row, stamp, sum(span[4] for span in spans[-cut:]), gap, False, (spans[begin][0], spans[end - 1][2]))
+def judge_far_spans(plan: Plan, spans: Sequence[Span]) -> None:
+    """Does what judge_far does for groups of records in order of time. A gap within a group doesn't count."""
+    few = max(sum(span.size for span in spans) // 20, 1)
+    early, late = _cuts(spans, few), _cuts([Span(-span.last, span.last_row, -span.first, span.first_row, span.size) for span in reversed(spans)], few)
+    rest = spans[early].first, spans[len(spans) - late - 1].last
+    if early:
+        gap = spans[early].first - spans[early - 1].last
+        raise _far_error(plan, spans[0].first_row, spans[0].first, sum(span.size for span in spans[:early]), gap, True, rest)
+    if late:
+        gap = spans[-late].first - spans[-late - 1].last
+        raise _far_error(plan, spans[-1].last_row, spans[-1].last, sum(span.size for span in spans[-late:]), gap, False, rest)
 
 
-def _cuts(spans, few):
+def _cuts(spans: Sequence[Span], few: int) -> int:
     """Returns how many of the first groups of records are far before the rest: those with at most `few` records, or less than half after which there
     is a gap of ten years."""
-    total, last, some = sum(span[4] for span in spans), spans[-1][2], 0
+    total, last, some = sum(span.size for span in spans), spans[-1].last, 0
     for span in reversed(spans):
-        some += span[4]
+        some += span.size
         if some > few:
-            last = span[2]
+            last = span.last
             break
     count, found = 0, 0
     for at in range(1, len(spans)):
-        count += spans[at - 1][4]
-        gap = spans[at][0] - spans[at - 1][2]
-        if count <= few and gap > max(last - spans[at][0], FAR) or 2 * count <= total and gap > AGES:
+        count += spans[at - 1].size
+        gap = spans[at].first - spans[at - 1].last
+        if count <= few and gap > max(last - spans[at].first, FAR) or 2 * count <= total and gap > AGES:
             found = at
     return found
 

@@ -4,21 +4,25 @@ from __future__ import annotations
 
 from array import array
 from collections import Counter
-from collections.abc import Iterable, Sequence
 from itertools import groupby, islice
-from typing import TYPE_CHECKING, NamedTuple, Optional
+from typing import TYPE_CHECKING, NamedTuple
 
 from ..limits import GREATEST_VALUE, RECORDS
 from ..model import columns
 from ..names import name_for
+from ..times.texts import Unread
 from ..wording import counted, listed, quoted
 from .delimited import LINES
 from .rows import Rows
-from ..times.texts import Unread
 from .values import ABANDONED, WAIT, Code, Constant, other_length
 
 if TYPE_CHECKING:
-    from .plan import Plan
+    from collections.abc import Iterable, Iterator, Mapping, Sequence
+
+    from .plan import Column, Plan
+
+    # A station that a unit visits, and the number of the visit.
+    Visit = tuple[int, int]
 
 # The most rows of an event log.
 EVENTS = 1 << 24
@@ -29,11 +33,10 @@ OPTIONS = "--arrive-event", "--begin-event", "--end-event", "--abandon-event"
 SAMPLE = 2000
 
 
-class Column(NamedTuple):
+class Made(NamedTuple):
     """A column of a trace that is made of events, by its name."""
 
     name: str
-    is_service: bool = False
 
 
 class Log:
@@ -41,27 +44,34 @@ class Log:
     event (None if each row is a step with its service); `kinds` (dict) says what an event of a name does (ARRIVE and so on). `route` is the name of a
     column with the order of stations, or None. `begins` and `ends` are moments between which units arrive, or None."""
 
-    def __init__(self, unit: int, steps: Optional[int], event: Optional[int], kinds: dict[str, int], route: Optional[str]) -> None:
-        self.unit, self.steps, self.event, self.kinds, self.route = unit, steps, event, kinds, route
-        self.units, self.stations, self.others, self.broken = _Text("unit", unit), _Text("steps", steps), Counter(), set()
-        self.begins: Optional[int] = None
-        self.ends: Optional[int] = None
-        self.met: set[str] = set()
+    others: Counter[str]
+    broken: set[str]
+    met: set[str]
+    begins: int | None
+    ends: int | None
+    # As a condition on rows, it is of no column.
+    column = -1
 
-    def columns(self) -> list[object]:
+    def __init__(self, unit: int, steps: int | None, event: int | None, kinds: Mapping[str, int], route: str | None) -> None:
+        self.unit, self.steps, self.event, self.kinds, self.route = unit, steps, event, kinds, route
+        self.units, self.stations = _Text("unit", unit), _Text("steps", -1 if steps is None else steps)
+        self.others, self.broken, self.met, self.begins, self.ends = Counter(), set(), set(), None, None
+
+    def columns(self) -> list[Column]:
         """Returns columns to read with each row: the unit, the station, and what the event does."""
         return [self.units, Constant("steps", 0) if self.steps is None else self.stations, Kind(self)]
 
-    def is_met(self, row: Sequence[str]) -> bool:
+    def holds(self, row: Sequence[str]) -> bool:
         """Returns whether a row is an event that counts."""
         return self.event is None or row[self.event].strip() in self.kinds
 
-    holds = is_met
-    column = 0
+    def is_met(self, row: Sequence[str]) -> bool:
+        """Returns whether a row is an event that counts."""
+        return self.holds(row)
 
     def excluded(self, row: Sequence[str]) -> None:
         """Counts a row that is excluded by its event."""
-        if not self.is_met(row):
+        if self.event is not None and not self.holds(row):
             self.others[row[self.event].strip()] += 1
 
     def leave(self, row: Sequence[str]) -> None:
@@ -73,12 +83,14 @@ class Log:
 class _Text(Code):
     """A column of texts as numbers, none of them empty."""
 
-    def of(self, row: Sequence[str], begun: object) -> int:
+    def of(self, row: Sequence[str], begun: Sequence[int]) -> int:
+        """Returns 0, as Code.of does. Raises Unread for an empty text."""
         if not row[self.column].strip():
             raise Unread("empty")
         return 0
 
     def many(self, columns: Sequence[Sequence[str]], begun: Sequence[Sequence[int]]) -> list[int]:
+        """Returns nothing yet, as Code.many does. Raises Unread if a text is empty."""
         if not all(map(str.strip, columns[self.column])):
             raise Unread("one by one")
         return []
@@ -90,9 +102,11 @@ class Kind:
     name, is_service = "event", False
 
     def __init__(self, log: Log) -> None:
-        self._log, self.column = log, log.event
+        self._log = log
+        self.column: int = -1 if log.event is None else log.event
 
-    def of(self, row: Sequence[str], begun: object) -> int:
+    def of(self, row: Sequence[str], begun: Sequence[int]) -> int:
+        """Returns what the event of a row does (int)."""
         if self._log.event is None:
             return STEP
         word = row[self._log.event].strip()
@@ -100,6 +114,7 @@ class Kind:
         return self._log.kinds[word]
 
     def many(self, columns: Sequence[Sequence[str]], begun: Sequence[Sequence[int]]) -> list[int]:
+        """Returns what the events of rows, given as columns, do (list of int)."""
         if self._log.event is None:
             return [STEP] * len(columns[0])
         words = [word.strip() for word in columns[self._log.event]]
@@ -123,32 +138,33 @@ class Unit(NamedTuple):
 
 
 class Units(Rows):
-    """The records that the events in `rows` (Rows, with the columns of a Log at their end) make: one per unit, in order of their arrivals. The
-    columns of the plan become those of the records. Raises ValueError if they need another option."""
+    """The records that the events in `rows` (Rows, with the columns of a Log at their end) make: one per unit, in order of their arrivals. Raises
+    ValueError if they need another option."""
 
-    def __init__(self, plan: Plan, rows: Rows) -> None:
+    # What is counted in messages.
+    what = "unit"
+
+    def __init__(self, plan: Plan, log: Log, rows: Rows) -> None:
         super().__init__(plan)
-        log = self._log = plan.log
+        self._log = log
         self._events, self.long, self._outside = rows, rows.long, 0
         self._writer = rows._writer
         self.unwanted = rows.unwanted - sum(log.others.values())
         self._units, self._stations, self._kinds = rows.values[-3:]
-        self._service = next((values for it, values in zip(plan.columns, rows.values) if _is_service(it)), None)
+        self._service = next((values for it, values in zip(plan.columns, rows.values) if _is_service(it)), array("q"))
         self._names = {number: text for text, number in log.units.codes.items()}
         found = list(self._gathered())
         if len(found) > RECORDS:
             raise ValueError(f"{len(found):,} units, but a trace has at most {RECORDS:,} records: choose a part with --from and --until")
         self._fill(found, [(it, values) for it, values in zip(plan.columns[:-3], rows.values) if not _is_service(it)])
 
-    what = "unit"
-
-    def _gathered(self) -> Iterable[Unit]:
+    def _gathered(self) -> Iterator[Unit]:
         """Yields the units that are complete."""
         stamps = self._events.stamps
         falls = sum(later < earlier for earlier, later in zip(stamps, islice(stamps, 1, None)))
         # A file with its newest rows first is in order from its end.
-        order = range(len(stamps)) if 2 * falls < len(stamps) else range(len(stamps) - 1, -1, -1)
-        order = sorted(sorted(order, key=stamps.__getitem__), key=self._units.__getitem__)
+        places = range(len(stamps)) if 2 * falls < len(stamps) else range(len(stamps) - 1, -1, -1)
+        order = sorted(sorted(places, key=stamps.__getitem__), key=self._units.__getitem__)
         for unit, events in groupby(order, self._units.__getitem__):
             for some in self._stays(list(events)):
                 begin = stamps[some[0]]
@@ -162,7 +178,7 @@ class Units(Rows):
                 except Incomplete as error:
                     self._leave_unit(some[0], str(error))
 
-    def _stays(self, events: list[int]) -> Iterable[list[int]]:
+    def _stays(self, events: list[int]) -> Iterator[list[int]]:
         """Yields the events of each stay of a unit, which begins when it arrives."""
         cuts = [at for at, event in enumerate(events) if self._kinds[event] == ARRIVE]
         if cuts[:1] != [0]:
@@ -173,7 +189,11 @@ class Units(Rows):
     def _unit(self, events: list[int]) -> Unit:
         """Returns the Unit that some events in order of time make. Raises Incomplete."""
         log, kinds, stamps = self._log, self._kinds, self._events.stamps
-        arrival, visits, open_at, gone, begun = stamps[events[0]], [], {}, None, None
+        arrival = stamps[events[0]]
+        visits: list[tuple[int, int]] = []
+        open_at: dict[int, tuple[int, int]] = {}
+        gone: int | None = None
+        begun: int | None = None
         if ARRIVE in log.kinds.values() and kinds[events[0]] != ARRIVE:
             raise Incomplete("the unit never arrives")
         for event in events:
@@ -201,8 +221,8 @@ class Units(Rows):
             raise Incomplete("the unit gave up after a service")
         if gone is None and not visits:
             raise Incomplete("no service begins")
-        until = gone if gone is not None else begun
-        wait = self._length(events[0], arrival, until) if ABANDON in log.kinds.values() else 0
+        until = begun if gone is None else gone
+        wait = 0 if until is None or ABANDON not in log.kinds.values() else self._length(events[0], arrival, until)
         return Unit(events[0], arrival, visits, wait, gone is not None)
 
     def _length(self, event: int, begin: int, end: int) -> int:
@@ -223,86 +243,86 @@ class Units(Rows):
 
     def _leave_unit(self, event: int, why: str) -> None:
         number, name = self._events.row_of(event), self._names[self._units[event]]
-        count, where = self.left.get(why, (0, f"row {number}, unit {quoted(name)}"))
-        self.left[why] = count + 1, where
+        self._count_left(why, f"row {number}, unit {quoted(name)}")
         if self._writer:
             row = [""] * len(self.plan.export.header)
             row[self._log.unit] = name
             self._writer.writerow([number, why, *row])
 
-    def _fill(self, found: list[Unit], others: list[tuple[object, array]]) -> None:
+    def _fill(self, found: Sequence[Unit], others: Sequence[tuple[Column, array[int]]]) -> None:
         """Makes the columns of the trace."""
-        plan, events = self.plan, self._events
+        events = self._events
         routes = [_route(unit.visits) for unit in found]
         names = self._column_names(routes, [it.name for it, _ in others])
         at = {key: number for number, key in enumerate(names)}
         self.sources = [events.sources[unit.first] for unit in found]
-        self.stamps, self._firsts = (array("q", (unit[key] for unit in found)) for key in (1, 0))
+        self.stamps, self._firsts = array("q", (unit.arrival for unit in found)), array("q", (unit.first for unit in found))
         stations = [array("q", bytes(8 * len(found))) for _ in names]
         for number, (unit, route) in enumerate(zip(found, routes)):
             for key, (_, ticks) in zip(route, unit.visits):
                 stations[at[key]][number] = ticks
-        made = [*zip(map(Column, names.values()), stations)]
+        made: list[tuple[Column | Made, array[int]]] = [*zip(map(Made, names.values()), stations)]
         for it, values in others:
             made.append((it, array("q", (0 if unit.abandoned and it.is_service else values[unit.first] for unit in found))))
             self._note_differing(it, values)
         if ABANDON in self._log.kinds.values():
-            made.append((Column(WAIT), array("q", (unit.wait for unit in found))))
-            made.append((Column(ABANDONED), array("q", (unit.abandoned for unit in found))))
+            made.append((Made(WAIT), array("q", (unit.wait for unit in found))))
+            made.append((Made(ABANDONED), array("q", (unit.abandoned for unit in found))))
         if self._log.route:
-            made.append(self._route_column(routes))
+            made.append(self._route_column(self._log.route, routes))
         made += self._absent(made, len(found))
-        plan.columns, self.values = [it for it, _ in made], [values for _, values in made]
-        plan.judge_columns()
+        self.columns, self.values = [it for it, _ in made], [values for _, values in made]
+        self.plan.judge_columns([it.name for it in self.columns])
         self._note(found, routes, list(names))
 
-    def _column_names(self, routes: list[list[tuple[int, int]]], taken: list[str]) -> dict[tuple[int, int], str]:
-        """Returns the name of the column for each station and number of a visit, in the order in which units pass them."""
-        places: dict[tuple[int, int], list[int]] = {}
+    def _column_names(self, routes: Sequence[Sequence[Visit]], names: Sequence[str]) -> dict[Visit, str]:
+        """Returns the name of the column for each visit, in the order in which units make them; `names` are those of other columns."""
+        places: dict[Visit, list[int]] = {}
         for route in routes:
             for place, key in enumerate(route):
                 some = places.setdefault(key, [0, 0])
                 some[0] += place
                 some[1] += 1
         words = {number: text for text, number in self._log.stations.codes.items()}
-        taken, found = [*taken, WAIT, ABANDONED], {}
+        taken = [*names, WAIT, ABANDONED]
+        found: dict[int, str] = {}
         for station in sorted({station for station, _ in places}):
             found[station] = "service" if self._log.steps is None else name_for(words[station], taken)
             taken.append(found[station])
             if self._log.steps is not None and found[station] != words[station]:
                 self.plan.notes.append(f"station {words[station]!r} is called {found[station]}")
         order = sorted(places, key=lambda key: (places[key][0] / places[key][1], key))
-        names = {}
+        made: dict[Visit, str] = {}
         for station, visit in order:
-            names[station, visit] = found[station] if visit == 1 else name_for(f"{found[station]}_{visit}", taken)
-            taken.append(names[station, visit])
-        return names
+            made[station, visit] = found[station] if visit == 1 else name_for(f"{found[station]}_{visit}", taken)
+            taken.append(made[station, visit])
+        return made
 
-    def _absent(self, made: list[tuple[object, array]], count: int) -> Iterable[tuple[Column, array]]:
+    def _absent(self, made: Sequence[tuple[Column | Made, array[int]]], count: int) -> Iterator[tuple[Made, array[int]]]:
         """Yields columns of 0 for second and later visits that the model names and no unit makes."""
         have = {it.name for it, _ in made}
         for name in columns(self.plan.model or ""):
             base, _, number = name.rpartition("_")
             if name not in have and base in have and number.isdigit():
                 self.plan.notes.append(f"{name}: no unit comes this often: 0 ticks")
-                yield Column(name), array("q", bytes(8 * count))
+                yield Made(name), array("q", bytes(8 * count))
 
-    def _route_column(self, routes: list[list[tuple[int, int]]]) -> tuple[Code, array]:
+    def _route_column(self, name: str, routes: Sequence[Sequence[Visit]]) -> tuple[Code, array[int]]:
         words = {number: text for text, number in self._log.stations.codes.items()}
-        code = Code(self._log.route, 0, self.plan.known.get(self._log.route))
+        code = Code(name, 0, self.plan.known.get(name))
         texts = (" > ".join(words[station] for station, _ in route) for route in routes)
         return code, array("q", [code.code([text]) for text in texts])
 
-    def _note_differing(self, it: object, values: array) -> None:
+    def _note_differing(self, it: Column, values: Sequence[int]) -> None:
         """Warns if a column that should be the unit's differs between its events."""
         seen: dict[int, int] = {}
         differing = {unit for unit, value in zip(self._units, values) if seen.setdefault(unit, value) != value}
         if differing:
             self.plan.warned.append(f"{it.name}: {counted(len(differing), 'unit')} with several values: that of the first event counts")
 
-    def _note(self, found: list[Unit], routes: list[list[tuple[int, int]]], order: list[tuple[int, int]]) -> None:
+    def _note(self, found: Sequence[Unit], routes: Sequence[Sequence[Visit]], order: Sequence[Visit]) -> None:
         plan, log = self.plan, self._log
-        plan.notes.append(f"{counted(len(self._units), 'event')} of {counted(len(found) + sum(map(_first, self.left.values())), 'unit')}")
+        plan.notes.append(f"{counted(len(self._units), 'event')} of {counted(len(found) + sum(count for count, _ in self.left.values()), 'unit')}")
         if log.others:
             plan.notes.append(f"{counted(sum(log.others.values()), 'row')} with other events: {listed(sorted(log.others)[:LINES])}")
         for option, kind in zip(OPTIONS, range(4)):
@@ -310,7 +330,7 @@ class Units(Rows):
             plan.warned += [f"no row has the event {quoted(word)} ({option})" for word in lacking]
         passed = Counter(key for route in routes for key in route)
         lost = sum(unit.abandoned for unit in found)
-        for key, it in zip(order, plan.columns):
+        for key, it in zip(order, self.columns):
             if skipped := len(found) - passed[key] - lost:
                 plan.notes.append(f"{it.name}: {counted(skipped, 'unit')} without it: 0 ticks")
         plan.notes += [f"{counted(lost, 'unit')} gave up"] if lost else []
@@ -331,15 +351,11 @@ class Units(Rows):
         return []
 
 
-def _first(item: Sequence[int]) -> int:
-    return item[0]
-
-
-def _is_service(it: object) -> bool:
+def _is_service(it: Column) -> bool:
     return not isinstance(it, (Code, Constant, Kind))
 
 
-def _route(visits: list[tuple[int, int]]) -> list[tuple[int, int]]:
+def _route(visits: Sequence[tuple[int, int]]) -> list[Visit]:
     """Returns the station and the number of the visit (pairs, from 1) of each visit in order.
 
     >>> _route([(0, 5), (1, 5), (0, 7)])
@@ -353,7 +369,7 @@ def _route(visits: list[tuple[int, int]]) -> list[tuple[int, int]]:
     return found
 
 
-def found_units(header: Sequence[str], sample: Sequence[Sequence[str]], used: Iterable[int]) -> Optional[str]:
+def found_units(header: Sequence[str], sample: Sequence[Sequence[str]], used: Iterable[int]) -> str | None:
     """Returns a hint (str) if rows look like events: a column, not one of those `used`, has each of its values in a few rows that differ in another
     column of few values. Returns None otherwise.
 
@@ -361,8 +377,8 @@ def found_units(header: Sequence[str], sample: Sequence[Sequence[str]], used: It
     >>> found_units(["serial", "station"], rows, [])
     "rows look like events, since most values of 'serial' are in several: --unit serial --steps station"
     """
-    rows, used = sample[:SAMPLE], set(used)
-    texts = {at: [row[at].strip() for row in rows] for at in range(len(header)) if at not in used and header[at]}
+    rows, known = sample[:SAMPLE], set(used)
+    texts = {at: [row[at].strip() for row in rows] for at in range(len(header)) if at not in known and header[at]}
     counts = {at: Counter(column) for at, column in texts.items()}
     for unit, seen in counts.items():
         several = sum(count for count in seen.values() if count > 1)

@@ -71,7 +71,8 @@ class Expression:
 
     def of(self, row: Sequence[str], begun: Sequence[int]) -> int:
         """Returns the ticks (int) of a row. `begun` has the moment of the arrival first. Raises Unread and Asks."""
-        total, at, found = Fraction(0), self.column, []
+        total, at = Fraction(0), self.column
+        found: list[int] = []
         try:
             for _, item in self.times:
                 at = item.column
@@ -96,7 +97,7 @@ class Expression:
         self.rounded += total % self.tick > 0
         return ticks
 
-    def _between(self, arrival, found):
+    def _between(self, arrival: int, found: Sequence[int]) -> int:
         """Returns the sum of these moments (list of int) with their signs. In an hour that occurs twice each is the first not before the arrival, or
         the second if the sum is below 0 otherwise. Raises Asks if the sum would be smaller with another arrival or another of these hours."""
         total, zone = self._sum(found), self.times[0][1].zone
@@ -111,16 +112,16 @@ class Expression:
             raise Asks(f"its times span {lengths}, since an hour occurs twice: give --twice order, for rows in order of --time or of the ends")
         return chosen
 
-    def _sums(self, begin, both):
+    def _sums(self, begin: int, both: Sequence[Sequence[int]]) -> list[int]:
         """Returns the sums (list of int) for each choice among moments, none before `begin`, the first moments first."""
         readings = [[moment for moment in moments if moment >= begin] or moments[-1:] for moments in both]
         choices = sorted(product(*readings), key=sum)
         return [self._sum(choice) for choice in choices]
 
-    def _sum(self, moments):
+    def _sum(self, moments: Sequence[int]) -> int:
         return sum(sign * moment for (sign, _), moment in zip(self.times, moments))
 
-    def _ticks(self, length):
+    def _ticks(self, length: Fraction) -> int:
         return int((2 * length + self.tick) // (2 * self.tick))
 
     def many(self, columns: Sequence[Sequence[str]], begun: Sequence[Sequence[int]]) -> list[int]:

@@ -2,13 +2,16 @@
 
 from __future__ import annotations
 
-from collections.abc import Iterator
 from itertools import accumulate
-from typing import Optional, Union
+from typing import TYPE_CHECKING
 
 from ..wording import quoted
 from .delimited import Export
-from .streams import Stream
+
+if TYPE_CHECKING:
+    from collections.abc import Iterable, Sequence
+
+    from .streams import Stream
 
 # The most characters of a line.
 WIDTH = 1 << 16
@@ -36,7 +39,7 @@ class Fixed(Export):
     """
 
     def __init__(
-        self, data: Union[bytes, Stream], widths: list[int], encoding: Optional[str] = None, skip: int = 0, header: Optional[str] = None
+        self, data: bytes | bytearray | Stream, widths: Sequence[int], encoding: str | None = None, skip: int = 0, header: str | None = None
     ) -> None:
         self._ends = list(accumulate(widths))
         # The delimiter isn't used.
@@ -45,14 +48,14 @@ class Fixed(Export):
             more = "--header names more columns" if header is not None else f"the header goes on: {quoted(self.header[-1])}"
             raise ValueError(f"--fixed has {len(widths)} columns of {self._ends[-1]} characters, but {more}")
 
-    def _reader(self, lines: Iterator[str]) -> _Fields:
+    def _reader(self, lines: Iterable[str]) -> _Fields:
         return _Fields(lines, self._ends)
 
 
 class _Fields:
     """Cuts lines into fields that end at these places, and counts the lines as a CSV reader does."""
 
-    def __init__(self, lines: Iterator[str], ends: list[int]) -> None:
+    def __init__(self, lines: Iterable[str], ends: Sequence[int]) -> None:
         self._lines, self._cuts, self._end, self.line_num = iter(lines), list(zip([0, *ends], ends)), ends[-1], 0
 
     def __iter__(self) -> _Fields:

@@ -7,7 +7,6 @@ import re
 from array import array
 from collections.abc import Callable, Iterator, Sequence
 from fractions import Fraction
-from types import SimpleNamespace
 from typing import Any, NamedTuple, Optional, Union
 
 from ..limits import RECORDS, SOURCES
@@ -51,7 +50,7 @@ class Column(NamedTuple):
     def row(self) -> list[Union[str, int, None]]:
         """Returns what HEADS names."""
         kind = f"{self.kind} ({self.form})" if self.form else self.kind
-        different = f"over {DIFFERENT}" if self.different > DIFFERENT else self.different
+        different: Union[str, int] = f"over {DIFFERENT}" if self.different > DIFFERENT else self.different
         return [self.name, kind, self.empty, different, self.least, self.greatest, self.example]
 
 
@@ -79,11 +78,11 @@ def inspected(export: Union[str, os.PathLike[str]], **file: Any) -> Inspection:
     """
     if not os.path.isfile(export):
         raise ValueError(f"{os.fspath(export)}: it is read twice, so it must be a file")
-    words = SimpleNamespace(**{"decimal": None, "encoding": None, "delimiter": None, "skip": 0, "header": None, "sheet": None, "fixed": None, **file})
+    decimal = file.get("decimal")
     try:
         with fields_up_to(FIELD), Stream(export) as stream:
-            table = table_in(stream, words)
-            looks = [_Look(name, [row[at] for row in table.sample], words.decimal) for at, name in enumerate(table.header)]
+            table = table_in(stream, **{name: value for name, value in file.items() if name != "decimal"})
+            looks = [_Look(name, [row[at] for row in table.sample], decimal) for at, name in enumerate(table.header)]
             notes = list(table.notes)
             notes += _read(table, looks)
     except ValueError as error:
@@ -209,7 +208,8 @@ def _shown(kind: str, value: Any) -> str:
 def _read(table: Any, looks: Sequence[_Look]) -> Iterator[str]:
     """Reads all rows of a table, and yields notes on them."""
     rows, first = table.rows()
-    count, odd, repeats, seen = 0, 0, 0, set()
+    count, odd, repeats = 0, 0, 0
+    seen: set[int] = set()
     with uncollected(), Progress(table.size, "rows") as progress:
         some: list[list[str]] = []
         for row in rows:

@@ -26,16 +26,14 @@ from .records import Dates, Numbers, Records, Times
 from .values import ABANDONED, WAIT, Abandoned, Code, Constant, Demand, End, Sum, Wait
 
 if TYPE_CHECKING:
-    from collections.abc import Iterable, Sequence
+    from collections.abc import Iterable, Mapping, Sequence
     from typing import Union
 
     from .conditions import Condition
+    from .events import Kind
     from .table import Table
 
-    from .events import Column as Made
-    from .events import Kind
-
-    Column = Union[Demand, Sum, End, Expression, Constant, Code, Wait, Abandoned, Kind, Made]
+    Column = Union[Demand, Sum, End, Expression, Constant, Code, Wait, Abandoned, Kind]
 
 # The most columns of a trace.
 COLUMNS = 16
@@ -125,7 +123,7 @@ class Plan:
         self.time = Times(column, how, self.place, dates)
         self.answered = [self._more_times(self.export.column(name)) for name in answered]
 
-    def _readers(self) -> list[Times]:
+    def readers(self) -> list[Times]:
         """Returns all columns of times."""
         parts = [part for column in self.columns for part in getattr(column, "parts", [column])]
         ends = [part.times for part in parts if isinstance(part, End)]
@@ -177,9 +175,9 @@ class Plan:
             name = self._named(name, column)
             self.columns.append(Code(name, column, self.known.get(name)))
 
-    def waits(self, wait: Iterable[str], abandoned: Iterable[str]) -> None:
+    def waits(self, wait: Sequence[str], abandoned: Sequence[str]) -> None:
         """Sets the column of waits, and which jobs gave up."""
-        parts = []
+        parts: list[Demand | End] = []
         for word in wait:
             column, name, unit = self.export.parse(word, has_unit=True)
             if unit is None and self._is_time(column):
@@ -193,12 +191,11 @@ class Plan:
             self.columns.append(Abandoned(self._named(ABANDONED), self.gone))
             self.notes += [] if wait else ["jobs that gave up have no wait: --wait COLUMN gives one"]
 
-    def judge_columns(self) -> None:
-        """Raises ValueError if there are too many columns, or if one that the model names is missing."""
-        if len(self.columns) > COLUMNS:
-            names = listed([column.name for column in self.columns])
-            raise ValueError(f"{len(self.columns)} columns; the limit of a trace is {COLUMNS}" + (f": {names}" if self.log else ""))
-        lacking = [item for item in columns(self.model or "") if item not in [column.name for column in self.columns]]
+    def judge_columns(self, names: Sequence[str]) -> None:
+        """Raises ValueError if columns with these names are too many for a trace, or lack one that the model names."""
+        if len(names) > COLUMNS:
+            raise ValueError(f"{len(names)} columns; the limit of a trace is {COLUMNS}" + (f": {listed(names)}" if self.log else ""))
+        lacking = [item for item in columns(self.model or "") if item not in names]
         if lacking:
             given = "station" if self.log else "--demand, --end, --constant or --code"
             raise ValueError(f"the model names {', '.join(lacking)}, which no {given} provides")
@@ -254,19 +251,18 @@ class Plan:
         except ValueError as error:
             raise ValueError(f"column {self.export.header[column]!r}: {error} (--decimal)") from None
 
-    def events(
-        self, unit: str | None, steps: str | None, event: str | None, kinds: Sequence[Sequence[str]], route: str | None
-    ) -> None:
+    def events(self, unit: str | None, steps: str | None, event: str | None, kinds: Sequence[Sequence[str]], route: str | None) -> None:
         """Sets how the rows of an event log are gathered into records. `kinds` has the names of the events (lists of str) that --arrive-event,
         --begin-event, --end-event and --abandon-event give."""
         if unit is None:
-            given = zip(("--steps", "--event", "--route", *OPTIONS), (steps, event, route, *kinds))
-            for option in (option for option, value in given if value):
+            values: list[object] = [steps, event, route, *kinds]
+            for option in (option for option, value in zip(("--steps", "--event", "--route", *OPTIONS), values) if value):
                 raise ValueError(f"{option} requires --unit")
             if hint := found_units(self.export.header, self._sample, self._used()):
                 self.warned.append(hint)
-            return self.judge_columns()
-        found = {}
+            self.judge_columns([it.name for it in self.columns])
+            return
+        found: dict[str, int] = {}
         for option, kind, words in zip(OPTIONS, range(len(kinds)), kinds):
             for word in words:
                 if word in found:
@@ -284,15 +280,15 @@ class Plan:
             raise ValueError(f"each row of --unit {unit} needs one service time, but has {len(services) or 'none'}: {how}")
         if not found and event:
             raise ValueError("--event requires --begin-event and --end-event")
-        self._named(route) if route else None
-        columns = self.export.column(unit), None if steps is None else self.export.column(steps)
-        self.log = Log(*columns, self._event_column(event, found) if found else None, found, route)
+        if route:
+            self._named(route)
+        step = None if steps is None else self.export.column(steps)
+        self.log = Log(self.export.column(unit), step, self._event_column(event, found) if found else None, found, route)
         self.is_ragged = bool(found) and not self.export.has_header
         self.columns += self.log.columns()
         self.conditions.append(self.log)
-        return None
 
-    def _event_column(self, event: str | None, kinds: dict[str, int]) -> int:
+    def _event_column(self, event: str | None, kinds: Mapping[str, int]) -> int:
         """Returns the index of the column with these kinds of event (dict): the one given, or the only one that has both a beginning and an end."""
         if event is not None:
             return self.export.column(event)
@@ -308,8 +304,8 @@ class Plan:
 
     def _used(self) -> set[int]:
         """Returns the indices of the columns that are read as times or services."""
-        dates = [item for item in (self.time.dates,) if item]
-        days = [at for item in dates for at in getattr(item, "columns", [getattr(item, "column", None)])]
+        dates = self.time.dates
+        days = dates.columns if isinstance(dates, Numbers) else [dates.column] if dates else []
         return {*days, *(item.column for item in (self.time, *self.answered, *self.columns) if not isinstance(item, Code))}
 
     def sources(self, source: str | None, rename: Iterable[str]) -> None:
@@ -337,7 +333,6 @@ class Plan:
         self.records = Records(len(header), self.time, self.answered, self.columns, column, only, renamed, known)
         self.records.gone = self.gone
         self.records.conditions, self.records.ended = self.conditions, self._in_order_of()
-        self.readers = self._readers()
         # The rows from which formats were detected aren't needed any more.
         self._sample = self.export.sample = []
 
@@ -367,8 +362,8 @@ class Plan:
     def between(self, begins: str | None, until: str | None) -> None:
         """Sets the times between which jobs arrive."""
         # The jobs of an event log are judged by when they arrive.
-        of, bounds = self.log or self.records, (("--from", begins), ("--until", until))
-        of.begins, of.ends = (self._bound(option, text) if text else None for option, text in bounds)
+        of = self.log or self.records
+        of.begins, of.ends = (self._bound(option, text) if text else None for option, text in (("--from", begins), ("--until", until)))
 
     def _bound(self, option: str, text: str) -> int:
         """Returns the moment of --from or --until."""

@@ -6,8 +6,7 @@ import os
 from array import array
 from itertools import islice
 from operator import eq, gt
-from types import SimpleNamespace
-from typing import TYPE_CHECKING
+from typing import TYPE_CHECKING, NamedTuple
 
 from ..names import is_like, name_for
 from ..times.calendar import Calendar, length_text, settings_in, tick_of
@@ -38,6 +37,54 @@ if TYPE_CHECKING:
 
 # A field with more characters is rejected: an unclosed quote makes one field of the rest.
 FIELD = 1 << 17
+
+
+class _Words(NamedTuple):
+    """The arguments of `prepare`."""
+
+    export: Path | bytes | bytearray
+    time: str
+    format: str | None
+    date: str | None
+    date_format: str | None
+    day: Sequence[str] | None
+    zone: str | None
+    twice: str | None
+    tick: str | None
+    begin: str
+    source: str | None
+    demand: Iterable[str]
+    end: Sequence[str]
+    answered: str | Iterable[str]
+    constant: Iterable[str]
+    code: Iterable[str]
+    empty: str | None
+    rename: Iterable[str]
+    decimal: str | None
+    delimiter: str | None
+    encoding: str | None
+    skip: int
+    header: str | None
+    model: str | None
+    left_out: TextIO | None
+    where: Iterable[str]
+    begins: str | None
+    until: str | None
+    far: bool
+    duplicates: str | None
+    left_out_most: str
+    sheet: str | None
+    fixed: str | None
+    wait: str | Iterable[str]
+    abandoned: Sequence[str]
+    unit: str | None
+    steps: str | None
+    event: str | None
+    arrive_event: Sequence[str]
+    begin_event: Sequence[str]
+    end_event: Sequence[str]
+    abandon_event: Sequence[str]
+    route: str | None
 
 
 def prepare(
@@ -76,7 +123,7 @@ def prepare(
     sheet: str | None = None,
     fixed: str | None = None,
     wait: str | Iterable[str] = (),
-    abandoned: Iterable[str] = (),
+    abandoned: Sequence[str] = (),
     unit: str | None = None,
     steps: str | None = None,
     event: str | None = None,
@@ -96,7 +143,7 @@ def prepare(
     >>> list(prepare(export, "When", source="Who", demand=["Long=talk:min"]).rows())
     [('desk', 5, 30), ('desk', 17, 90)]
     """
-    [(_, made)] = _made(None, SimpleNamespace(**locals()))
+    [(_, made)] = _made(None, _Words(**locals()))
     return made
 
 
@@ -114,16 +161,18 @@ def prepare_parts(export: Path | bytes | bytearray, time: str, by: str, **option
     defaults = prepare.__kwdefaults__
     for name in options.keys() - defaults.keys():
         raise TypeError(f"prepare_parts() got an unexpected argument {name!r}")
-    return _made(by, SimpleNamespace(export=export, time=time, **{**defaults, **options}))
+    words: dict[str, object] = {**defaults, **options, "export": export, "time": time}
+    return _made(by, _Words._make(map(words.__getitem__, _Words._fields)))
 
 
-def _made(by: str | None, words: SimpleNamespace) -> Iterator[tuple[str, Prepared]]:
+def _made(by: str | None, words: _Words) -> Iterator[tuple[str, Prepared]]:
     """Yields the name and the trace of each part, or the whole trace if `by` is None. `words` has the arguments of `prepare`."""
     per, place = _tick(words.tick, words.model), Zone(words.zone, words.twice)
     name = "the export" if isinstance(words.export, (bytes, bytearray)) else os.fspath(words.export)
     try:
         with fields_up_to(FIELD), Stream(words.export) as stream:
-            plan = _planned(table_in(stream, words), place, per, words)
+            table = table_in(stream, words.encoding, words.delimiter, words.skip, words.header, words.sheet, words.fixed)
+            plan = _planned(table, place, per, words)
             most = given("--left-out-most", percent, words.left_out_most)
             if by is not None:
                 yield from _in_parts(plan, by, most, words)
@@ -132,14 +181,15 @@ def _made(by: str | None, words: SimpleNamespace) -> Iterator[tuple[str, Prepare
             rows.read()
             unnamed = plan.judge_renames()
             rows.judge_left(most)
-            repeats, read = _judge_repeats(rows, words.duplicates), rows
+            repeats, read = _judge_repeats(rows, words.duplicates), [rows]
             if plan.log:
-                rows = Units(plan, rows)
+                rows = Units(plan, plan.log, rows)
                 rows.judge_left(most)
+                read.append(rows)
             if not words.far:
                 judge_far(plan, rows)
             made = _finished(plan, rows, words.begin, repeats, words.duplicates)
-            for some in [rows] if rows is read else [read, rows]:
+            for some in read:
                 _note_left(some, made)
             made.warned += unnamed
             yield "", made
@@ -149,7 +199,7 @@ def _made(by: str | None, words: SimpleNamespace) -> Iterator[tuple[str, Prepare
         raise ValueError(f"{name}: times are before the year 1 or after the year 9999: is --format right?") from None
 
 
-def _in_parts(plan: Plan, by: str, most: float, words: SimpleNamespace) -> Iterator[tuple[str, Prepared]]:
+def _in_parts(plan: Plan, by: str, most: float, words: _Words) -> Iterator[tuple[str, Prepared]]:
     """Yields the name and the trace of each part of an export."""
     if plan.log:
         raise ValueError("--split-by can't be used with --unit: choose units by their arrivals with --from and --until")
@@ -166,11 +216,11 @@ def _in_parts(plan: Plan, by: str, most: float, words: SimpleNamespace) -> Itera
             del part, made
 
 
-def _planned(table: Table, place: Zone, per: int, words: SimpleNamespace) -> Plan:
+def _planned(table: Table, place: Zone, per: int, words: _Words) -> Plan:
     """Returns the Plan for a table."""
     plan = Plan(table, place, per, words.format, words.decimal, words.model)
     plan.where(words.where)
-    answered, wait = ([item] if isinstance(item, str) else item for item in (words.answered, words.wait))
+    answered, wait = ([item] if isinstance(item, str) else list(item) for item in (words.answered, words.wait))
     plan.times(words.time, words.date, words.date_format, words.day, answered)
     plan.values(words.demand, words.end, words.constant, words.code, words.empty)
     plan.waits(wait, words.abandoned)
@@ -181,19 +231,27 @@ def _planned(table: Table, place: Zone, per: int, words: SimpleNamespace) -> Pla
     return plan
 
 
-def table_in(stream: Stream, words: SimpleNamespace) -> Table:
-    """Returns the table that a file contains (Export or Workbook)."""
+def table_in(
+    stream: Stream,
+    encoding: str | None = None,
+    delimiter: str | None = None,
+    skip: int = 0,
+    header: str | None = None,
+    sheet: str | None = None,
+    fixed: str | None = None,
+) -> Table:
+    """Returns the table that a file contains (Export, Fixed or Workbook). The texts are options of `mpplan prepare`. Raises ValueError."""
     if not stream.is_workbook:
-        if words.sheet is not None:
-            raise ValueError(f"--sheet {words.sheet}: this isn't a spreadsheet")
-        if words.fixed is None:
-            return Export(stream, words.encoding, words.delimiter, words.skip, words.header)
-        if words.delimiter:
+        if sheet is not None:
+            raise ValueError(f"--sheet {sheet}: this isn't a spreadsheet")
+        if fixed is None:
+            return Export(stream, encoding, delimiter, skip, header)
+        if delimiter:
             raise ValueError("--fixed and --delimiter exclude each other: give one of them")
-        return Fixed(stream, given("--fixed", widths_in, words.fixed), words.encoding, words.skip, words.header)
-    if words.encoding or words.delimiter or words.fixed:
+        return Fixed(stream, given("--fixed", widths_in, fixed), encoding, skip, header)
+    if encoding or delimiter or fixed:
         raise ValueError("--encoding, --delimiter and --fixed can't be used with a spreadsheet")
-    return Workbook(stream, words.sheet, words.skip, words.header)
+    return Workbook(stream, sheet, skip, header)
 
 
 def _tick(tick: str | None, model: str | None) -> int:
@@ -218,7 +276,7 @@ def percent(text: str) -> float:
 
 def _finished(plan: Plan, rows: Rows, begin: str, repeats: str | None, duplicates: str | None) -> Prepared:
     """Returns the trace made from the rows read. `repeats` is a note on rows that repeat an earlier one, or None."""
-    made = Prepared(["source", "time", *(column.name for column in plan.columns)], _order(plan, rows.sources), plan.per, plan.place.name)
+    made = Prepared(["source", "time", *(column.name for column in rows.columns)], _order(plan, rows.sources), plan.per, plan.place.name)
     made.told += [*plan.notes, *([repeats] if duplicates and repeats else [])]
     made.warned += [*plan.warned, *([repeats] if repeats and not duplicates else [])]
     at = ticks(plan, rows.stamps, begin, made)
@@ -286,11 +344,11 @@ def _judge_zero(plan: Plan, made: Prepared) -> None:
 
 
 def _note_values(plan: Plan, rows: Rows, made: Prepared) -> None:
-    gone = sum(values.count(1) for it, values in zip(plan.columns, rows.values) if isinstance(it, Abandoned))
+    gone = sum(values.count(1) for it, values in zip(rows.columns, rows.values) if isinstance(it, Abandoned))
     made.told += [f"{counted(gone, 'job')} that gave up"] if gone else []
     served = plan.records.served
     made.warned += [f"{counted(served, 'service')} above 0 of jobs that gave up: taken as 0"] if served else []
-    for it, values in zip(plan.columns, rows.values):
+    for it, values in zip(rows.columns, rows.values):
         if isinstance(it, (Demand, Sum, End, Expression)) and (zeros := values.count(0) - gone):
             name = plan.export.header[it.column]
             keeps = "" if gone else f", --abandoned '{name}<=0' keeps them as jobs that gave up"

@@ -18,6 +18,7 @@ if TYPE_CHECKING:
     from ..times.moments import Moments
     from ..times.zones import Zone
     from .conditions import Condition
+    from .events import Log
     from .plan import Column
 
 # Moments are stored as 64-bit integers, which reach from 1684 to 2255.
@@ -141,11 +142,11 @@ class Records:
     `served` counts services of theirs above 0, which are taken as 0."""
 
     names: dict[str, str]
-    conditions: list[Condition]
+    conditions: list[Condition | Log]
+    gone: list[Condition]
     begins: int | None
     ends: int | None
     ended: Times | None
-    gone: list[Condition]
     _used: set[str]
     _numbers: dict[str, int]
 

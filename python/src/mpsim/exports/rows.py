@@ -23,7 +23,8 @@ if TYPE_CHECKING:
     from collections.abc import Iterable, Sequence
     from typing import Any, TextIO
 
-    from .plan import Plan
+    from .events import Made
+    from .plan import Column, Plan
 
 
 class TooManyLeft(ValueError):
@@ -43,21 +44,23 @@ def _service_columns(plan: Plan) -> set[int]:
 class Rows:
     """The records of an export, in its order: `sources` (list of str), `stamps` (array, their moments) and `values` (list of arrays). `left` has, by
     reason, the number of rows left out and the first of them, `unwanted` the number that conditions excluded, and `long` the number of the first row
-    with a field of many lines, or 0. Rows that are left out are written to a file, if given."""
+    with a field of many lines, or 0. `columns` are those of the trace, in the order of `values`. Rows that are left out are written to a file, if
+    given. Raises ValueError for more than `most` records, by default those of a trace."""
 
-    # What is counted in messages.
-    what = "row"
     left: dict[str, tuple[int, str]]
     sources: list[str]
     stamps: array[int]
     values: list[array[int]]
+    columns: Sequence[Column | Made]
+    _empty: dict[str, int]
     _hashes: array[int]
     _runs: list[tuple[int, int]]
+    # What is counted in messages.
+    what = "row"
 
     def __init__(self, plan: Plan, left_out: TextIO | None = None, most: int | None = None) -> None:
-        self._most = most or RECORDS
-        self.plan, self.left, self.unwanted, self.long = plan, {}, 0, 0
-        self.sources, self.stamps, self.values = [], array("q"), [array("q") for _ in plan.columns]
+        self.plan, self.left, self.unwanted, self.long, self._most = plan, {}, 0, 0, most or RECORDS
+        self.sources, self.stamps, self.columns, self.values = [], array("q"), plan.columns, [array("q") for _ in plan.columns]
         self._empty, self._services = {}, _service_columns(plan)
         self._hashes, self._runs = array("q"), []
         self._writer = Writer(left_out) if left_out is not None else None
@@ -87,7 +90,7 @@ class Rows:
                 number += 1
         return number
 
-    def _judge_lines(self, rows: Sequence[Sequence[str]], first: int) -> None:
+    def _judge_lines(self, rows: Sequence[list[str]], first: int) -> None:
         """Raises ValueError if a field of these rows has lines that are rows themselves, as after a quote that isn't closed."""
         plan = self.plan
         for number, row in enumerate(rows, first):
@@ -129,11 +132,11 @@ class Rows:
                 raise ValueError(f"row {number}, column {plan.export.header[error.column]!r}: {quoted(row[error.column])}: {error}") from None
         self._add(numbers, kept, zip(*records))
 
-    def _read_met(self, rows: Sequence[Sequence[str]], numbers: Sequence[int]) -> None:
+    def _read_met(self, rows: Sequence[list[str]], numbers: Sequence[int]) -> None:
         """Reads some rows with these numbers at once, after excluding those that don't meet all conditions. Raises ValueError if one of them may need
         individual treatment; nothing has changed then."""
         conditions, records = self.plan.records.conditions, self.plan.records
-        excluded = []
+        excluded: list[list[str]] = []
         if conditions:
             records.judge_widths(rows)
             met = [all(condition.holds(row) for condition in conditions) for row in rows]
@@ -169,12 +172,16 @@ class Rows:
             name = self.plan.export.header[error.column]
             why = f"{name} is empty" if why == "empty" else f"{name}: {why}"
             first += f", {quoted(row[error.column])}" if row[error.column].strip() else ""
-        count, where = self.left.get(why, (0, first))
-        self.left[why] = count + 1, where
-        if error.why == "empty" and error.column in self._services:
-            self._empty[name] = self._empty.get(name, 0) + 1
+            if error.why == "empty" and error.column in self._services:
+                self._empty[name] = self._empty.get(name, 0) + 1
+        self._count_left(why, first)
         if self._writer:
             self._writer.writerow([number, why, *row])
+
+    def _count_left(self, why: str, where: str) -> None:
+        """Counts what is left out for a reason; `where` names its place, if it is the first."""
+        count, first = self.left.get(why, (0, where))
+        self.left[why] = count + 1, first
 
     def row_of(self, at: int) -> int:
         """Returns the number of the row of a record, by its index."""
@@ -188,7 +195,7 @@ class Rows:
         return [f"{counted(count, self.what)}: {why}{where[why]}" for why, (count, _) in ordered]
 
     def hints(self) -> list[str]:
-        """Returns a note (list of str) on rows that may be abandoned calls."""
+        """Returns a note on rows that may be abandoned calls; no note if there are none."""
         if not self._empty or self.plan.gone or self.plan.log:
             return []
         name = max(self._empty, key=self._empty.__getitem__)

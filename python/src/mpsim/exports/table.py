@@ -20,6 +20,8 @@ class Table:
 
     header: list[str]
     sample: list[list[str]]
+    # The character between fields, if the form has one.
+    delimiter = ","
 
     def __init__(self, skip: int, header: str | None, notes: Iterable[str]) -> None:
         if skip < 0:

@@ -143,7 +143,7 @@ class Wait:
 
     is_service = False
 
-    def __init__(self, name: str, parts: list[Demand | End]) -> None:
+    def __init__(self, name: str, parts: Sequence[Demand | End]) -> None:
         self.name, self.parts = name, parts
         self.column: int = parts[0].column
 
@@ -167,7 +167,7 @@ class Abandoned:
     # It is in several columns of the export, or none.
     is_service, column = False, -1
 
-    def __init__(self, name: str, conditions: list[Condition]) -> None:
+    def __init__(self, name: str, conditions: Sequence[Condition]) -> None:
         self.name, self.conditions = name, conditions
 
     def of(self, row: Sequence[str], begun: Sequence[int]) -> int:

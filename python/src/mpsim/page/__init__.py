@@ -2,8 +2,6 @@
 
 from __future__ import annotations
 
-import base64
-import hashlib
 import json
 import os
 from html import escape
@@ -16,6 +14,7 @@ from .colours import in_light, style
 from .flows import flows
 from .network import arguments_of, network, nodes_that_are_drawn
 from .pictures import NUMBERS, pictures_of
+from .parts import part, policy, shown_text
 from .tables import columns_of, exits_table, facts, legend, nodes_table
 
 if TYPE_CHECKING:
@@ -28,19 +27,7 @@ if TYPE_CHECKING:
     from ..shapes import Path
     from .tables import Column
 
-HERE = os.path.dirname(os.path.abspath(__file__))
 SCRIPTS = "figures.js", "pictures.js", "page.js"
-
-
-def _part(name: str) -> str:
-    with open(os.path.join(HERE, name), encoding="utf-8") as file:
-        return file.read()
-
-
-def _policy(script: str) -> str:
-    """The browser's policy for the page: no network access, and only the page's own script."""
-    digest = base64.b64encode(hashlib.sha256(script.encode()).digest()).decode()
-    return f"default-src 'none'; style-src 'unsafe-inline'; script-src 'sha256-{digest}'; base-uri 'none'; form-action 'none'"
 
 
 def _first_node(nodes: Sequence[Node]) -> str:
@@ -55,23 +42,30 @@ def _exact(value: object) -> object:
     return str(value) if isinstance(value, int) and value >= 1 << 53 else value
 
 
+def _texts(label: object) -> list[str]:
+    """Returns the texts (list of str) of a label; those of a tuple are several."""
+    return list(map(shown_text, label if isinstance(label, tuple) else [label]))
+
+
 def _data(
     reports: Sequence[Report],
     lines: Sequence[Sequence[Node]],
-    labels: Sequence[str],
+    labels: Sequence[list[str]],
     columns: Sequence[Column],
     tick: float | Fraction | None,
     start: datetime | None,
     chosen: str,
+    within: int | None,
 ) -> dict[str, object]:
     """Returns the script's data: the figures and charts of the nodes of each run (`lines`, lists of Node), in the order of the columns, and the node
-    to select first."""
+    to select first. `labels` are lists of texts."""
     runs = []
     for label, report, mine in zip(labels, reports, lines):
         nodes = nodes_that_are_drawn(report)
         runs.append(
             {
-                "label": label,
+                "label": ", ".join(label),
+                "parts": label,
                 "facts": facts(report),
                 "span": report.span,
                 "kinds": {item.name: item.kind for item in mine},
@@ -88,6 +82,7 @@ def _data(
         "columns": [column.name for column in columns],
         "runs": runs,
         "node": chosen,
+        "within": within,
         "tick": None if tick is None else float(tick),
         "date": start and start.date().isoformat(),
         "start": start.hour * 3600 + start.minute * 60 + start.second if start else 0,
@@ -107,7 +102,9 @@ def page(
     within: int | None = None,
 ) -> str:
     """Returns the page (str) of a report, or of several side by side, under their labels (by default 1, 2 and so on). The network and the rows of the
-    tables are those of the first; figures follow the selected run. A pool is one node: the figures under its name are those of the whole.
+    tables are those of the first; figures follow the selected run. A pool is one node: the figures under its name are those of the whole. If all
+    labels are tuples of one length, such as agents and load, the number with the most values is the axis of the curves, and there is a curve for
+    each combination of the others.
 
     With `tick`, the seconds per tick (a number), axes show times of day; with `start`, the local datetime of time 0, also dates. With `within` (int,
     ticks), the share of all arrivals served within that time becomes a figure; each report then needs its visits. Raises ValueError if there is no
@@ -116,24 +113,24 @@ def page(
     reports = list(reports)
     if not reports:
         raise ValueError("a page needs a report: none was given, or every model was rejected")
-    # A file name that isn't UTF-8 can't appear in a page.
-    names = [str(label).encode(errors="surrogateescape").decode(errors="replace") for label in labels or range(1, len(reports) + 1)]
+    parts = list(map(_texts, labels or range(1, len(reports) + 1)))
+    names = [", ".join(texts) for texts in parts]
     first, is_several = reports[0], len(reports) > 1
-    title = (title or (f"{len(reports)} runs" if is_several else "Run")).encode(errors="surrogateescape").decode(errors="replace")
+    title = shown_text(title or (f"{len(reports)} runs" if is_several else "Run"))
     columns, lines = columns_of(reports, within), [beside_pools(report) for report in reports]
     chosen = _first_node(lines[0])
-    data = _data(reports, lines, names, columns, tick, start, chosen)
-    script = "(() => {\n'use strict';\n" + "".join(map(_part, SCRIPTS)) + "})();\n"
+    data = _data(reports, lines, parts, columns, tick, start, chosen, within)
+    script = "(() => {\n'use strict';\n" + "".join(map(part, SCRIPTS)) + "})();\n"
     svg = network(first, lines[0], chosen)
-    return Template(_part("page.html")).substitute(
-        policy=escape(_policy(script)),
+    return Template(part("page.html")).substitute(
+        policy=escape(policy(script)),
         title=escape(title),
-        style=style() + _part("piece.css") + _part("page.css"),
+        style=style() + part("piece.css") + part("page.css"),
         facts=facts(first),
         pools="".join(f"\n<p>{escape(pool_line)}</p>" for pool_line in pool_lines(reports, lacks=True)),
         runs=f'<label>Run <select id="run">{_options(names)}</select></label>' if is_several else "",
-        network=Template(_part("network.html")).substitute(legend=legend(), svg=svg) if svg else "",
-        compared=_part("compared.html") if is_several else "",
+        network=Template(part("network.html")).substitute(legend=legend(), svg=svg) if svg else "",
+        compared=part("compared.html") if is_several else "",
         nodes=_options([line.name for line in lines[0]], chosen),
         tables=nodes_table(first, lines[0], columns),
         exits="" if is_several else exits_table(first),
@@ -165,7 +162,7 @@ def drawing(report: Report) -> str:
         raise ValueError("the network needs the model of the report")
     head, body = svg.split(">", 1)
     head = head.replace("<svg ", '<svg xmlns="http://www.w3.org/2000/svg" ', 1)
-    rules = in_light(_part("piece.css"))
+    rules = in_light(part("piece.css"))
     ground = in_light('<rect width="100%" height="100%" fill="var(--paper)"/>')
     return f'{head}><style>{rules}</style>{ground}<g class="mpsim">{body.removesuffix("</svg>")}</g></svg>\n'
 
@@ -177,4 +174,4 @@ def piece(report: Report) -> str:
     drawn = f'{legend()}<div class="scroll">{svg}</div>' if svg else ""
     tables = nodes_table(report, lines, columns_of([report]), is_still=True) + exits_table(report, is_still=True)
     text = f'<p>{facts(report)}</p>{drawn}<div class="scroll">{tables}</div>'
-    return f'<div class="mpsim piece"><style>{style()}{_part("piece.css")}</style>{text}</div>'
+    return f'<div class="mpsim piece"><style>{style()}{part("piece.css")}</style>{text}</div>'

@@ -27,13 +27,14 @@ function showPictures() {
   }
   const figures = [mine.time ? overTime(mine.time, span, data) : html('p', {}, 'This node has no waits of its own.')];
   if (mine.number) figures.push(numberOverTime(mine.number, span, data));
-  if (mine.waits && mine.waits.wait.length) figures.push(byWait(mine.waits, figureOf(state.run, state.node)));
+  if (mine.waits && mine.waits.wait.length) figures.push(byWait(mine.waits, figureOf(state.run, state.node), data.within));
   by('pictures').replaceChildren(...figures);
 }
 
 function showCompared() {
   const labels = data.runs.map(it => it.label), values = labels.map((_, run) => figureOf(run, state.node)(state.figure));
-  by('curve').replaceChildren(curveOf(labels, values, state.run, `${state.figure} at ${state.node}, by run`, run => choose({ run })));
+  const parts = data.runs.map(it => it.parts), says = `${state.figure} at ${state.node}, by run`;
+  by('curve').replaceChildren(curveOf(parts, labels, values, state.run, says, run => choose({ run })));
   by('at').textContent = state.node;
   const table = by('compared'), names = ['run', `${state.figure} − first`, ...data.columns];
   const head = name => html('th', { scope: 'col', 'aria-sort': 'none' }, html('button', { type: 'button' }, name));

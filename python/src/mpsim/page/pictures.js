@@ -119,8 +119,9 @@ function numberOverTime(series, span, calendar) {
     html('figcaption', {}, `The mean and the maximum in each interval of ${shown(width)} ticks. Lost jobs don't count.`));
 }
 
-// The share by wait, of those that departed; and a field for a time, with the shares of arrivals and of departures served within it.
-function byWait(waits, figure) {
+// The share by wait, of those that departed; and a field for a time, with the shares of arrivals and of departures served within it. It begins with
+// the time that the page was made for, if there is one.
+function byWait(waits, figure, within) {
   const { came, wait, count } = waits, departed = count[count.length - 1], high = Number(wait[wait.length - 1]) || 1;
   const p = picture('waits', 'Share of those that departed, by wait', { low: 0, high, name: 'wait, ticks', text: shown },
     { high: 1, text: it => `${Math.round(100 * it)} %` }, wait.map(Number),
@@ -139,7 +140,7 @@ function byWait(waits, figure) {
     p.root.append(svg('g', { class: 'mark' }, svg('line', { x1: x, x2: x, y1: TOP, y2: FLOOR }),
       svg('text', { x: isLast ? x - 4 : x + 4, y, 'text-anchor': isLast ? 'end' : 'start' }, `${name} ${shown(value)}`)));
   });
-  const field = html('input', { type: 'number', min: 0, step: 1, id: 'ticks', size: 8, value: figure('p50') ?? Math.round(high / 2) });
+  const field = html('input', { type: 'number', min: 0, step: 1, id: 'ticks', size: 8, value: within ?? figure('p50') ?? Math.round(high / 2) });
   const ofAll = html('b', { id: 'of-all' }), ofDeparted = html('b', { id: 'of-departed' });
   const tell = () => {
     const counts = countsWithin(waits, Number(field.value || 0));
@@ -154,17 +155,34 @@ function byWait(waits, figure) {
     html('figcaption', {}, `The curve counts those that departed. It is exact at ${shown(wait.length)} waits.`));
 }
 
-// A figure of a node in several runs, over their labels if these are numbers, else side by side.
-function curveOf(labels, values, chosen, says, choose) {
-  const isPlain = labels.every(it => it.trim() !== '' && Number.isFinite(Number(it)));
-  const xs = isPlain ? labels.map(Number) : labels.map((_, at) => at);
+// Which of the parts of labels is the axis: the number with the most values, of those of one length. The others name the curve.
+const isNumber = it => it.trim() !== '' && Number.isFinite(Number(it));
+function axisOf(parts) {
+  if (parts.some(it => it.length !== parts[0].length)) return -1;
+  const kinds = parts[0].map((_, at) => parts.every(it => isNumber(it[at])) ? new Set(parts.map(it => Number(it[at]))).size : 0);
+  return Math.max(...kinds) > 1 || parts[0].length === 1 && kinds[0] ? kinds.indexOf(Math.max(...kinds)) : -1;
+}
+
+// A figure of a node in several runs, over their labels if these are numbers, else side by side. Of labels with several parts each curve has those
+// that differ in its axis only.
+const STROKES = ['', '7 4', '2 4', '10 3 2 3', '5 2 1 2 1 2'];
+function curveOf(parts, labels, values, chosen, says, choose) {
+  const place = axisOf(parts), isPlain = place >= 0;
+  const xs = isPlain ? parts.map(it => Number(it[place])) : labels.map((_, at) => at);
+  const curves = parts.map(it => isPlain ? it.filter((_, at) => at !== place).join(', ') : ''), names = [...new Set(curves)];
   const low = Math.min(...xs), high = Math.max(...xs), margin = (high - low || 1) * .04;
   const numbers = values.map(it => it === null ? null : Number(it));
   const axis = { low: low - margin, high: high + margin, name: 'run', marks: isPlain ? undefined : xs, text: it => isPlain ? shown(it) : labels[it] };
   const p = picture('curve', says, axis, { high: Math.max(...numbers, 0), text: shown }, xs, at => `${labels[at]}: ${shown(values[at])}`);
   const order = xs.map((_, at) => at).filter(at => numbers[at] !== null).sort((one, other) => xs[one] - xs[other]);
-  const path = order.map((at, index) => `${index ? 'L' : 'M'}${p.across(xs[at])} ${p.up(numbers[at])}`).join('');
-  p.root.append(svg('path', { class: 'share', d: path }));
+  names.forEach((name, number) => {
+    const mine = order.filter(at => curves[at] === name), last = mine[mine.length - 1];
+    const path = mine.map((at, index) => `${index ? 'L' : 'M'}${p.across(xs[at])} ${p.up(numbers[at])}`).join('');
+    const stroke = STROKES[number % STROKES.length];
+    p.root.append(svg('path', { class: 'share', d: path, 'data-curve': name, ...(stroke ? { 'stroke-dasharray': stroke } : {}) }));
+    const beside = { class: 'curve', 'text-anchor': 'end' };
+    if (name && mine.length) p.root.append(svg('text', { ...beside, x: p.across(xs[last]) - 8, y: p.up(numbers[last]) - 9 }, name));
+  });
   for (const at of order) {
     const dot = svg('circle', { class: at === chosen ? 'dot marked' : 'dot', cx: p.across(xs[at]), cy: p.up(numbers[at]), r: at === chosen ? 7 : 5,
       'data-v': values[at], 'data-label': labels[at] });

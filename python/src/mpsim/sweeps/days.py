@@ -6,7 +6,7 @@ from bisect import bisect_right
 from typing import TYPE_CHECKING, NamedTuple, Tuple
 
 from ..agents.pools import pools
-from ..agents.waits import model_pools, recomputed
+from ..agents.waits import carried, model_pools, recomputed, rostered_pools
 from ..errors import BoundError, VisitsError
 from ..runs import run
 from ..times.calendar import days_until
@@ -114,7 +114,8 @@ def days(
 
     Agents and waits at a pool are recomputed for the records of the piece (`recomputed`). The model is any that `mpsim.run` accepts, and is read for
     each piece. If a run is refused because of the bound or of a node with too many visits, its scenario has that error. Any other error is raised,
-    with the path of the model if given. `tell` is called with the number of pieces done.
+    with the path of the model if given. `tell` is called with the number of pieces done. The waits at a pool with a roster, patience or priorities
+    are those of the whole trace (`shared_by`).
 
     >>> from mpsim.sweeps.days import by_ticks, days
     >>> from mpsim.traces import Trace
@@ -140,3 +141,14 @@ def days(
         # A job that leaves at exactly that time leaves before the next arrives.
         over += it.zero + report.span > it.end
     return sweep, over
+
+
+def shared_by(model: str, trace: Trace, pieces: Sequence[Day]) -> dict[str, int]:
+    """Returns the pools of a model's text that have a roster, patience or priorities, and whose waits are in a trace, each with the number of pieces
+    that share its agents with another one (dict of str to int): only their waits may differ from those of the piece alone."""
+    pools_ = [name for name in rostered_pools(model) if f"{name}_wait" in trace.header]
+    if not pools_:
+        return {}
+    with locating_errors(trace):
+        report = run(model.encode(errors="surrogateescape"), trace.lines(), jobs=True)
+    return {name: carried(report, name, [piece.records for piece in pieces]) for name in pools_}

@@ -64,8 +64,9 @@ def _pooled_again(plan: Plan, trace: TraceFile, models: Iterable[int], with_jobs
         yield at, Scenario(label, 0, report, None)
 
 
-def label_of(plan: Plan, trace: TraceFile, at: int) -> str:
-    """Returns the label of a scenario on the page: its values, with the names of its model and its trace if there are several."""
+def label_of(plan: Plan, trace: TraceFile, at: int) -> str | tuple[str, ...]:
+    """Returns the label of a scenario on the page: its values, with the names of its model and its trace if there are several. A label of several
+    texts is a tuple of them."""
     label, values, _ = plan.model(at)
     words = [trace["label"]] * (len(plan.traces) > 1) + [label] * (len(plan.models) > 1 or not values) + [str(value) for value in values.values()]
-    return ", ".join(words)
+    return tuple(words) if len(words) > 1 else words[0]

@@ -5,8 +5,8 @@ from __future__ import annotations
 from bisect import bisect_right
 from typing import TYPE_CHECKING
 
-from ..node_visits import HELD, LOST, percentile_of
-from .visits import Passing
+from ..node_visits import HELD, LOST, NodeVisits, percentile_of
+from .visits import Passing, of_source
 
 if TYPE_CHECKING:
     from collections.abc import Iterable, Iterator, Sequence
@@ -48,8 +48,11 @@ def figures_of(visits: NodeVisits, waits: Sequence[int], within: Sequence[int] =
     return [*found[:4], *[None] * (len(found) - 4)] if isinstance(visits, Passing) else found
 
 
-def service(visits: Iterable[NodeVisits], within: Sequence[int] = (20,), percents: Sequence[float] = PERCENTS) -> Iterator[Row]:
-    """Yields the header and the rows (lists) of a table of visits (list of NodeVisits), a row each, with what `figures` returns.
+def service(
+    visits: Iterable[NodeVisits], within: Sequence[int] = (20,), percents: Sequence[float] = PERCENTS, sources: dict[int, str] | None = None
+) -> Iterator[Row]:
+    """Yields the header and the rows (lists) of a table of visits (list of NodeVisits), a row each, with what `figures` returns. With the source of
+    each job, as `sources_in` returns it, each has a row for "all" and a row per source.
 
     >>> import mpsim
     >>> from mpsim.tables.service import service
@@ -60,6 +63,9 @@ def service(visits: Iterable[NodeVisits], within: Sequence[int] = (20,), percent
     ['node', 'came', 'departed', 'lost', 'held', 'mean_wait', 'p90', 'max', 'within_3_of_all', 'within_3_of_departed']
     ['desk', 3, 2, 1, 0, 2.0, 4, 4, 0.333333, 0.5]
     """
-    yield ["node", *heads(within, percents)]
+    yield ["node", *([] if sources is None else ["source"]), *heads(within, percents)]
     for visit in visits:
-        yield [visit.node, *figures_of(visit, visit.wait, within, percents)]
+        yield [visit.node, *([] if sources is None else ["all"]), *figures_of(visit, visit.wait, within, percents)]
+        for name in () if sources is None else sorted({sources[job] for job in visit.job}):
+            mine = of_source(visit, sources or {}, [name])
+            yield [visit.node, name, *figures_of(mine, mine.wait, within, percents)]

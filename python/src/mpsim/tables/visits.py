@@ -6,10 +6,10 @@ from typing import TYPE_CHECKING
 
 from ..agents.pools import names_of, pooled, pools, queue_name, visits_at
 from ..lines import PASSED
-from ..node_visits import NodeVisits
+from ..node_visits import FIELDS, NodeVisits, Visits
 
 if TYPE_CHECKING:
-    from collections.abc import Collection, Iterable
+    from collections.abc import Collection, Iterable, Sequence
 
     from ..report import Report
 
@@ -47,3 +47,37 @@ def visits_to(report: Report, names: Iterable[str]) -> list[NodeVisits]:
     """Returns the visits (list of NodeVisits) to these nodes and pools of a report with visits, those to delays as Passing."""
     known = pools(report)
     return [it for name in names for it in ([pooled(report, name)] if name in known else _of_delays(report, visits_at(report, [name])))]
+
+
+def sources_in(report: Report) -> dict[int, str]:
+    """Returns the source (str) of each job of a report with visits, by its record (int, from 1).
+
+    >>> import mpsim
+    >>> report = mpsim.run("model 1\\nsource phone\\nsource mail\\nserver desk =4 from phone mail\\n", [("phone", 0), ("mail", 1)], jobs=True)
+    >>> sources_in(report)
+    {1: 'phone', 2: 'mail'}
+    """
+    visits = report.visits or Visits()
+    return {job: node.name for node in report.nodes if node.kind == "source" and node.name in visits for job in visits[node.name].job}
+
+
+def of_source(visits: NodeVisits, sources: dict[int, str], names: Sequence[str]) -> NodeVisits:
+    """Returns those of some visits whose jobs come from sources of these names; `sources` is what `sources_in` returns."""
+    kept = [at for at, job in enumerate(visits.job) if sources[job] in names]
+    found = type(visits)(visits.node)
+    for name in FIELDS:
+        column = getattr(visits, name)
+        getattr(found, name).extend([column[at] for at in kept])
+    return found
+
+
+def together(names: dict[str, Iterable[str]]) -> str | None:
+    """Returns a line (str) that says at which nodes the figures are those of several sources, from the sources of the jobs at each node; None if each
+    has one.
+
+    >>> together({"desk": ["phone", "mail", "phone"], "wrap": ["mail"]})
+    'figures of several sources together (mail, phone) at desk'
+    """
+    several = {node: set(mine) for node, mine in names.items() if len(set(mine)) > 1}
+    every = sorted(set().union(*several.values()))
+    return f"figures of several sources together ({', '.join(every)}) at {', '.join(several)}" if several else None

@@ -25,9 +25,9 @@ if TYPE_CHECKING:
 # The most bytes of edits that mpedit accepts.
 BYTES = 1 << 24
 # A change that computes a number from the old one.
-STEP = re.compile(r"([+-])(\d{1,20})|\*(\d{1,20}(?:[.,]\d{1,20})?)", re.ASCII)
+STEP = re.compile(r"([+-])(\d{1,20})|\*(\d{1,20}(?:[.,]\d{1,20})?)|([+-])(\d{1,20}(?:[.,]\d{1,20})?)\s?%", re.ASCII)
 # A factor that is a fraction in one country and thousands in another.
-DOUBTFUL = re.compile(r"\*([1-9]\d{0,2})[.,](\d{3})", re.ASCII)
+DOUBTFUL = re.compile(r"([*+-])([1-9]\d{0,2})[.,](\d{3})(\s?%)?", re.ASCII)
 # The greatest number of 20 digits, the most that a number may have.
 MOST = 10**20 - 1
 _line_of = row_writer()
@@ -43,8 +43,11 @@ def _is_code(text: str) -> bool:
     return text[0] == "0" and len(text) > 1
 
 
-def _parts(sign: str, by: str) -> tuple[int, int, int]:
+def _parts(sign: str, by: str, is_percent: bool = False) -> tuple[int, int, int]:
     """Returns the numbers (int) times, more and over of a step, which turns a number into (old * times + more) // over."""
+    if is_percent:
+        _, half, over = _parts("*", by)
+        return 200 * half + int(f"{sign}{by.replace(',', '.').replace('.', '')}") * 2, 100 * half, 200 * half
     if sign == "*":
         whole, _, part = by.replace(",", ".").partition(".")
         # In units of half of the last digit.
@@ -57,24 +60,27 @@ def _why_no_number(text: str, may_step: bool) -> str:
     if re.fullmatch(r"[+*-]?\d*[.,]?\d*", text, re.ASCII) and re.search(r"\d{21}", text, re.ASCII):
         return "has more than 20 digits in a row"
     if may_step and "," in text and STEP.fullmatch(text):
-        return "is not a valid *N: in a comma-separated file, write a decimal point"
-    return "is not a number" + (", +N, -N or *N" if may_step else "")
+        return f"is not a valid {'+N%' if text.endswith('%') else '*N'}: in a comma-separated file, write a decimal point"
+    return "is not a number" + (", +N, -N, *N or +N%" if may_step else "")
 
 
-def _why_doubtful(whole: str, part: str) -> str:
-    """Returns why digits (str) before and after a mark could mean two numbers, and how to write each unambiguously."""
-    fraction = f"{whole}.{part}".rstrip("0").rstrip(".")
-    return f"could mean {fraction} or {whole}{part}: write *{fraction}{'0' * (part[-1] != '0')} or *{whole}{part}"
+def _why_doubtful(sign: str, whole: str, part: str, percent: str | None) -> str:
+    """Returns why digits (str) before and after a mark, with a sign and perhaps a percent sign, could mean two numbers, and how to write each
+    unambiguously."""
+    fraction, end = f"{whole}.{part}".rstrip("0").rstrip("."), percent or ""
+    clear = f"{sign}{fraction}{'0' * (part[-1] != '0')}{end}"
+    return f"could mean {fraction} or {whole}{part}: write {clear} or {sign}{whole}{part}{end}"
 
 
-def stepped(old: int, sign: str, by: str) -> int:
-    """Returns the result (int) of applying `+`, `-` or `*` (str) and a decimal number (str) to a number. Products are exact and rounded half up.
+def stepped(old: int, sign: str, by: str, is_percent: bool = False) -> int:
+    """Returns the result (int) of applying `+`, `-` or `*` (str) and a decimal number (str) to a number; with `is_percent`, that many percent are
+    added or subtracted. Products are exact and rounded half up.
 
     >>> from mpsim.traces.edit import stepped
-    >>> stepped(5, "*", "1.1"), stepped(4, "*", "1.1"), stepped(3, "-", "5")
-    (6, 4, -2)
+    >>> stepped(5, "*", "1.1"), stepped(4, "*", "1.1"), stepped(3, "-", "5"), stepped(50, "+", "12.5", is_percent=True)
+    (6, 4, -2, 56)
     """
-    times, more, over = _parts(sign, by)
+    times, more, over = _parts(sign, by, is_percent)
     return (old * times + more) // over
 
 
@@ -115,17 +121,18 @@ class Edited:
         self._changed_places.update(change.values)
         if change.records is None:
             return self._add(change)
-        numbers = self._numbers(change)
-        if self.out and (number := next(filter(self.out.__contains__, numbers), None)):
+        numbers, is_open = self._numbers(change), change.records.endswith(("*", "-"))
+        if not is_open and self.out and (number := next(filter(self.out.__contains__, numbers), None)):
             raise ValueError(f"{change.where}: record {number} is already removed ({self.out[number]})")
         if change.out:
-            self.out.update(dict.fromkeys(numbers, change.where))
+            self.out = {**dict.fromkeys(numbers, change.where), **self.out}
             self.changed.difference_update(numbers)
         elif change.values:
             rows = self._own(numbers)
             for place, text in change.values.items():
                 self._put(change, numbers.start, rows, place, text)
-            self.changed.update(range(numbers.start, min(numbers.stop, len(self._texts))))
+            # Those of `*` and `5-` that are removed stay so.
+            self.changed.update(number for number in range(numbers.start, min(numbers.stop, len(self._texts))) if number not in self.out)
 
     def _own(self, numbers: range) -> list[list[str]]:
         """Returns the rows with these numbers (range), copied so that the original trace stays unchanged."""
@@ -136,10 +143,12 @@ class Edited:
 
     def _numbers(self, change: Change) -> range:
         """Returns the numbers (range) of the records that a change names."""
-        found = re.fullmatch(r"(\d{1,20})(?:-(\d{1,20}))?", change.records or "", re.ASCII)
-        first, last = (int(found[1]), int(found[2] or found[1])) if found else (0, 0)
+        if change.records == "*" and not change.is_edit:
+            return range(1, len(self.rows) + 1)
+        found = re.fullmatch(r"(\d{1,20})(?:(-)(\d{1,20})?)?", change.records or "", re.ASCII)
+        first, last = (int(found[1]), int(found[3] or (len(self.rows) if found[2] else found[1]))) if found else (0, 0)
         if not 1 <= first <= last <= len(self.rows) or change.is_edit and found and found[2]:
-            forms = "" if change.is_edit else ", a range as 100-109" if change.out else ", a range as 100-109, or +"
+            forms = "" if change.is_edit else ", a range as 100-109 or 100-, *" if change.out else ", a range as 100-109 or 100-, *, or +"
             raise ValueError(f'{change.where}: record "{change.records}": expected a number from 1 to {len(self.rows)}{forms}')
         return range(first, last + 1)
 
@@ -162,7 +171,7 @@ class Edited:
             return
         if change.has_commas and (found := DOUBTFUL.fullmatch(text)):
             raise self._refusal(change, first, place, text, _why_doubtful(*found.groups()))
-        times, more, over = _parts(step[1] or "*", step[2] or step[3])
+        times, more, over = _parts(step[1] or step[4] or "*", step[2] or step[3] or step[5], bool(step[4]))
         for number, row in enumerate(rows, first):
             old = row[place]
             if not _is_number(old):

@@ -5,10 +5,14 @@ from __future__ import annotations
 from collections import Counter
 from typing import TYPE_CHECKING
 
+from ..times.texts import DAY
+from ..wording import counted
 from .trace import Trace
 
 if TYPE_CHECKING:
     from collections.abc import Collection, Sequence
+
+    from ..times.calendar import Calendar
 
 TIMES = (
     "each time is {n}/{k} of its old value: the same jobs arrive {faster}, and their service times don't change. "
@@ -30,20 +34,53 @@ def closer(times: Sequence[int], k: int, n: int) -> list[tuple[int, int]]:
     return [(times[at] * n // k, at) for at in sorted(range(len(times)), key=times.__getitem__)]
 
 
-def copies(times: Sequence[int], sources: Sequence[str], k: int, n: int, shift: int = 0, only: Collection[str] = ()) -> list[tuple[int, int]]:
+class Walls:
+    """The times of a trace on the clock of a Calendar: nanoseconds since the wall-clock time of tick 0.
+
+    >>> from mpsim.times.calendar import Calendar
+    >>> from mpsim.traces.scale import Walls
+    >>> walls = Walls(Calendar(10**9, "2026-03-28T12:00:00+01:00", "Europe/Berlin"))
+    >>> walls.of(82800) // 10**9, walls.tick(86400 * 10**9)
+    (86400, 82800)
+    """
+
+    def __init__(self, days: Calendar) -> None:
+        self.days, self.base = days, days.wall(0)
+        self._whole: dict[int, int | None] = {}
+
+    def of(self, tick: int) -> int:
+        """Returns the time of a tick."""
+        return self.days.wall(tick) - self.base
+
+    def tick(self, time: int) -> int:
+        """Returns the first tick at or after a time; of an hour that occurs twice the first, of one that is skipped its end."""
+        midnight, since = divmod(self.base + time, DAY)
+        if midnight not in self._whole:
+            self._whole[midnight] = self.days.place.whole_day(midnight * DAY)
+        whole = self._whole[midnight]
+        moment = self.days.place.first(self.base + time) if whole is None else whole + since
+        return max(0, self.days.tick_at(moment))
+
+
+def copies(
+    times: Sequence[int], sources: Sequence[str], k: int, n: int, shift: int = 0, only: Collection[str] = (), days: Calendar | None = None
+) -> list[tuple[int, int]]:
     """Returns pairs (list) of a time and the index of its record, in order of time, then of records: k for every n records, spread as evenly as
     possible within each source.
 
     Record i, counted from 0, appears floor(k (i + 1) / n) - floor(k i / n) times. Counting continues from one source to the next, in the order of the
     trace, so that few records from many sources also give k/n in all. Each copy is `shift` (int, ticks) after the one before. A copy past the last
     record wraps round to the first time that is a whole number of shifts away and not before the first record (`around`). With `only` (names of
-    sources), only those are copied. Raises ValueError if a copy would fall on its own record.
+    sources), only those are copied. With `days`, a Calendar, a copy has the time of day of its record, even if clocks change between them. Raises
+    ValueError if a copy would fall on its own record.
 
     >>> from mpsim.traces.scale import copies
     >>> copies([0, 10, 25], ["a", "a", "a"], 2, 1, shift=10)
     [(0, 0), (5, 2), (10, 0), (10, 1), (20, 1), (25, 2)]
     """
-    ends = min(times, default=0), max(times, default=0)
+    walls = Walls(days) if days and shift else None
+    clock, step = ([walls.of(time) for time in times], shift * walls.days.tick) if walls else (times, shift)
+    ends = min(clock, default=0), max(clock, default=0)
     seen, before, made = {}, 0, []
     for source, count in Counter(source for source in sources if not only or source in only).items():
         seen[source], before = before, before + count
@@ -52,15 +89,17 @@ def copies(times: Sequence[int], sources: Sequence[str], k: int, n: int, shift: 
         if source in seen:
             i = seen[source]
             count, seen[source] = k * (i + 1) // n - k * i // n, i + 1
-        made += [(time, at) for time in (around(times[at], count, shift, *ends) if shift else [times[at]] * count)]
+        placed = around(clock[at], count, step, *ends, told=(shift, times[at])) if shift else [times[at]] * count
+        made += [(walls.tick(time) if walls and time != clock[at] else times[at] if walls else time, at) for time in placed]
     # Copies at equal times are in the order of their records.
     return sorted(made)
 
 
-def around(time: int, count: int, shift: int, first: int, last: int) -> list[int]:
+def around(time: int, count: int, shift: int, first: int, last: int, told: tuple[int, int] | None = None) -> list[int]:
     """Returns the times (list of int) of this many copies of a record (int, including the record), each `shift` after the one before, starting at its
     `time` and wrapping round between `first` and `last` (int, ticks). If that gives too few times, they may lie up to an eighth of a shift outside,
-    so that a record from an early or late minute also gets its other days. Raises ValueError if that isn't enough.
+    so that a record from an early or late minute also gets its other days. Raises ValueError if that isn't enough, with the shift and the time in
+    `told` if the others aren't ticks.
 
     >>> from mpsim.traces.scale import around
     >>> around(25, 2, 10, 3, 31), around(9, 3, 10, 0, 28)
@@ -74,12 +113,16 @@ def around(time: int, count: int, shift: int, first: int, last: int) -> list[int
         rounds += 1
     if rounds < count:
         some = f"there are {rounds} times" if rounds > 1 else "there is no other time"
-        raise ValueError(f"--shift {shift}: within the trace {some} whole shifts away from {time}, but {count} records need one")
+        by, at = told or (shift, time)
+        raise ValueError(f"--shift {by}: within the trace {some} whole shifts away from {at}, but {count} records need one")
     return [front + ((time - front) // shift + copy) % rounds * shift for copy in range(count)]
 
 
-def scaled(trace: Trace, k: int, n: int, way: str, shift: int | None = None, only: Collection[str] = ()) -> Trace:
-    """Returns the trace (Trace) with k/n of the load of another, in order of time; `way` is "times", "twins" or "shift".
+def scaled(
+    trace: Trace, k: int, n: int, way: str, shift: int | None = None, only: Collection[str] = (), days: Calendar | None = None
+) -> Trace:
+    """Returns the trace (Trace) with k/n of the load of another, in order of time; `way` is "times", "twins" or "shift". With `days`, a Calendar, a
+    shift keeps the time of day.
 
     >>> from mpsim.traces import Trace
     >>> from mpsim.traces.scale import scaled
@@ -94,7 +137,7 @@ def scaled(trace: Trace, k: int, n: int, way: str, shift: int | None = None, onl
     if way == "times":
         made = closer(times, k, n)
     else:
-        made = copies(times, trace.sources(), k, n, (shift or 0) if way == "shift" else 0, only)
+        made = copies(times, trace.sources(), k, n, (shift or 0) if way == "shift" else 0, only, days)
     return Trace(trace.path, trace.header, [[trace.rows[at][0], str(time), *trace.rows[at][2:]] for time, at in made])
 
 
@@ -104,7 +147,7 @@ def count_of(trace: Trace, k: int, n: int, way: str, only: Collection[str]) -> i
     return len(trace.rows) - taken + k * taken // n
 
 
-def means(k: int, n: int, way: str, shift: int | None = None, only: Sequence[str] = ()) -> str:
+def means(k: int, n: int, way: str, shift: int | None = None, only: Collection[str] = (), days: Calendar | None = None) -> str:
     """Returns a description (str) of what `scaled` does.
 
     >>> from mpsim.traces.scale import means
@@ -112,6 +155,7 @@ def means(k: int, n: int, way: str, shift: int | None = None, only: Sequence[str
     'each record has one copy, 86400 ticks later; copies past the end wrap round to the start'
     """
     of = f" of {' or of '.join(only)}" if only else ""
+    by = f"{shift} ticks" if days is None or not shift else f"{counted(shift * days.tick // DAY, 'day')} by the clock of {days.place.name}"
     if k == n:
         return "each record is kept as it was"
     if way == "times":
@@ -122,9 +166,9 @@ def means(k: int, n: int, way: str, shift: int | None = None, only: Sequence[str
         if k < n:
             return f"{some}, at their own times, chosen as evenly as possible"
         past = "copies past the end wrap round to the start"
-        return f"{some}, each copy {shift} ticks after the one before; {past}" if way == "shift" else f"{some}, at their own times, {TWINS}"
+        return f"{some}, each copy {by} after the one before; {past}" if way == "shift" else f"{some}, at their own times, {TWINS}"
     count = k // n - 1
-    copies, has = ("one copy", f"{shift} ticks later") if count == 1 else (f"{count} copies", f"each {shift} ticks after the one before")
+    copies, has = ("one copy", f"{by} later") if count == 1 else (f"{count} copies", f"each {by} after the one before")
     if way == "shift":
         return f"each record{of} has {copies}, {has}; copies past the end wrap round to the start"
     return f"each record{of} has {copies}, at its own time, {TWINS}"
