@@ -141,7 +141,8 @@ class Examples(Test):
 
 FRAMES, BOOKS = {"pandas", "numpy"}, {"openpyxl"}
 # What modules use if it is there.
-OPTIONAL = {"report": FRAMES, "node_visits": FRAMES, "sweeps.results": FRAMES, "tables.sheets": BOOKS, "exports.workbook": BOOKS, "tables.sojourns": FRAMES}
+OPTIONAL = {name: FRAMES for name in ("report", "node_visits", "sweeps.results", "tables.sojourns")}
+OPTIONAL.update({"tables.sheets": BOOKS, "exports.workbook": BOOKS})
 
 
 def modules_of(tree):

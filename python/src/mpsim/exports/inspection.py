@@ -18,7 +18,8 @@ from ..times.texts import DAY, HOUR, MINUTE, SECOND, Cache
 from ..times.zones import Zone
 from ..traces.trace import fields_up_to
 from ..wording import counted, quoted
-from .prepare import FIELD, prepare, table_in
+from .opened import table_in
+from .prepare import FIELD, prepare
 from .streams import Stream
 
 HEADS = "column", "kind", "empty", "different", "least", "greatest", "example"

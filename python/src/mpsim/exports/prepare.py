@@ -15,17 +15,16 @@ from ..times.zones import Zone
 from ..traces.trace import fields_up_to
 from ..wording import counted
 from .arrivals import judge_far, ticks
-from .delimited import LINES, Export
+from .delimited import LINES
 from .events import EVENTS, Units
 from .expressions import Expression
-from .fixed import Fixed, widths_in
+from .opened import table_in
 from .parts import Parts
 from .plan import Plan
 from .result import Prepared
 from .rows import Rows, TooManyLeft
 from .streams import Stream
 from .values import Abandoned, Code, Demand, End, Sum
-from .workbook import Workbook
 
 if TYPE_CHECKING:
     from collections.abc import Collection, Iterable, Iterator, Sequence
@@ -229,29 +228,6 @@ def _planned(table: Table, place: Zone, per: int, words: _Words) -> Plan:
     plan.sources(words.source, words.rename)
     plan.between(words.begins, words.until)
     return plan
-
-
-def table_in(
-    stream: Stream,
-    encoding: str | None = None,
-    delimiter: str | None = None,
-    skip: int = 0,
-    header: str | None = None,
-    sheet: str | None = None,
-    fixed: str | None = None,
-) -> Table:
-    """Returns the table that a file contains (Export, Fixed or Workbook). The texts are options of `mpplan prepare`. Raises ValueError."""
-    if not stream.is_workbook:
-        if sheet is not None:
-            raise ValueError(f"--sheet {sheet}: this isn't a spreadsheet")
-        if fixed is None:
-            return Export(stream, encoding, delimiter, skip, header)
-        if delimiter:
-            raise ValueError("--fixed and --delimiter exclude each other: give one of them")
-        return Fixed(stream, given("--fixed", widths_in, fixed), encoding, skip, header)
-    if encoding or delimiter or fixed:
-        raise ValueError("--encoding, --delimiter and --fixed can't be used with a spreadsheet")
-    return Workbook(stream, sheet, skip, header)
 
 
 def _tick(tick: str | None, model: str | None) -> int:
