@@ -3,7 +3,9 @@
 from __future__ import annotations
 
 import shlex
-from typing import TYPE_CHECKING
+from argparse import ArgumentParser, Namespace
+from collections.abc import Mapping
+from typing import Any
 
 from ..exports.inspection import HEADS, inspected
 from ..exports.recipes import recipe_text
@@ -12,10 +14,6 @@ from ..tables.sheets import write_table
 from .messages import say
 from .options import table_words
 from .prepare import file_words
-
-if TYPE_CHECKING:
-    from argparse import ArgumentParser, Namespace
-    from collections.abc import Mapping
 
 EXAMPLE = "mpplan inspect calls.csv --write-recipe calls.toml"
 
@@ -46,7 +44,7 @@ def main(args: Namespace) -> None:
     write_table([list(HEADS), *(column.row() for column in found.columns)], args.format, args.csv_style)
 
 
-def _command(export: str, options: Mapping[str, object]) -> str:
+def _command(export: str, options: Mapping[str, Any]) -> str:
     """Returns the command of these options, as for a shell.
 
     >>> _command("my calls.csv", {"time": "When", "demand": ["Long:min"], "skip": 2})

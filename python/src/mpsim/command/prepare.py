@@ -4,7 +4,7 @@ from __future__ import annotations
 
 import contextlib
 import os
-from typing import TYPE_CHECKING
+from typing import TYPE_CHECKING, Any
 
 from ..exports.parts import KINDS
 from ..exports.prepare import prepare, prepare_parts
@@ -131,9 +131,9 @@ def _outputs(add: Callable[..., object]) -> None:
 def main(args: Namespace) -> None:
     """Runs `mpplan prepare`."""
     apply_recipe(args)
-    own = "command", "main", "export", "recipe", "first_lines", "out_model", "out", "split_by"
+    own = "command", "main", "recipe", "export", "first_lines", "out_model", "out", "split_by"
     # Options that aren't given have the defaults of the library.
-    options = {name: value for name, value in vars(args).items() if name not in own and value is not None}
+    options: dict[str, Any] = {name: value for name, value in vars(args).items() if name not in own and value is not None}
     # Standard output, as without --out.
     args.out = None if args.out == "-" else args.out
     inputs = {"export": [args.export], "model": [args.model]}

@@ -5,7 +5,7 @@ from __future__ import annotations
 import argparse
 import os
 from difflib import get_close_matches
-from typing import Any
+from typing import Any, Optional
 
 from ..exports.recipes import read_recipe
 from ..wording import quoted
@@ -19,7 +19,8 @@ class Recipe(GivenOnce):
     """Reads the options of the parser's command from a recipe, judged as on the command line, into `recipe` (dict by the names of the arguments). An
     option that the recipe has isn't required any more."""
 
-    def __call__(self, parser: argparse.ArgumentParser, namespace: argparse.Namespace, values: Any, option_string: str | None = None) -> None:
+    def __call__(self, parser: argparse.ArgumentParser, namespace: argparse.Namespace, values: Any, option_string: Optional[str] = None) -> None:
+        """Reads the recipe at the path `values`. Raises OSError if it can't be read, and ValueError for an unknown option or an invalid value."""
         super().__call__(parser, namespace, values, option_string)
         known = {word[2:]: action for action in parser._actions for word in action.option_strings if word.startswith("--")}
         namespace.recipe = {}

@@ -18,9 +18,9 @@ from ..times.texts import DAY, HOUR, MINUTE, SECOND, Cache
 from ..times.zones import Zone
 from ..traces.trace import fields_up_to
 from ..wording import counted, quoted
+from .opened import table_in
 from .prepare import FIELD, prepare
 from .streams import Stream
-from .tables import table_in
 
 HEADS = "column", "kind", "empty", "different", "least", "greatest", "example"
 # Different texts of a column are counted up to this number.
@@ -51,7 +51,7 @@ class Column(NamedTuple):
     def row(self) -> list[Union[str, int, None]]:
         """Returns what HEADS names."""
         kind = f"{self.kind} ({self.form})" if self.form else self.kind
-        different: str | int = f"over {DIFFERENT}" if self.different > DIFFERENT else self.different
+        different: Union[str, int] = f"over {DIFFERENT}" if self.different > DIFFERENT else self.different
         return [self.name, kind, self.empty, different, self.least, self.greatest, self.example]
 
 

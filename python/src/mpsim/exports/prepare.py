@@ -18,12 +18,12 @@ from .arrivals import judge_far, ticks
 from .delimited import LINES
 from .events import EVENTS, Units
 from .expressions import Expression
+from .opened import table_in
 from .parts import Parts
 from .plan import Plan
 from .result import Prepared
 from .rows import Rows, TooManyLeft
 from .streams import Stream
-from .tables import table_in
 from .values import Abandoned, Code, Demand, End, Sum
 
 if TYPE_CHECKING:
@@ -170,8 +170,8 @@ def _made(by: str | None, words: _Words) -> Iterator[tuple[str, Prepared]]:
     name = "the export" if isinstance(words.export, (bytes, bytearray)) else os.fspath(words.export)
     try:
         with fields_up_to(FIELD), Stream(words.export) as stream:
-            how = words.encoding, words.delimiter, words.skip, words.header, words.sheet, words.fixed
-            plan = _planned(table_in(stream, *how), place, per, words)
+            table = table_in(stream, words.encoding, words.delimiter, words.skip, words.header, words.sheet, words.fixed)
+            plan = _planned(table, place, per, words)
             most = given("--left-out-most", percent, words.left_out_most)
             if by is not None:
                 yield from _in_parts(plan, by, most, words)

@@ -57,8 +57,8 @@ class Prepared:
         form = ",".join(["%s", *["%d"] * (len(self.header) - 1)]) + "\n"
         every: list[Sequence[object]] = [self.sources, self.times, *self.values]
         for at in range(0, len(self), CHUNK):
-            columns = [column[at : at + CHUNK] for column in every]
-            text = form * len(columns[0]) % tuple(chain.from_iterable(zip(*columns)))
+            numbers = [column[at : at + CHUNK] for column in (self.times, *self.values)]
+            text = form * len(numbers[0]) % tuple(chain.from_iterable(zip(self.sources[at : at + CHUNK], *numbers)))
             size += len(text)
             if size > BYTES:
                 raise ValueError(f"the trace is longer than {BYTES:,} bytes, the limit of mpsim: shorten the export")

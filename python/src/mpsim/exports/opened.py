@@ -1,4 +1,4 @@
-"""The table in a file, by the form of the file."""
+"""Opens the table in a file, by what the file is."""
 
 from __future__ import annotations
 
@@ -23,8 +23,7 @@ def table_in(
     sheet: str | None = None,
     fixed: str | None = None,
 ) -> Table:
-    """Returns the table that a file contains (Export, Fixed or Workbook). The arguments are the options of `prepare` that say how to read it. Raises
-    ValueError for options that don't go with the file."""
+    """Returns the table that a file contains (Export, Fixed or Workbook). The texts are options of `mpplan prepare`. Raises ValueError."""
     if not stream.is_workbook:
         if sheet is not None:
             raise ValueError(f"--sheet {sheet}: this isn't a spreadsheet")
