@@ -373,10 +373,10 @@ class Commands(WithPool):
         made = [self.folder / item for item in ("b.csv", "b.txt")]
         line = "the pool at back is downstream of desk: make the pool at desk first, since it decides when calls arrive at back"
         for by in "trunk", "agents":
-            words = "--agents", 2, "--by", by
-            self.tells("pool", model, self.trace, "--node", "back", *words, "--out", made[0], "--out-model", made[1], error=together("phone, web", "back"))
+            words, outputs = ("--agents", 2, "--by", by), ("--out", made[0], "--out-model", made[1])
+            self.tells("pool", model, self.trace, "--node", "back", *words, *outputs, error=together("phone, web", "back"))
             self.refuses(line, "pool", made[1], made[0], "--node", "desk", *words)
-            self.assertEqual(planner("pool", model, self.trace, "--node", "desk", *words, "--out", made[0], "--out-model", made[1])[0], 0)
+            self.assertEqual(planner("pool", model, self.trace, "--node", "desk", *words, *outputs)[0], 0)
             self.assertEqual(planner("pool", made[1], made[0], "--node", "back", *words)[0], 0)
 
     def test_waits_that_no_column_has(self):

@@ -127,7 +127,14 @@ def _past(args: Namespace, trace: Trace, queue: Queue, decider: Decider, calls: 
 
 
 def _cases(
-    args: Namespace, text: str, trace: Trace, decider: Decider, calls: Calls, numbers: dict[str, list[int]], cases: Sequence[_Case], tell: Callable[[int], None]
+    args: Namespace,
+    text: str,
+    trace: Trace,
+    decider: Decider,
+    calls: Calls,
+    numbers: dict[str, list[int]],
+    cases: Sequence[_Case],
+    tell: Callable[[int], None],
 ) -> Iterator[Case]:
     """Yields the Case of each what-if."""
     calendar = decider.calendar

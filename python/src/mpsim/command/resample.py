@@ -98,5 +98,6 @@ def main(args: Namespace) -> None:
     if args.node:
         agents = numbers_of(args.agents) if args.agents else range(0)
         with Progress(args.count + 1, "runs") as progress:
-            rows = list(spreads(text or "", days, args.node, args.count, args.seed, agents, args.within or (20,), args.percentile or PERCENTS, progress))
+            within, percents = args.within or (20,), args.percentile or PERCENTS
+            rows = list(spreads(text or "", days, args.node, args.count, args.seed, agents, within, percents, progress))
         write_table(rows, args.format, args.csv_style)
