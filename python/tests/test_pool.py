@@ -370,12 +370,11 @@ class Commands(WithPool):
 
     def test_the_pool_in_front_is_made_first(self):
         model = self.file("two.txt", "model 1\nsource phone\nsource web\nserver desk talk from phone web\nserver back =3 from desk\n")
-        made = [self.folder / item for item in ("b.csv", "b.txt")]
-        line = "the pool at back is downstream of desk: make the pool at desk first, since it decides when calls arrive at back"
+        made, late = (self.folder / "b.csv", self.folder / "b.txt"), "make the pool at desk first, since it decides when calls arrive at back"
         for by in "trunk", "agents":
             words, outputs = ("--agents", 2, "--by", by), ("--out", made[0], "--out-model", made[1])
             self.tells("pool", model, self.trace, "--node", "back", *words, *outputs, error=together("phone, web", "back"))
-            self.refuses(line, "pool", made[1], made[0], "--node", "desk", *words)
+            self.refuses(f"the pool at back is downstream of desk: {late}", "pool", made[1], made[0], "--node", "desk", *words)
             self.assertEqual(planner("pool", model, self.trace, "--node", "desk", *words, *outputs)[0], 0)
             self.assertEqual(planner("pool", made[1], made[0], "--node", "back", *words)[0], 0)
 
