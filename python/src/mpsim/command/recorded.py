@@ -17,7 +17,7 @@ from .options import calendar_of, calendar_words, every_words, resolve_within, t
 if TYPE_CHECKING:
     from argparse import ArgumentParser, Namespace
 
-EXAMPLE = "mpplan recorded calls.csv --model model.txt --wait wait --abandoned gone --within 20 >recorded.csv"
+EXAMPLE = "mpplan recorded calls.csv --model model.txt --wait wait --abandoned abandoned --within 20 >recorded.csv"
 
 
 def words(parser: ArgumentParser) -> None:

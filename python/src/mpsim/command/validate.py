@@ -20,7 +20,7 @@ from .recorded import recorded_words, within_of
 if TYPE_CHECKING:
     from argparse import ArgumentParser, Namespace
 
-EXAMPLE = "mpplan validate model.txt calls.csv --node desk --roster roster.csv --wait wait --abandoned gone >gaps.csv"
+EXAMPLE = "mpplan validate model.txt calls.csv --node desk --roster roster.csv --wait wait --abandoned abandoned >gaps.csv"
 
 
 def words(parser: ArgumentParser) -> None:
