@@ -103,6 +103,13 @@ class Queue:
             except BoundError:
                 return run(front(self.text, [self.node]), self.trace.lines(), jobs=True)
 
+    def idle_calls(self) -> str | None:
+        """Returns a line (str) on calls that need no service, None if there are none. Many exports have abandoned calls as such."""
+        if not (zeros := self.demands.count(0)):
+            return None
+        those = f"{zeros:,} of {counted(len(self.demands), 'call')} at {self.node} need 0 ticks"
+        return f"{those}: if these callers hung up, they count as no work, so fewer agents seem to be enough"
+
     def with_pool(self, agents: int, by: str = "trunk") -> tuple[str, Trace]:
         """Returns the model (str) and the trace (Trace) with a pool of this many agents (int) in place of the server. The trace gets two columns,
         NODE_agent and NODE_wait: the agent of each record's call, from 1, and its wait; both are 0 if it has no call there. `by` is "trunk" (up to

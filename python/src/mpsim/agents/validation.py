@@ -96,6 +96,9 @@ def verdict(rows: Sequence[Row], trust: Trust = Trust()) -> str:
     far = [(name, gap) for name, (count, _, _, gap) in each if count >= trust.calls and abs(gap) > trust.each]
     _, one, other, gap = whole
     both, points = f"{100 * one:.1f} % recorded, {100 * other:.1f} % modelled", f"{100 * trust.each:g} points"
+    if abs(gap) <= trust.overall and not any(count >= trust.calls for _, (count, *_) in each):
+        why = f"no interval has {counted(trust.calls, 'call')}: take more days, or set --every or --trust-calls"
+        return f"it can't be said whether the model may be trusted: {both}, but {why}"
     if abs(gap) <= trust.overall and not far:
         return f"the model may be trusted: {both}, and no interval of {counted(trust.calls, 'call')} or more differs by more than {points}"
     where = ""

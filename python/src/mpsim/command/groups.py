@@ -16,6 +16,7 @@ from ..times.intervals import days_of, every_of
 from ..times.texts import given
 from ..traces.trace import Trace, locating_errors
 from ..wording import counted
+from .messages import say
 from .options import calendar_of, calendar_words
 
 if TYPE_CHECKING:
@@ -46,6 +47,12 @@ def queues_of(args: Namespace, trace: Trace, text: str | None) -> list[str]:
     """Returns the queue of each record (list of str) of a Trace: its source, or the value of --queue, by its word in the comments of a model's text
     (str) if that is one word."""
     return queues_in(trace, args.queue, codes_in(text or "").get(args.queue, {})) if args.queue else trace.sources()
+
+
+def warn_of_idle_calls(queue: Queue) -> None:
+    """Warns if some calls of a queue need no service."""
+    if idle := queue.idle_calls():
+        say(f"warning: {idle}")
 
 
 def roster_words(parser: ArgumentParser) -> None:
@@ -130,6 +137,7 @@ def rows_of_group(args: Namespace) -> list[Row]:
     queues = [every_queue[job - 1] for job in queue.jobs]
     who, waits = group.assigned(queue.arrivals, queue.demands, queues, patience and [patience[job - 1] for job in queue.jobs])
     queue.judge_waits(days, who, waits)
+    warn_of_idle_calls(queue)
     model, made = queue.with_group(len(agents), who, waits, patience if is_drawn else None)
     # The program must find that no call is lost.
     with locating_errors(made, model=args.model):

@@ -15,7 +15,7 @@ from ..tables.service import PERCENTS, figures, heads
 from ..tables.sheets import write_table
 from ..tables.visits import together
 from ..traces.trace import Trace
-from .groups import asks_for_group, roster_words, rows_of_group
+from .groups import asks_for_group, roster_words, rows_of_group, warn_of_idle_calls
 from .messages import say
 from .options import figure_words, resolve_within, table_words
 
@@ -102,5 +102,6 @@ def _of_agents(args: Namespace, within: Sequence[int], percents: Sequence[float]
                 out.writelines(trace.texts())
             if out_model:
                 out_model.write(model)
+    warn_of_idle_calls(queue)
     every_source = queue.trace.sources()
     return rows, together({args.node: [every_source[job - 1] for job in queue.jobs]})

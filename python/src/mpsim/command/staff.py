@@ -16,7 +16,7 @@ from ..tables.visits import together
 from ..times.intervals import days_of, every_of
 from ..times.texts import DAY, WEEKDAYS, given, length
 from ..traces.trace import Trace
-from .groups import queue_word, queues_of
+from .groups import queue_word, queues_of, warn_of_idle_calls
 from .messages import say
 from .options import calendar_of, calendar_words, every_words, table_words
 
@@ -111,5 +111,6 @@ def main(args: Namespace) -> None:
             rows += [[name, *row] for row in rows_of(found, len(mine), every, days.tick, goal, shrinkage, bool(args.by))]
     heads = [head, HEADS[0], *(["queue"] if args.by else []), *HEADS[1:]]
     write_table([heads, *rows], args.format, args.csv_style)
+    warn_of_idle_calls(queue)
     if not args.by and (mixed := together({args.node: queues})):
         say(f"{mixed}; --by source gives each")
