@@ -18,6 +18,7 @@ INPUTS = {
     "trace": TRACE,
     "export": "when,who,long\n8:00,door,5\n",
     "changes": "record,time\n1,+1\n",
+    "roster": "agent,queues,from,to\nA,,0,9\n",
 }
 # The arguments of a call, in which OUT is an output, and what each input is called.
 CALLS = (
@@ -30,6 +31,8 @@ CALLS = (
     ("scale trace --by 2 --twins --out OUT", {"trace": "trace"}),
     ("pool model trace --node desk --agents 2 --out OUT", {"model": "model", "trace": "trace"}),
     ("pool model trace --node desk --agents 2 --out-model OUT", {"model": "model", "trace": "trace"}),
+    ("grid model trace --node desk --agents 2 --page OUT", {"model": "model", "trace": "trace"}),
+    ("decision model trace --node desk --roster roster --out OUT", {"model": "model", "trace": "trace", "roster": "roster"}),
     ("run model trace --page OUT", {"model": "model", "trace": "trace"}),
     ("page report jobs --model model --out OUT", {"report": "report", "jobs": "report", "model": "model"}),
     ("sweep agents trace --set n=1,2 --page OUT", {"agents": "model", "trace": "trace"}),

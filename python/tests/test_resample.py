@@ -122,6 +122,12 @@ class Command(InFolder):
             spread = next(row for row in rows if row["figure"] == "mean_wait")
             self.assertLess(float(spread["p5"]), float(spread["p95"]))
 
+    def test_the_trace_itself_is_never_overwritten(self):
+        own = self.file("trace-2.csv", text_of(self.trace))
+        words = "resample", own, "--model", self.model, "--count", 3, "--out", self.folder
+        self.refuses(f"{own}: this is the trace, which is never overwritten", *words)
+        self.assertEqual(text_of(own), text_of(self.trace))
+
     def test_a_sweep_over_the_traces(self):
         planner("resample", self.trace, "--model", self.model, "--count", 3, "--out", self.out)
         text = self.tells("sweep", self.model, "--trace", f"{self.out}/*.csv", "--node", "desk")

@@ -5,7 +5,7 @@ from __future__ import annotations
 import os
 from typing import TYPE_CHECKING
 
-from ..files import text_of, written
+from ..files import judge_outputs, text_of, written
 from ..progress import Progress
 from ..tables.service import PERCENTS
 from ..tables.sheets import write_table
@@ -66,6 +66,7 @@ def _written(days: Days, args: Namespace) -> tuple[str, str]:
     os.makedirs(args.out, exist_ok=True)
     digits = len(str(args.count))
     paths = [os.path.join(args.out, f"trace-{number:0{digits}}.csv") for number in range(1, args.count + 1)]
+    judge_outputs(paths, {"trace": [args.trace], "model": [args.model]})
     with Progress(args.count, "traces") as progress:
         for number, path in enumerate(paths, 1):
             with written(path) as file:
