@@ -172,6 +172,7 @@ NETWORKS = (
     "model 1\nsource door\nsource gate\nloss desk 2 =9 from door gate\nserver second d from desk\n",
     "model 2\nsource door\nfork apart 2 from door\ndelay short =3 from apart.0\ndelay long d from apart.1\n",
     "model 2\nsource door\nfork apart 3 from door\nserver one d from apart.0 apart.1 apart.2\n",
+    "model 2\nsource door\nfork apart 2 from door\ndelay short =1 from apart.1\nloss one 1 d from apart.0 short\n",
     "model 2\nsource door\nfork apart 2 from door\nloss one 1 d from apart.0\ndelay two d from apart.1\njoin both from one two\n",
 )
 
