@@ -26,6 +26,12 @@ def together(names, node="desk", how="--every gives each"):
     return f"mpplan: figures of several sources together ({names}) at {node}; {how}\n"
 
 
+def idle(count, every, node="desk"):
+    """Returns what a call writes to stderr if this many of all calls at a node need no service."""
+    calls = f"{count} of {every} calls at {node} need 0 ticks"
+    return f"mpplan: warning: {calls}: if these callers hung up, they count as no work, so fewer agents seem to be enough\n"
+
+
 class InFolder(Test):
     """A test with a directory of its own, in which no incomplete file is left."""
 

@@ -8,7 +8,7 @@ import shutil
 import subprocess
 import unittest
 
-from commands import InFolder, planner
+from commands import InFolder, idle, planner
 from ground import EXAMPLES, Test, text_of
 from looking import Tree, elements
 from looking import text_of as text_in
@@ -44,11 +44,11 @@ class Decisions(InFolder):
         status, out, error = planner("decision", MODEL, trace, "--node", "desk", "--out", path, *words)
         self.assertEqual((status, out), (0, ""), error)
         if said:
-            self.assertEqual(error, f"mpplan: {path}: {said}\n")
+            self.assertEqual(error, f"mpplan: {path}: {said}\n{idle(24, 713)}")
         return Page(path)
 
-    def staff(self, *words, trace=RECORDED):
-        return list(csv.DictReader(io.StringIO(self.tells("staff", MODEL, trace, "--node", "desk", *words))))
+    def staff(self, *words, trace=RECORDED, idles=(24, 713)):
+        return list(csv.DictReader(io.StringIO(self.tells("staff", MODEL, trace, "--node", "desk", *words, error=idle(*idles) if idles else ""))))
 
     def test_the_proposal(self):
         """The numbers of mpplan staff, half-hour by half-hour; its hours, its share and its cost."""
@@ -85,7 +85,7 @@ class Decisions(InFolder):
         """Its hours from the file; its share as mpplan pool has it."""
         page = self.page("--roster", ROSTER, "--cost", "20/h")
         out = self.folder / "o.csv"
-        self.tells("pool", MODEL, RECORDED, "--node", "desk", "--roster", ROSTER, "--every", "1h", "--out", out)
+        self.tells("pool", MODEL, RECORDED, "--node", "desk", "--roster", ROSTER, "--every", "1h", "--out", out, error=idle(24, 713))
         waits = [int(row["desk_wait"]) for row in csv.DictReader(io.StringIO(text_of(out)))]
         hours = 0
         for row in csv.DictReader(io.StringIO(text_of(ROSTER))):
@@ -120,14 +120,16 @@ class Decisions(InFolder):
                 steps.append(f"{time}={max(0, rows[time] + more) if rows.get(time) else 0}")
             # Those who wait at the end of the day are served by nobody; the table counts them as not in time.
             words = "pool", MODEL, path, "--node", "desk", "--agents", ",".join(steps), "--choose", "first", "--patience", "9h"
-            found = list(csv.DictReader(io.StringIO(self.tells(*words))))
+            status, out, _ = planner(*words)
+            self.assertEqual(status, 0)
+            found = list(csv.DictReader(io.StringIO(out)))
             return sum(round(float(row["within"] or 0) * int(row["offered"])) for row in found) / sum(int(row["offered"]) for row in found)
 
         self.assertEqual(fewer[3], f"{100 * share(tuesday, -1):.1f} %")
         self.assertEqual(fewer[1], f"{sum(it - 1 for it in rows.values() if it) / 2:g}")
         self.assertEqual(more[1], f"{sum(it + 1 for it in rows.values() if it) / 2:g}")
         self.assertEqual(longer[4], f"{100 * share(later, 0):.1f} %")
-        need = sum(int(row["agents"]) for row in self.staff("--date", "2026-03-24", trace=later)) / 2
+        need = sum(int(row["agents"]) for row in self.staff("--date", "2026-03-24", trace=later, idles=None)) / 2
         self.assertEqual(longer[1], f"{need:g}")
         self.assertEqual(longer[0], "each call takes 25 seconds longer, and the goal is kept")
 
@@ -136,7 +138,7 @@ class Decisions(InFolder):
         page = self.page("--what-if", "load=110%")
         more = self.folder / "more.csv"
         planner("scale", RECORDED, "--by", "110%", "--shift", "1d", "--model", MODEL, "--out", more)
-        need = sum(int(row["agents"]) for row in self.staff(trace=more)) / 2
+        need = sum(int(row["agents"]) for row in self.staff(trace=more, idles=(28, 784))) / 2
         self.assertEqual(page.tables["cases"][2][:2], ["10 % more calls, and the goal is kept", f"{need:g}"])
 
     def test_its_words(self):

@@ -99,11 +99,14 @@ class Ends(InFolder):
 
     def test_an_option_that_is_given_twice(self):
         """Each that has one value, of each command: otherwise the first of two values would be lost."""
+        recipe = self.file("recipe.toml", "")
         for name in COMMANDS:
             parser = parser_for(name)._subparsers._group_actions[0].choices[name]
             for action in parser._actions:
                 if isinstance(action, GivenOnce) and action.option_strings:
-                    values = [next(iter(action.choices), "1") if action.choices else "1"] * (action.nargs if isinstance(action.nargs, int) else 1)
+                    # A recipe is read as soon as it is given.
+                    one = next(iter(action.choices), "1") if action.choices else recipe if action.dest == "recipe" else "1"
+                    values = [one] * (action.nargs if isinstance(action.nargs, int) else 1)
                     status, out, err = planner(name, *[action.option_strings[-1], *values] * 2)
                     self.assertEqual((status, out, err.split(" (")[0]), (2, "", f"mpplan: {action.option_strings[-1]} is given twice"))
 

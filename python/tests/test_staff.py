@@ -8,7 +8,7 @@ import random
 import unittest
 from fractions import Fraction
 
-from commands import InFolder
+from commands import InFolder, idle
 from ground import EXAMPLES, Test
 
 import mpsim.agents.staffing
@@ -136,8 +136,8 @@ class Least(Test):
 
 
 class Command(InFolder):
-    def table(self, *words):
-        return list(csv.DictReader(io.StringIO(self.tells("staff", *words))))
+    def table(self, *words, **more):
+        return list(csv.DictReader(io.StringIO(self.tells("staff", *words, **more))))
 
     def test_a_week(self):
         """One day, one weekday and all of them agree; the calls are those of the trace."""
@@ -215,7 +215,7 @@ class Command(InFolder):
         # 01:59:59, 02:00 and 02:59 summer time, 02:00 and 02:59 winter time, 03:00, and 23:59:59 by the clock.
         times = 7199, 7200, 10799, 10800, 14399, 14400, 89999
         path = self.file("t.csv", "source,time,d\n" + "".join(f"a,{time},0\n" for time in times))
-        rows = self.table(self.file("m.txt", model), path, "--node", "desk", "--every", "1h")
+        rows = self.table(self.file("m.txt", model), path, "--node", "desk", "--every", "1h", error=idle(7, 7))
         self.assertEqual([(row["from"], row["calls"]) for row in rows], [("01:00", "1.0"), ("02:00", "4.0"), ("03:00", "1.0"), ("23:00", "1.0")])
 
     def test_patience(self):

@@ -23,7 +23,7 @@ from ..times.texts import SECOND, WEEKDAYS, given, length
 from ..traces.trace import Trace
 from ..wording import counted
 from .grid import copying_of
-from .groups import group_of, group_words, queues_of
+from .groups import group_of, group_words, queues_of, warn_of_idle_calls
 from .messages import say
 from .options import calendar_of, calendar_words, every_words
 from .staff import goal_of, percent
@@ -232,3 +232,4 @@ def main(args: Namespace) -> None:
     with written(args.out) as file:
         file.write(decision_page(page))
     say(f"{args.out}: {proposal.hours:g} hours per {per}, {percent_text(proposal.share or 0)} in time")
+    warn_of_idle_calls(queue)
