@@ -161,7 +161,7 @@ class Planner(Check):
             self.skipTest("no bash here")
         for before, wanted in (
             ([""], sorted([*mpplan_words.COMMANDS, "--help", "--version"])),
-            (["s"], ["scale", "service", "sojourns", "staff", "sweep"]),
+            (["s"], ["scale", "service", "shifts", "sojourns", "staff", "sweep"]),
             (["scale", "--shift", "5", "--source", "web", "--s"], ["--source", "--start"]),
             (["hours", "--by", ""], ["day", "each", "hour", "weekday"]),
             (["scale", "--by", ""], []),

@@ -103,6 +103,8 @@ class Solvers(Test):
         for values in [3, 0], [1, 1], [-1, 4]:
             with mock.patch("mpsim.agents.solvers._by_glpk", return_value=values):
                 self.assertRaisesRegex(ValueError, why, least, program, [1, 1], GLPK)
+        with mock.patch("mpsim.agents.solvers._by_glpk", return_value=[-1, 2]):
+            self.assertRaisesRegex(ValueError, why, least, Program([2, 2], []), [1, 1], GLPK)
 
     def test_no_solver(self):
         with mock.patch("shutil.which", return_value=None), mock.patch("mpsim.agents.solvers._has_scipy", return_value=False):
