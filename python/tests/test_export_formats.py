@@ -75,6 +75,10 @@ class Times(Test):
         with self.assertRaisesRegex(ValueError, "'25:10:00' has an hour above 24: the format is gtfs, if hours go on after midnight, or clock"):
             prepare(rows, "at", date="day")
         self.assertEqual(list(prepare(rows, "at", date="day", format="gtfs", begin="day").times), [85800, 90600])
+        rows = "2026-03-02,23:50:00,24:10:00", "2026-03-02,24:00:00,24:00:00", "2026-03-02,25:10:00,25:40:00", "2026-03-02,0:30:00,49:30:00"
+        for options in {"date": "day"}, {}, {"date": "day", "zone": "Europe/Berlin"}:
+            made = prepare(table(*rows, header="day,at,end"), "at", format="gtfs", end=["end"], begin="day", tick="1min", **options)
+            self.assertEqual(list(made.rows()), [("jobs", 30, 2940), ("jobs", 1430, 20), ("jobs", 1440, 0), ("jobs", 1510, 30)])
         for bad in "100:00:00", "25:60:00", "x", "":
             with self.assertRaises(Unread):
                 Moments("gtfs", Zone()).of(bad)

@@ -90,7 +90,7 @@ class Plan:
             how.make_of_day()
         if (how.form == "ticks") != self.is_ticks:
             raise ValueError(f"column {name!r} is read as {how.form}, but column {self.export.header[self.time.column]!r} as {self.time.how.form}")
-        return Times(column, how, self.place)
+        return Times(column, how, self.place, arrival=self.time)
 
     def _dates(self, date: str | None, date_format: str | None, day: Sequence[str] | None) -> tuple[Dates | Numbers | None, str | None]:
         """Returns the column or columns with the day of a time, or None, and the option that names them (str)."""

@@ -79,12 +79,14 @@ class Numbers:
 
 class Times:
     """A column of times: its index (`column`) and `how` to read it (Moments), in a Zone; if it has only a time of day, `dates` (Dates, Numbers or
-    None) gives the day."""
+    None) gives the day. `arrival` (Times or None) is the column of arrivals, unless this is it."""
 
     _seen: dict[str, tuple[int, bool]]
 
-    def __init__(self, column: int, how: Moments, zone: Zone, dates: Dates | Numbers | None = None) -> None:
+    def __init__(self, column: int, how: Moments, zone: Zone, dates: Dates | Numbers | None = None, arrival: Times | None = None) -> None:
         self.column, self.how, self.zone, self.dates = column, how, zone, dates
+        # The hours of a timetable go on from the day of the arrival, also after midnight.
+        self._timetable = arrival if arrival and arrival.how.form == how.form == "gtfs" else None
         self._seen = {}
 
     def first(self, row: Sequence[str], until: int | None = None) -> int:
@@ -93,13 +95,17 @@ class Times:
             return self.how.of(row[self.column], None, until)
         return self.zone.utc(self.dates.midnight(row) + self.how.of(row[self.column]), self._seen, None, until)
 
+    def day(self, row: Sequence[str]) -> int:
+        """Returns the wall-clock midnight of a row's day; day 0 without a date."""
+        return self.dates.midnight(row) if self.dates else 0
+
     def later(self, row: Sequence[str], than: int) -> int:
         """Returns the moment of a row at or after another one. A time of day is its next occurrence."""
         value = self.how.of(row[self.column], than)
         if not self.how.is_of_day:
             return value
         shown = self.zone.wall(than)
-        midnight = shown // DAY * DAY
+        midnight = self._timetable.day(row) if self._timetable else shown // DAY * DAY
         try:
             moment = self.zone.utc(midnight + value, self._seen, than)
         except Unread:
