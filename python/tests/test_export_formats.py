@@ -14,7 +14,7 @@ from mpsim.times.formats import found_format
 from mpsim.times.lengths import duration
 from mpsim.times.lengths import Lengths
 from mpsim.times.moments import Moments
-from mpsim.times.texts import Unread
+from mpsim.times.texts import Asks, Unread
 from mpsim.times.zones import Zone
 
 SECOND = 10**9
@@ -117,6 +117,17 @@ class Spans(Test):
         for bad in "", "P", "PT", "3", "3x", "m", "20s 3m", "3 m x", "1.2.3 s", "PT3M20", "-3 s":
             with self.subTest(bad):
                 self.assertIsNone(duration(bad))
+
+    def test_thousands_before_a_unit(self):
+        rows = table("2026-03-02 08:00;1.500 ms", "2026-03-02 08:00;250 ms", header="when;long")
+        with self.assertRaisesRegex(ValueError, "column 'long': '1.500' could be thousands or a decimal fraction \\(--decimal\\)"):
+            prepare(rows, "when", demand=["long"], tick="1us")
+        for decimal, want in (",", 1500000), (".", 1500):
+            self.assertEqual(list(prepare(rows, "when", demand=["long"], tick="1us", decimal=decimal).values[0]), [want, 250000])
+        with self.assertRaisesRegex(Asks, "give --decimal"):
+            Lengths("s", None, SECOND).ticks["1.500 ms"]
+        for text in "PT1.500S", "0 days 00:00:01.500", "1,5 Sek.":
+            self.assertEqual([Lengths("s", decimal, SECOND // 1000).ticks[text] for decimal in (None, ".", ",")], [1500] * 3)
 
     def test_numbers_of_narrow_columns(self):
         self.assertEqual([Lengths(unit, ".", SECOND).ticks["1.2E+02"] for unit in ("s", "min")], [120, 7200])
