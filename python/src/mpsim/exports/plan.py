@@ -241,9 +241,10 @@ class Plan:
         return Expression(name, times, lengths, self.per, empty)
 
     def _is_time(self, column: int) -> bool:
-        how = Moments(self.time.how.form, Zone())
-        texts = [text for text in self._texts(column) if text.strip()][:100]
-        return 2 * sum(map(how.is_one, texts)) > len(texts)
+        is_like, form, name = self.time.is_like(self._sample, column), self.time.how.form, self.export.header[column]
+        note = f"column {name!r} is read as {form}: for lengths of time, give their unit, e.g. {name}:s"
+        self.notes += [note] if is_like and self.time.how.is_of_day and note not in self.notes else []
+        return is_like
 
     def _mark(self, column: int) -> str | None:
         try:

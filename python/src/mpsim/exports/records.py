@@ -4,19 +4,21 @@ from __future__ import annotations
 
 import contextlib
 import re
+from itertools import islice
 from operator import gt
 from typing import TYPE_CHECKING
 
 from ..limits import SOURCES
 from ..names import name_for
+from ..times.moments import Moments
 from ..times.texts import DAY, Asks, Cache, Unread, day_of
+from ..times.zones import Zone
+from .arrivals import AGES
 from .values import Code, Demand
 
 if TYPE_CHECKING:
     from collections.abc import Mapping, Sequence
 
-    from ..times.moments import Moments
-    from ..times.zones import Zone
     from .conditions import Condition
     from .events import Log
     from .plan import Column
@@ -94,6 +96,15 @@ class Times:
         if self.dates is None:
             return self.how.of(row[self.column], None, until)
         return self.zone.utc(self.dates.midnight(row) + self.how.of(row[self.column]), self._seen, None, until)
+
+    def is_like(self, rows: Sequence[Sequence[str]], column: int) -> bool:
+        """Returns whether most of the first fields of another column are times of this form. Numbers that count from a day, such as seconds from
+        1970, are times only if they are within ten years of this column's."""
+        how, rows = Moments(self.how.form, Zone()), list(islice((row for row in rows if row[column].strip()), 100))
+        fields = [row for row in rows if how.is_one(row[column])]
+        if how.form in ("unix", "unixms", "excel") and not self.how.is_of_day:
+            fields = [row for row in fields if how.is_one(row[self.column]) and abs(how.of(row[column]) - how.of(row[self.column])) < AGES]
+        return 2 * len(fields) > len(rows)
 
     def day(self, row: Sequence[str]) -> int:
         """Returns the wall-clock midnight of a row's day; day 0 without a date."""
