@@ -78,6 +78,13 @@ class Stations(InFolder):
             random.Random(seed).shuffle(rows)
             self.assertEqual(list(made(*rows, **KINDS).rows()), want)
 
+    def test_the_newest_first_with_equal_times(self):
+        rows = [f"2026-03-02 08:0{at // 2}:00,A,{station},{at}" for at, station in enumerate(("cut", "drill", "pack", "ship"))]
+        for some in rows, rows[::-1]:
+            it = made(*some, header="time,serial,station,length", demand=["length"], route="way")
+            self.assertEqual((it.header[2:6], list(it.codes["way"])), (["cut", "drill", "pack", "ship"], ["cut > drill > pack > ship"]))
+            self.assertEqual(list(it.rows()), [("jobs", 0, 0, 1, 2, 3, 0)])
+
     def test_a_row_per_step(self):
         steps = "8:00,A1,Cut 1,8:02,1:00,5", "8:03,A1,drill,8:04,2:00,6", "8:01,A2,Cut 1,8:05,0:30,7", "8:06,A2,drill,8:07,0:10,8"
         for options, values in (

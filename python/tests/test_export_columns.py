@@ -50,6 +50,23 @@ class Sums(Test):
             prepare(rows, "at", demand=["d=end-at+wrap"])
         self.assertEqual(sorted(prepare(rows, "at", demand=["d=end-at+wrap:s"]).values[0].tolist()), [50, 80])
 
+    def test_numbers_that_count_from_a_day(self):
+        for form, time in ("unix", "1772438417"), ("unixms", "1772438417000"), ("excel", "46083.25"):
+            rows = table(f"{time},120,20", header="at,total,hold")
+            made = prepare(rows, "at", format=form, demand=["talk=total-hold"], wait=["hold"])
+            self.assertEqual([column.tolist() for column in made.values], [[100], [20]], form)
+        rows = table("1772438417000,1772438420000,1772438430500", header="at,begin,end")
+        made = prepare(rows, "at", format="unixms", demand=["talk=end-begin"], wait=["begin"], tick="1ms")
+        self.assertEqual([column.tolist() for column in made.values], [[10500], [3000]])
+
+    def test_waits_that_look_like_times_of_day(self):
+        for form, time, hold in ("hmm", "1430", "20"), ("clock", "14:30:00", "0:00:20"):
+            rows = table(f"{time},{hold}", header="at,hold")
+            read = prepare(rows, "at", format=form, wait=["hold"])
+            self.assertIn(f"column 'hold' is read as {form}: for lengths of time, give their unit, e.g. hold:s", read.told)
+            given = prepare(rows, "at", format=form, wait=["hold:s"])
+            self.assertEqual((given.values[0].tolist(), [line for line in given.told if "hold" in line]), ([20], []))
+
     def test_names_with_signs(self):
         """The longest name counts, as it stands in the header."""
         export = Export(b"After-call work,After,call work,a+b,a,b\n1,2,3,4,5,6\n")

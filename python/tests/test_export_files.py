@@ -126,13 +126,25 @@ class Workbooks(InFolder):
         self.assertIn("1 row: long is empty (row 6)", made.told)
         self.assertEqual(list(prepare(path, "clock", source="who", skip=1, begin="8:00").times), [17, 60, 120])
 
+    def test_fractions(self):
+        """A number of a cell has no separator of thousands, and small ones are as good as others."""
+        rows = [["when", "long"], *([datetime(2026, 3, 2, 8, at), value] for at, value in enumerate((1.125, 2.125, 0.00005)))]
+        path = self.book(("March", rows))
+        made = prepare(path, "when", demand=["long:min"], tick="1ms")
+        self.assertEqual((made.values[0].tolist(), made.left), ([67500, 127500, 3], {}))
+        with self.assertRaisesRegex(ValueError, "long: not a number with a decimal comma"):
+            prepare(path, "when", demand=["long:min"], tick="1ms", decimal=",")
+
     def test_sheets(self):
         rows = [["when", "who"], [datetime(2026, 3, 2, 8), "a"]]
         path = self.book(("One", rows), ("Two", [*rows, [datetime(2026, 3, 2, 9), "b"]]))
         with self.assertRaisesRegex(ValueError, "the spreadsheet has 2 sheets: give --sheet 'One' or 'Two'"):
             prepare(path, "when")
         self.assertEqual(len(prepare(path, "when", sheet="Two")), 2)
-        for asks, says in ({"sheet": "Three"}, "no sheet 'Three'; it has 'One', 'Two'"), ({"sheet": "One", "encoding": "utf-8"}, "--encoding and"):
+        for asks, says in (
+            ({"sheet": "Three"}, "no sheet 'Three'; it has 'One', 'Two'"),
+            ({"sheet": "One", "encoding": "utf-8"}, "--encoding, --delimiter and --fixed can't be used with a spreadsheet"),
+        ):
             with self.assertRaisesRegex(ValueError, says):
                 prepare(path, "when", **asks)
         with self.assertRaisesRegex(ValueError, "--sheet One: this isn't a spreadsheet"):

@@ -14,7 +14,7 @@ from mpsim.times.formats import found_format
 from mpsim.times.lengths import duration
 from mpsim.times.lengths import Lengths
 from mpsim.times.moments import Moments
-from mpsim.times.texts import Unread
+from mpsim.times.texts import Asks, Unread
 from mpsim.times.zones import Zone
 
 SECOND = 10**9
@@ -75,6 +75,10 @@ class Times(Test):
         with self.assertRaisesRegex(ValueError, "'25:10:00' has an hour above 24: the format is gtfs, if hours go on after midnight, or clock"):
             prepare(rows, "at", date="day")
         self.assertEqual(list(prepare(rows, "at", date="day", format="gtfs", begin="day").times), [85800, 90600])
+        rows = "2026-03-02,23:50:00,24:10:00", "2026-03-02,24:00:00,24:00:00", "2026-03-02,25:10:00,25:40:00", "2026-03-02,0:30:00,49:30:00"
+        for options in {"date": "day"}, {}, {"date": "day", "zone": "Europe/Berlin"}:
+            made = prepare(table(*rows, header="day,at,end"), "at", format="gtfs", end=["end"], begin="day", tick="1min", **options)
+            self.assertEqual(list(made.rows()), [("jobs", 30, 2940), ("jobs", 1430, 20), ("jobs", 1440, 0), ("jobs", 1510, 30)])
         for bad in "100:00:00", "25:60:00", "x", "":
             with self.assertRaises(Unread):
                 Moments("gtfs", Zone()).of(bad)
@@ -113,6 +117,17 @@ class Spans(Test):
         for bad in "", "P", "PT", "3", "3x", "m", "20s 3m", "3 m x", "1.2.3 s", "PT3M20", "-3 s":
             with self.subTest(bad):
                 self.assertIsNone(duration(bad))
+
+    def test_thousands_before_a_unit(self):
+        rows = table("2026-03-02 08:00;1.500 ms", "2026-03-02 08:00;250 ms", header="when;long")
+        with self.assertRaisesRegex(ValueError, "column 'long': '1.500' could be thousands or a decimal fraction \\(--decimal\\)"):
+            prepare(rows, "when", demand=["long"], tick="1us")
+        for decimal, want in (",", 1500000), (".", 1500):
+            self.assertEqual(list(prepare(rows, "when", demand=["long"], tick="1us", decimal=decimal).values[0]), [want, 250000])
+        with self.assertRaisesRegex(Asks, "give --decimal"):
+            Lengths("s", None, SECOND).ticks["1.500 ms"]
+        for text in "PT1.500S", "0 days 00:00:01.500", "1,5 Sek.":
+            self.assertEqual([Lengths("s", decimal, SECOND // 1000).ticks[text] for decimal in (None, ".", ",")], [1500] * 3)
 
     def test_numbers_of_narrow_columns(self):
         self.assertEqual([Lengths(unit, ".", SECOND).ticks["1.2E+02"] for unit in ("s", "min")], [120, 7200])

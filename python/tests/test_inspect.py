@@ -20,6 +20,16 @@ CALLS = (
 )
 
 
+class Lengths(InFolder):
+    def test_decimal_commas_before_a_unit(self):
+        path = self.file("units.csv", "Start;Dauer\n" + "".join(f"2026-03-02 08:0{at}:00;{at},5 Min.\n" for at in range(9)))
+        found = inspected(path)
+        self.assertEqual(found.columns[1][1:7], ("length", None, 0, 9, "0:00:30", "0:08:30"))
+        self.assertEqual((found.options, [note for note in found.notes if "another form" in note]), ({"time": "Start", "demand": ["Dauer"]}, []))
+        doubtful = inspected(self.file("doubt.csv", "Start;Dauer\n2026-03-02 08:00:00;1.500 ms\n"))
+        self.assertEqual(doubtful.columns[1].doubt, "'1.500' could be thousands or a decimal fraction")
+
+
 class Inspect(InFolder):
     def seen(self, text, **options):
         return inspected(self.file("calls.csv", text), **options)

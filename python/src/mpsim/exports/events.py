@@ -5,6 +5,7 @@ from __future__ import annotations
 from array import array
 from collections import Counter
 from itertools import groupby, islice
+from operator import gt, lt
 from typing import TYPE_CHECKING, NamedTuple
 
 from ..limits import GREATEST_VALUE, RECORDS
@@ -161,9 +162,9 @@ class Units(Rows):
     def _gathered(self) -> Iterator[Unit]:
         """Yields the units that are complete."""
         stamps = self._events.stamps
-        falls = sum(later < earlier for earlier, later in zip(stamps, islice(stamps, 1, None)))
+        rises, falls = (sum(map(compare, islice(stamps, 1, None), stamps)) for compare in (gt, lt))
         # A file with its newest rows first is in order from its end.
-        places = range(len(stamps)) if 2 * falls < len(stamps) else range(len(stamps) - 1, -1, -1)
+        places = range(len(stamps)) if falls <= rises else range(len(stamps) - 1, -1, -1)
         order = sorted(sorted(places, key=stamps.__getitem__), key=self._units.__getitem__)
         for unit, events in groupby(order, self._units.__getitem__):
             for some in self._stays(list(events)):

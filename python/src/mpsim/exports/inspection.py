@@ -169,7 +169,7 @@ def _kind_of(name: str, texts: Sequence[str], decimal: Optional[str]) -> tuple[s
         if 10 * numbers >= 9 * len(texts):
             return _number_of(texts, decimal)
         if 10 * sum(duration(text) is not None for text in texts) >= 9 * len(texts):
-            return "length", None, None, lambda text: Lengths("s", ".", 1).length(text)[0]
+            return _number_of(texts, decimal, "length")
         is_date = any(word in str(error) for word in ("could begin", "two-digit", "isn't written like", "hour above"))
         return ("unknown", None, str(error), None) if is_date else ("text", None, None, None)
     how = Moments(form, Zone())
@@ -187,14 +187,16 @@ def _kind_of(name: str, texts: Sequence[str], decimal: Optional[str]) -> tuple[s
     return "time of day", form, None, how.of
 
 
-def _number_of(texts: Sequence[str], decimal: Optional[str]) -> tuple[str, Optional[str], Optional[str], Optional[Callable[[str], Any]]]:
-    """Returns what `_kind_of` does, for a column of numbers."""
+def _number_of(
+    texts: Sequence[str], decimal: Optional[str], kind: str = "number"
+) -> tuple[str, Optional[str], Optional[str], Optional[Callable[[str], Any]]]:
+    """Returns what `_kind_of` does, for a column of numbers, or of lengths with units."""
     try:
         mark = decimal or found_decimal(dict.fromkeys(texts))
     except ValueError as error:
-        return "number", None, str(error), None
-    how = Lengths("s", mark or ".", 1)
-    return "number", None, None, lambda text: Fraction(*how.length(text)) / SECOND
+        return kind, None, str(error), None
+    how, per = Lengths("s", mark or ".", 1), SECOND if kind == "number" else 1
+    return kind, None, None, lambda text: Fraction(*how.length(text)) / per
 
 
 def _shown(kind: str, value: Any) -> str:

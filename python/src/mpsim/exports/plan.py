@@ -90,7 +90,7 @@ class Plan:
             how.make_of_day()
         if (how.form == "ticks") != self.is_ticks:
             raise ValueError(f"column {name!r} is read as {how.form}, but column {self.export.header[self.time.column]!r} as {self.time.how.form}")
-        return Times(column, how, self.place)
+        return Times(column, how, self.place, arrival=self.time)
 
     def _dates(self, date: str | None, date_format: str | None, day: Sequence[str] | None) -> tuple[Dates | Numbers | None, str | None]:
         """Returns the column or columns with the day of a time, or None, and the option that names them (str)."""
@@ -241,9 +241,10 @@ class Plan:
         return Expression(name, times, lengths, self.per, empty)
 
     def _is_time(self, column: int) -> bool:
-        how = Moments(self.time.how.form, Zone())
-        texts = [text for text in self._texts(column) if text.strip()][:100]
-        return 2 * sum(map(how.is_one, texts)) > len(texts)
+        is_like, form, name = self.time.is_like(self._sample, column), self.time.how.form, self.export.header[column]
+        note = f"column {name!r} is read as {form}: for lengths of time, give their unit, e.g. {name}:s"
+        self.notes += [note] if is_like and self.time.how.is_of_day and note not in self.notes else []
+        return is_like
 
     def _mark(self, column: int) -> str | None:
         try:

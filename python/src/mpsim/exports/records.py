@@ -4,19 +4,21 @@ from __future__ import annotations
 
 import contextlib
 import re
+from itertools import islice
 from operator import gt
 from typing import TYPE_CHECKING
 
 from ..limits import SOURCES
 from ..names import name_for
+from ..times.moments import Moments
 from ..times.texts import DAY, Asks, Cache, Unread, day_of
+from ..times.zones import Zone
+from .arrivals import AGES
 from .values import Code, Demand
 
 if TYPE_CHECKING:
     from collections.abc import Mapping, Sequence
 
-    from ..times.moments import Moments
-    from ..times.zones import Zone
     from .conditions import Condition
     from .events import Log
     from .plan import Column
@@ -79,12 +81,14 @@ class Numbers:
 
 class Times:
     """A column of times: its index (`column`) and `how` to read it (Moments), in a Zone; if it has only a time of day, `dates` (Dates, Numbers or
-    None) gives the day."""
+    None) gives the day. `arrival` (Times or None) is the column of arrivals, unless this is it."""
 
     _seen: dict[str, tuple[int, bool]]
 
-    def __init__(self, column: int, how: Moments, zone: Zone, dates: Dates | Numbers | None = None) -> None:
+    def __init__(self, column: int, how: Moments, zone: Zone, dates: Dates | Numbers | None = None, arrival: Times | None = None) -> None:
         self.column, self.how, self.zone, self.dates = column, how, zone, dates
+        # The hours of a timetable go on from the day of the arrival, also after midnight.
+        self._timetable = arrival if arrival and arrival.how.form == how.form == "gtfs" else None
         self._seen = {}
 
     def first(self, row: Sequence[str], until: int | None = None) -> int:
@@ -93,13 +97,26 @@ class Times:
             return self.how.of(row[self.column], None, until)
         return self.zone.utc(self.dates.midnight(row) + self.how.of(row[self.column]), self._seen, None, until)
 
+    def is_like(self, rows: Sequence[Sequence[str]], column: int) -> bool:
+        """Returns whether most of the first fields of another column are times of this form. Numbers that count from a day, such as seconds from
+        1970, are times only if they are within ten years of this column's."""
+        how, rows = Moments(self.how.form, Zone()), list(islice((row for row in rows if row[column].strip()), 100))
+        fields = [row for row in rows if how.is_one(row[column])]
+        if how.form in ("unix", "unixms", "excel") and not self.how.is_of_day:
+            fields = [row for row in fields if how.is_one(row[self.column]) and abs(how.of(row[column]) - how.of(row[self.column])) < AGES]
+        return 2 * len(fields) > len(rows)
+
+    def day(self, row: Sequence[str]) -> int:
+        """Returns the wall-clock midnight of a row's day; day 0 without a date."""
+        return self.dates.midnight(row) if self.dates else 0
+
     def later(self, row: Sequence[str], than: int) -> int:
         """Returns the moment of a row at or after another one. A time of day is its next occurrence."""
         value = self.how.of(row[self.column], than)
         if not self.how.is_of_day:
             return value
         shown = self.zone.wall(than)
-        midnight = shown // DAY * DAY
+        midnight = self._timetable.day(row) if self._timetable else shown // DAY * DAY
         try:
             moment = self.zone.utc(midnight + value, self._seen, than)
         except Unread:

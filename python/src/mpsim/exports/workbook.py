@@ -118,5 +118,17 @@ def text_of(value: object) -> str:
         seconds, rest = divmod(value // timedelta(microseconds=1), 10**6)
         return f"{seconds // 3600}:{seconds // 60 % 60:02}:{seconds % 60:02}" + (f".{rest:06}" if rest else "")
     if isinstance(value, float):
-        return str(int(value)) if value.is_integer() and abs(value) < 1 << 53 else repr(value)
+        return str(int(value)) if value.is_integer() and abs(value) < 1 << 53 else _number_text(repr(value))
     return str(value)
+
+
+def _number_text(text: str) -> str:
+    """Returns the text of a number with a fraction, which can't be mistaken for thousands, nor for a rounded number if it is small.
+
+    >>> _number_text("1.125"), _number_text("1.5e-05")
+    ('1.1250', '0.000015')
+    """
+    digits, _, power = text.partition("e-")
+    if power:
+        return f"{float(text):.{len(digits.partition('.')[2]) + int(power)}f}"
+    return text + "0" * (text[-4:-3] == ".")

@@ -32,6 +32,10 @@ SPAN = re.compile(r"(\d+):(\d\d)(?::(\d\d)(?:[.,](\d{1,9}))?)?", re.ASCII)
 _GAPS = "\\s\u00a0\u202f'\u2019"
 
 
+# Numbers that could be thousands or a decimal fraction.
+_DOUBTFUL = re.compile(r"[1-9]\d{0,2}[.,]\d{3}", re.ASCII)
+
+
 def found_decimal(texts: Iterable[str]) -> str | None:
     """Returns the decimal mark of numbers as text, "." or ","; None if none of them has a mark. Raises ValueError if it can't be detected.
 
@@ -40,8 +44,7 @@ def found_decimal(texts: Iterable[str]) -> str | None:
     """
     marks: set[str] = set()
     doubtful: str | None = None
-    for text in texts:
-        text = re.sub(f"[{_GAPS}]", "", text)
+    for text in (amount for text in texts for amount in _amounts(re.sub(f"[{_GAPS}]", "", text))):
         dots, commas = text.count("."), text.count(",")
         if ":" in text or not dots + commas:
             continue
@@ -49,7 +52,7 @@ def found_decimal(texts: Iterable[str]) -> str | None:
             marks.add("," if text.rindex(",") > text.rindex(".") else ".")
         elif dots > 1 or commas > 1:
             marks.add("," if dots else ".")
-        elif re.fullmatch(r"[1-9]\d{0,2}[.,]\d{3}", text):
+        elif _DOUBTFUL.fullmatch(text):
             doubtful = doubtful or text
         else:
             marks.add("," if commas else ".")
@@ -58,6 +61,13 @@ def found_decimal(texts: Iterable[str]) -> str | None:
     if not marks and doubtful is not None:
         raise ValueError(f"{quoted(doubtful)} could be thousands or a decimal fraction")
     return marks.pop() if marks else None
+
+
+def _amounts(text: str) -> list[str]:
+    """Returns the numbers of a text that show its decimal mark: those before its units, or else the text. ISO 8601 allows both marks."""
+    if _ISO.fullmatch(text):
+        return []
+    return re.findall(r"\d+(?:[.,]\d+)+", text) if ":" not in text and re.search(r"[^\W\d_]", text) else [text]
 
 
 # As a spreadsheet shows a number in a narrow column.
@@ -113,7 +123,9 @@ class Lengths:
         if text[0] in "-\u2212" or text[-1] in "-\u2212":
             raise Unread("below 0")
         if not text[0].isdigit() or not text[-1].isdigit() or "day" in text:
-            if (given := duration(text)) is not None:
+            if (given := duration(text, self.decimal)) is not None:
+                if self.decimal is None and any(map(_DOUBTFUL.fullmatch, _amounts(text))):
+                    raise Asks("the mark could be a decimal one: give --decimal")
                 return given.numerator, given.denominator * self.tick
         if _POWER.fullmatch(text):
             value = Fraction(text.replace(",", ".")) * self.per / self.parts
@@ -141,21 +153,24 @@ class Lengths:
         return whole + int((found[4] or "0").ljust(9, "0")), self.tick
 
 
-def duration(text: str) -> Fraction | None:
-    """Returns the nanoseconds (Fraction) of a text with units, or None if it isn't one.
+def duration(text: str, decimal: str | None = None) -> Fraction | None:
+    """Returns the nanoseconds (Fraction) of a text with units, or None if it isn't one. In a text that isn't ISO 8601, `1.500` and `1,500` are
+    thousands if the other mark is the decimal one.
 
     >>> [int(duration(text) / SECOND) for text in ("PT3M20S", "3m 20s", "200 s", "0 days 00:03:20", "1 h, 5 min")]
     [200, 200, 200, 200, 3900]
     """
-    units = [DAY, HOUR, MINUTE, SECOND]
+    units, other = [DAY, HOUR, MINUTE, SECOND], ""
     found = _DAYS.fullmatch(text)
     if not found:
         found, units = _ISO.fullmatch(text), [7 * DAY, *units]
     if not found:
         found, units = _NAMED.fullmatch(text), [unit for _, unit in _UNITS]
-    parts = [_number(amount) * unit for amount, unit in zip(found.groups(), units) if amount] if found else []
+        other = {".": ",", ",": "."}.get(decimal or "", "")
+    parts = [_number(amount, other) * unit for amount, unit in zip(found.groups(), units) if amount] if found else []
     return sum(parts, Fraction(0)) if parts else None
 
 
-def _number(text: str) -> Fraction:
-    return Fraction(text.replace(",", "."))
+def _number(text: str, other: str) -> Fraction:
+    """Returns the number of a text, in which the mark `other`, if not empty, may separate thousands."""
+    return Fraction(text.replace(other, "") if other and other in text and _DOUBTFUL.fullmatch(text) else text.replace(",", "."))
