@@ -135,6 +135,14 @@ class Looking:
         self.assertEqual([re.search(r"load(\d)", kind)[1] for _, kind in self.cells()], ["2", "1", "1", "5", "3", "1"])
         self.assertEqual(["reached" in kind for _, kind in self.cells()], [False, True, True, False, False, True])
 
+    def test_the_steps_of_each_figure(self):
+        """As the legend says: waits by fifths of the longest, work by fifths of the whole time, whatever the greatest is."""
+        ((legend, _),) = self.looker.all(".legend")
+        self.assertTrue(legend.endswith("Waits: by fifths of the longest; work: by fifths of the whole time."), legend)
+        for figure, values in (1, [it.mean_wait / 90 for it in self.CELLS]), (3, [it.util for it in self.CELLS]):
+            self.looker.pick("#figure", figure)
+            self.assertEqual([re.search(r"load(\d)", kind)[1] for _, kind in self.cells()], [str(min(5, 1 + int(5 * it))) for it in values])
+
     def test_by_keys(self):
         self.looker.press("#grid", "ArrowRight")
         self.assertIn("marked", self.cells()[1][1])

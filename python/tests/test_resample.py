@@ -69,6 +69,25 @@ class Resampled(Test):
         self.assertEqual(len(seen), 28 * 4)
         self.assertTrue(all(8 <= count <= 45 for count in seen.values()), min(seen.values()))
 
+    def test_a_first_day_that_begins_at_noon(self):
+        """What other Mondays have before noon is left out of the first one: it doesn't come at noon, all at once."""
+        noon = 12 * 3600
+        rows = [[source, str(int(time) - noon), talk] for source, time, talk in self.trace.rows if int(time) >= noon]
+        days = Days(Trace("t.csv", self.trace.header, rows), Calendar(SECOND, "2026-03-09T12:00:00+01:00", "Europe/Berlin"))
+        whole = {number: self.by_date(self.days.resampled(7, number)) for number in range(1, 30)}
+        for number, want in whole.items():
+            found = [int(time) + noon for _, time, _ in days.resampled(7, number).rows]
+            first = START.date()
+            # The first Monday lacks its morning wherever it is drawn.
+            for place, source in enumerate(days.drawn(7, number)):
+                day = (START + timedelta(days=place)).date()
+                if 0 in (place, source):
+                    want[day] = [it for it in want[day] if it[0].hour >= 12]
+            self.assertEqual(len(found), sum(map(len, want.values())))
+            self.assertEqual(sorted({when(time).time() for time in found if when(time).date() == first}), sorted({it[0] for it in want[first]}))
+        # Of three other Mondays, the calls at 8:00 and 10:00.
+        self.assertEqual((days.early(), self.days.early()), (6, 0))
+
     def test_any_day(self):
         days = Days(self.trace, Calendar(SECOND, "2026-03-09T00:00:00+01:00", "Europe/Berlin"), "any")
         weekdays = {(place % 7, source % 7) for number in range(40) for place, source in enumerate(days.drawn(1, number))}
@@ -127,6 +146,14 @@ class Command(InFolder):
         words = "resample", own, "--model", self.model, "--count", 3, "--out", self.folder
         self.refuses(f"{own}: this is the trace, which is never overwritten", *words)
         self.assertEqual(text_of(own), text_of(self.trace))
+
+    def test_records_before_time_0_are_counted(self):
+        trace = self.file("n.csv", "source,time,talk\ncalls,5,60\ncalls,601200,60\ncalls,604900,60\n")
+        words = "--tick", "1s", "--start", "2026-03-09T12:00", "--count", 2, "--out", self.out
+        status, _, said = planner("resample", trace, *words)
+        why = "of days that may replace the first one come earlier in the day than time 0, and are left out there"
+        line = f"mpplan: 1 record {why}: mpplan prepare --begin day begins at midnight\n"
+        self.assertEqual((status, said.splitlines(keepends=True)[1]), (0, line))
 
     def test_a_sweep_over_the_traces(self):
         planner("resample", self.trace, "--model", self.model, "--count", 3, "--out", self.out)

@@ -49,6 +49,14 @@ class Rosters(InFolder):
         # Over midnight, and over the hour that is skipped.
         (agent,), _ = self.read("A,,sat 22:00,06:00")
         self.assertEqual(list(agent.intervals), [(2 * day + 22 * HOUR, 3 * day + 5 * HOUR)])
+        # The night before the first day lasts into it, and no other day before does.
+        for on, begins in (("wed", True), ("tue", False), ("daily", True)):
+            (agent,), _ = self.read(f"A,,{on} 22:00,06:00", last=HOUR)
+            self.assertEqual([it for it in agent.intervals if it[0] < 22 * HOUR], [(0, 6 * HOUR)] * begins)
+        (agent,), _ = self.read("A,,22:00,06:00", last=HOUR, days=Calendar(SECOND))
+        self.assertEqual(list(agent.intervals), [(0, 6 * HOUR), (22 * HOUR, 30 * HOUR)])
+        (agent,), _ = self.read("A,,00:00,24:00", last=HOUR)
+        self.assertEqual(list(agent.intervals), [(0, day)])
 
     def test_what_is_rejected(self):
         path = self.folder / "roster.csv"

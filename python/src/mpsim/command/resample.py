@@ -91,6 +91,9 @@ def main(args: Namespace) -> None:
         if len(single) == len(days.groups):
             raise ValueError(f"{args.trace}: no day has another one that may replace it: give more days, or --within any")
         say(f"there is only one {', one '.join(single)}, which is never replaced by another day")
+    if early := days.early():
+        why = "of days that may replace the first one come earlier in the day than time 0, and are left out there"
+        say(f"{counted(early, 'record')} {why}: mpplan prepare --begin day begins at midnight")
     if args.out:
         first, last = _written(days, args)
         say(f"{counted(args.count, 'trace')} of {counted(len(days.numbers), 'day')}: {first} to {last}")

@@ -39,7 +39,7 @@ def _level(share: Optional[float]) -> int:
 
 
 def _fifth(value: Optional[float], most: float) -> int:
-    """Returns the step (1 to 5) of a value by fifths of the greatest."""
+    """Returns the step (1 to 5) of a value by fifths of `most`."""
     return min(5, 1 + int(5 * (value or 0) / most)) if most else 1
 
 
@@ -76,7 +76,7 @@ def heat_map(cells: Sequence[Cell], title: str, within: str, goal: Optional[floa
         f'<div class="scroll"><table id="grid" class="heat" tabindex="0" aria-describedby="told"><caption>Rows: load. Columns: agents. Arrow keys go '
         f'from cell to cell.</caption><thead><tr><th scope="col">load</th>{head}</tr></thead><tbody>{"".join(rows)}</tbody></table></div>'
         f'<output id="told" aria-live="polite">{escape(says[0]) if says else ""}</output>'
-        f'<p class="legend">Service level: {legend} Other figures: by fifths of the greatest.</p>'
+        f'<p class="legend">Service level: {legend} Waits: by fifths of the longest; work: by fifths of the whole time.</p>'
     )
     data = {"wide": len(agents), "figures": figures, "reached": reached, "says": says}
     return sheet(title, body, json.dumps(data, separators=(",", ":"), allow_nan=False), part("grid.js"))

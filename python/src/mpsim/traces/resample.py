@@ -53,12 +53,25 @@ class Days:
         draw = random.Random(f"{seed}:{number}")
         return [draw.choice(self.groups[name]) for name in self.names]
 
+    def early(self) -> int:
+        """Returns how many records, of the days that may replace the first one, have a time of day before time 0: the first day begins then.
+
+        >>> from mpsim.times.calendar import Calendar
+        >>> trace = Trace("t.csv", ["source", "time"], [["door", "10"], ["door", "70000"], ["door", "80000"]])
+        >>> Days(trace, Calendar(10**9, "2026-03-02T12:00"), "any").early()
+        1
+        """
+        if not self.numbers:
+            return 0
+        mine = self.groups[self.names[0]]
+        return sum(self.clock[at] < (self.numbers[source] - self.numbers[0]) * DAY for source in mine for at in self.records[source])
+
     def resampled(self, seed: int, number: int) -> Trace:
-        """Returns the trace of this number (int), with this seed: the records of the drawn days, in order of time, at their times of day. A record
-        that would come before time 0 comes at time 0."""
+        """Returns the trace of this number (int), with this seed: the records of the drawn days, in order of time, at their times of day. Records
+        that would come before time 0 are left out (`early`)."""
         made: List[Tuple[int, int, int]] = []
         for place, source in enumerate(self.drawn(seed, number)):
             later = (self.numbers[place] - self.numbers[source]) * DAY
-            made += [(self.walls.tick(self.clock[at] + later), place, at) for at in self.records[source]]
+            made += [(self.walls.tick(self.clock[at] + later), place, at) for at in self.records[source] if self.clock[at] + later >= 0]
         rows = self.trace.rows
         return Trace(self.trace.path, self.trace.header, [[rows[at][0], str(time), *rows[at][2:]] for time, _, at in sorted(made)])
