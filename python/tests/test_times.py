@@ -256,7 +256,8 @@ class Demands(Test):
         texts = ["1,5", "2"], ["1.5"], ["1.000,5"], ["1,000.5"], ["1.000.000"], ["2", "0:03:30,5"], ["1.500", "1,5"], ["0.500"]
         self.assertEqual([found_decimal(text) for text in texts], [",", ".", ",", ".", ",", None, ",", "."])
         self.assertEqual([found_decimal([text]) for text in ("3,5 Min.", "1.210,0 ms", "1.25 s", "5 Min.", "PT1.500S")], [",", ",", ".", None, None])
-        for texts, says in (["1.500 ms"], "'1.500' could be thousands"), (["1.500"], "'1.500' could be thousands or a decimal fraction"), (["1.5", "1,5"], "both"):
+        doubt = "'1.500' could be thousands or a decimal fraction"
+        for texts, says in (["1.500"], doubt), (["1.500 ms"], doubt), (["1.5", "1,5"], "both"):
             with self.assertRaisesRegex(ValueError, says):
                 found_decimal(texts)
 
