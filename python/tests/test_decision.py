@@ -149,7 +149,9 @@ class Decisions(InFolder):
         self.assertNotRegex(text, r"(?i)\b(ticks?|queues?|nodes?|servers?|pools?|percentile|p90|occupancy|service level|interval)\b")
         for word in "Monday, 23 March 2026 to Saturday, 28 March 2026: 713 calls.", "08:30", "Nobody is ill.", "Callers who wait give up after 4min.":
             self.assertIn(word, text)
-        self.assertEqual(page.sections["What was left out"], "12 rows: no time")
+        # The page says of the calls without work what the warning says.
+        idles = "The work of 24 calls that took no time: if these callers hung up, more people are needed than this page says."
+        self.assertEqual(page.sections["What was left out"], f"{idles}12 rows: no time")
         heads = "The goal", "What was", "What is proposed", "Who is needed when", "What if", "What this assumes", "What was left out"
         self.assertEqual(tuple(page.sections), heads)
         charts = [it for it in elements(page.tree, "svg")]
@@ -161,7 +163,7 @@ class Decisions(InFolder):
     def test_some_days(self):
         page = self.page("--weekday", "tuesday", said=None)
         self.assertEqual(set(page.tables), {"cases", "Tuesday"})
-        self.assertRegex(page.sections["What was left out"], r"^\d+ calls on other days\.Whether rows were left out")
+        self.assertRegex(page.sections["What was left out"], r"^\d+ calls on other days\.The work of 1 call .*Whether rows were left out")
         page = self.page("--date", "2026-03-24")
         self.assertIn("Tuesday, 24 March 2026", page.tables)
         self.assertIn("hours per day", page.tables["cases"][0])

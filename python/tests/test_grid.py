@@ -7,7 +7,7 @@ import re
 import unittest
 from fractions import Fraction
 
-from commands import InFolder, planner
+from commands import InFolder, idle, planner
 from ground import EXAMPLES, Test, text_of
 from looking import DRIVER, NODE, Browser, StandIn, webdriver
 
@@ -80,6 +80,13 @@ class Grid(InFolder):
             self.assertEqual(line, f"load {load}: {least} agents for 95/1min")
         said = self.rows(*WEEK, "--node", "desk", "--agents", 1, "--load", "100%")[1]
         self.assertEqual(said, "mpplan: load 100%: more than 1 agents for 80/20\n")
+
+    def test_calls_without_work(self):
+        """Those of the trace as it is, which --add makes longer like the others."""
+        trace = EXAMPLES / "week" / "recorded.csv"
+        for more in [], ["--add", "handling=20s"]:
+            said = self.rows(WEEK[0], trace, "--node", "desk", "--agents", 3, "--load", "100%", *more)[1]
+            self.assertEqual(said, f"{idle(24, 713)}mpplan: load 100%: 3 agents for 80/20\n")
 
     def test_forms(self):
         words = *WEEK, "--node", "desk", "--agents", "2..3", "--load", "100%"

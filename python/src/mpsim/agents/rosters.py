@@ -29,8 +29,8 @@ def read_roster(path: Path, days: Calendar, last: int, queues: Collection[str]) 
 
     `queues` are names separated by spaces; empty means all. `from` and `to` are both ticks, or both dates with times such as 2026-03-02T08:00, or a
     pattern: weekdays and a time of day such as `mon-fri 08:00` or `mon,wed 08:00`, and the time of day at which the interval ends, on the next day if
-    it isn't later. A pattern holds on each such day of the Calendar up to tick `last` (int), and on the day before its first: what a night shift of that
-    day has after tick 0 counts. `queues` of the argument are the names that exist.
+    it isn't later. A pattern holds on each such day of the Calendar up to tick `last` (int), and on the day before its first: what a night shift of
+    that day has after tick 0 counts. `queues` of the argument are the names that exist.
     Fields are separated by commas, or by semicolons if the header's are. Raises OSError if the file can't be read, and ValueError for an invalid row,
     with its number (the header is row 1), and if intervals of an agent overlap.
 

@@ -171,6 +171,8 @@ def _left_out(args: Namespace, trace: Trace, queue: Queue, chosen: Sequence[bool
         yield f"{counted(away, 'record')} of {len(trace.rows):,}, which don't come to {args.node}."
     if other := sum(not it for it in chosen):
         yield f"{counted(other, 'call')} on other days."
+    if idle := sum(it and not service for it, service in zip(chosen, queue.demands)):
+        yield f"The work of {counted(idle, 'call')} that took no time: if these callers hung up, more people are needed than this page says."
     yield from args.missing
     if not args.missing:
         yield "Whether rows were left out before these calls were counted isn't known here."

@@ -5,6 +5,7 @@ from __future__ import annotations
 from fractions import Fraction
 from typing import TYPE_CHECKING, Any
 
+from ..agents.queues import Queue
 from ..files import judge_outputs, text_of, written
 from ..model import nodes_of
 from ..page.grids import Cell, heat_map
@@ -14,6 +15,7 @@ from ..tables.grids import CELLS, Copying, grid, load_text, loads_of, with_longe
 from ..tables.sheets import write_table
 from ..times.texts import DAY, SECOND, given, length
 from ..traces.trace import Trace, pool_warning
+from .groups import warn_of_idle_calls
 from .messages import say
 from .options import calendar_of, calendar_words, table_words
 from .pool import numbers_of
@@ -93,13 +95,14 @@ def main(args: Namespace) -> None:
     if warning := pool_warning(args.trace, trace.header):
         raise ValueError(f"{warning.removeprefix('warning: ')}: give the trace before the pool")
     demand = next((node.arguments for node in nodes_of(text) if node.name == args.node and node.kind == "server"), "")
-    trace = _longer(args, trace, demand, days.tick)
+    own, trace = trace, _longer(args, trace, demand, days.tick)
     if args.times and args.shift:
         raise ValueError("--times makes no copies: give it without --shift")
     copying = Copying("times") if args.times else copying_of(trace, days, args.shift)
     with Progress(len(agents) * len(loads), "cells") as progress:
         header, *rows = grid(args.model, trace, args.node, agents, loads, copying, (within,), tell=progress)
     write_table([header, *rows], args.format, args.csv_style)
+    warn_of_idle_calls(Queue(args.model, own, args.node))
     place = header.index(f"within_{within}_of_all")
     for load in loads:
         mine = [row for row in rows if row[0] == load_text(load)]

@@ -59,7 +59,7 @@ class Days:
         >>> from mpsim.times.calendar import Calendar
         >>> trace = Trace("t.csv", ["source", "time"], [["door", "10"], ["door", "70000"], ["door", "80000"]])
         >>> Days(trace, Calendar(10**9, "2026-03-02T12:00"), "any").early()
-        1
+        2
         """
         if not self.numbers:
             return 0
