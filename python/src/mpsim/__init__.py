@@ -35,6 +35,7 @@ if TYPE_CHECKING:
         VisitsError as VisitsError,
         WriteError as WriteError,
     )
+    from .exports.prepare import prepare as prepare
     from .inputs import Add as Add, Set as Set
     from .lines import Again as Again, Exit as Exit, Node as Node
     from .model import Model as Model, variants as variants
@@ -52,6 +53,7 @@ _MODULES = {
     "scenarios": "runs",
     "sweep": "runs",
     "edit": "runs",
+    "prepare": "exports.prepare",
     "Set": "inputs",
     "Add": "inputs",
     "Model": "model",

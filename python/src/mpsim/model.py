@@ -9,6 +9,8 @@ from typing import TYPE_CHECKING, NamedTuple, Tuple
 if TYPE_CHECKING:
     from collections.abc import Hashable, Iterable, Sequence
 
+    from .shapes import Path
+
 
 class Output:
     """An output of a node, to be read by another node: `node[1]` is output 1 of the node whose output this is."""
@@ -56,7 +58,43 @@ class Model:
     """
 
     def __init__(self, bound: int | None = None) -> None:
+        self._head: list[str] = []
         self._lines, self._version = [] if bound is None else [f"bound {bound}"], 1
+
+    @classmethod
+    def read(cls, path: Path) -> Model:
+        """Returns the model in a file, to which nodes may be added. Raises OSError if it can't be read, and ValueError as `parse` does.
+
+        >>> import mpsim, tempfile
+        >>> with tempfile.NamedTemporaryFile("w", suffix=".txt") as file:
+        ...     print("model 1\\nsource door", file=file, flush=True)
+        ...     print(mpsim.Model.read(file.name), end="")
+        model 1
+        source door
+        """
+        with open(path, encoding="utf-8", errors="surrogateescape", newline="\n") as file:
+            return cls.parse(file.read())
+
+    @classmethod
+    def parse(cls, text: str) -> Model:
+        """Returns the model in a text (str), with its comments, to which nodes may be added. Raises ValueError if it has no line `model 1` or
+        `model 2`; the programs check everything else.
+
+        >>> import mpsim
+        >>> model = mpsim.Model.parse("model 1\\nsource door\\n")
+        >>> desk = model.server("desk", "talk", "door")
+        >>> print(model, end="")
+        model 1
+        source door
+        server desk talk from door
+        """
+        lines = [line.removesuffix("\r") for line in text.removeprefix("\ufeff").removesuffix("\n").split("\n")]
+        at = next((at for at, line in enumerate(lines) if line.split() and not line.lstrip().startswith("#")), None)
+        if at is None or lines[at].split() not in (["model", "1"], ["model", "2"]):
+            raise ValueError(f"a model begins with the line model 1 or model 2, not {'nothing' if at is None else repr(lines[at])}")
+        made = cls()
+        made._head, made._lines, made._version = lines[:at], lines[at + 1 :], int(lines[at].split()[1])
+        return made
 
     def _add(self, kind: str, name: str, arguments: Iterable[object], inputs: Sequence[Output | str], version: int = 1) -> Output:
         self._version = max(self._version, version)
@@ -68,8 +106,17 @@ class Model:
         """Adds a source: the records of the trace that name it."""
         return self._add("source", name, [], [])
 
-    def server(self, name: str, demand: str | int, *inputs: Output | str) -> Output:
-        """Adds a single server, first come, first served."""
+    def server(self, name: str, demand: str | int, *inputs: Output | str, servers: int = 1) -> Output:
+        """Adds a single server, first come, first served. Raises ValueError for another number of servers, and says what has several.
+
+        >>> import mpsim
+        >>> mpsim.Model().server("desk", "talk", "door", servers=5)
+        Traceback (most recent call last):
+        ValueError: a server is one server: for 5 that share a queue use mpsim.agents.queues.Queue or mpplan pool, without a queue trunk('desk', 5, ..)
+        """
+        if servers != 1:
+            use = f"for {servers} that share a queue use mpsim.agents.queues.Queue or mpplan pool, without a queue trunk({name!r}, {servers}, ..)"
+            raise ValueError(f"a server is one server: {use}")
         return self._add("server", name, [_demand(demand)], inputs)
 
     def delay(self, name: str, demand: str | int, *inputs: Output | str) -> Output:
@@ -140,7 +187,7 @@ class Model:
         return self._add("trunk", name, [servers, _demand(demand)], inputs, 2)
 
     def __str__(self) -> str:
-        return "".join(f"{line}\n" for line in [f"model {self._version}", *self._lines])
+        return "".join(f"{line}\n" for line in [*self._head, f"model {self._version}", *self._lines])
 
 
 def variants(text: str, **values: Iterable[Hashable]) -> dict[Hashable, str]:

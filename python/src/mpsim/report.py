@@ -48,8 +48,9 @@ class Report:
     """The report of a run.
 
     `form` (1 or 2), `jobs` (int) and `span` (int, ticks) are those of its first lines; `nodes` (tuple of Node) and `exits` (tuple of Exit) are in the
-    order of the lines. `report["desk"]` is the node of that name (KeyError if there is none), and `"desk" in report` tests for it. `visits` (Visits)
-    is None unless the report has job lines. `again` (Again) is None except after an edit. `str(report)` is the text without job lines; `lines()` has
+    order of the lines, `by_name` has these nodes as a dict. `report["desk"]` is the node of that name (KeyError if there is none), and
+    `"desk" in report` tests for it; the name of a pool that `mpplan pool` made gives the figures of the whole, of which `max` and percentiles are None
+    without visits. `visits` (Visits) raises ValueError unless the report has job lines (`has_visits`, bool). `again` (Again) is None except after an edit. `str(report)` is the text without job lines; `lines()` has
     everything.
 
     `model` is the model's text (str), which a page needs to draw the network, since a report doesn't say how nodes are connected. Reports from a run
@@ -71,14 +72,15 @@ class Report:
     jobs: int
     span: int
     _model: str | None
+    _pools: dict[str, Node] | None
 
     def __init__(
         self, form: int, jobs: int, span: int, nodes: Iterable[Node], exits: Iterable[Exit], visits: Visits | None = None, again: Again | None = None
     ) -> None:
         self.form, self.jobs, self.span = form, jobs, span
-        self.nodes, self.exits, self.visits, self.again = tuple(nodes), tuple(exits), visits, again
-        self._by_name = {node.name: node for node in self.nodes}
-        self._model = None
+        self.nodes, self.exits, self._visits, self.again = tuple(nodes), tuple(exits), visits, again
+        self.by_name = {node.name: node for node in self.nodes}
+        self._model, self._pools = None, None
 
     @property
     def model(self) -> str | None:
@@ -89,13 +91,42 @@ class Report:
     def model(self, text: str | None) -> None:
         if text is not None and sorted((node.name, node.kind) for node in nodes_of(text)) != sorted((node.name, node.kind) for node in self.nodes):
             raise ValueError("the model isn't that of the report: its nodes differ")
-        self._model = text
+        self._model, self._pools = text, None
+
+    @property
+    def has_visits(self) -> bool:
+        """Whether the report has visits (bool)."""
+        return self._visits is not None
+
+    @property
+    def visits(self) -> Visits:
+        """The visits (Visits). Raises ValueError if the report has none.
+
+        >>> import mpsim
+        >>> mpsim.run("model 1\\nsource door\\n", [("door", 3)]).visits
+        Traceback (most recent call last):
+        ValueError: the report has no visits: run the model with jobs=True, or mpsim with --jobs
+        """
+        if self._visits is None:
+            raise ValueError("the report has no visits: run the model with jobs=True, or mpsim with --jobs")
+        return self._visits
+
+    @visits.setter
+    def visits(self, visits: Visits) -> None:
+        self._visits, self._pools = visits, None
+
+    def _each_pool(self) -> dict[str, Node]:
+        if self._pools is None:
+            from .agents.pools import pool_nodes
+
+            self._pools = pool_nodes(self)
+        return self._pools
 
     def __getitem__(self, name: str) -> Node:
-        return self._by_name[name]
+        return self._each_pool().get(name) or self.by_name[name]
 
     def __contains__(self, name: object) -> bool:
-        return name in self._by_name
+        return name in self.by_name or name in self._each_pool()
 
     # A loop could mean nodes or names; `nodes` is explicit.
     __iter__ = None
@@ -114,7 +145,7 @@ class Report:
             yield node.line() + "\n"
         for item in self.exits:
             yield f"exit {item.name}.{item.output} {item.jobs} sojourn {item.sojourn}\n"
-        for it in self.visits.each() if jobs and self.visits else ():
+        for it in self._visits.each() if jobs and self._visits else ():
             yield f"job {it.job} {it.node} arrive {it.arrive} " + (f"wait {it.wait} depart {it.depart}\n" if it.end == "left" else f"{it.end}\n")
         if self.again:
             yield f"again {self.again.done} of {self.again.blocks} blocks\n"

@@ -186,7 +186,7 @@ def calls_at(report: Report, node: str, pool: str, demand: str, trace: Trace) ->
     """Returns the calls of a pool (str) that arrive at a node (str), from a report with visits: their records (from 1), their arrivals, and their
     service times in the trace (Trace) of the run (lists of int). Raises ValueError if a job arrives there more than once."""
     # A network without jobs has no job lines.
-    visits = report.visits[node] if report.visits else NodeVisits(node)
+    visits = report.visits[node] if report.has_visits and report.visits else NodeVisits(node)
     jobs = list(visits.job)
     if len(set(jobs)) < len(jobs):
         raise ValueError(f"a job visits {pool} more than once, but its record has room for only one wait")

@@ -59,7 +59,7 @@ def model_pools(model: ModelInput, trace: Trace) -> list[ModelPool]:
     if groups := [name for name, *_, end in found if name == end]:
         with contextlib.suppress(ModelError, TraceError, BoundError, VisitsError):
             report = run(front(text, groups), trace.lines())
-            lost = {name: report[name].lost for name in groups}
+            lost = {name: report.by_name[name].lost for name in groups}
     return [ModelPool(name, agents, demand, front(text, [end])) for name, agents, demand, end in found if not lost.get(name)]
 
 

@@ -70,9 +70,9 @@ def _of_report(args: Namespace, within: Sequence[int], percents: Sequence[float]
     if args.model or args.agents or args.out or args.out_model:
         raise ValueError("--report reads a pool that has been run: give no model, trace, --agents, --out or --out-model with it")
     report = Report.read(args.report)
-    if report.visits is None:
+    if not report.has_visits:
         raise ValueError(f"{args.report}: the report has no job lines: run mpsim with --jobs")
-    return [["node", *heads(within, percents)], [args.node, *figures(pooled(report, args.node).wait, within, percents)]]
+    return [["node", *heads(within, percents)], [args.node, *figures(pooled(report, args.node).raw_wait, within, percents)]]
 
 
 def _of_agents(args: Namespace, within: Sequence[int], percents: Sequence[float]) -> list[Row]:

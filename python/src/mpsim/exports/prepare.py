@@ -48,13 +48,13 @@ def prepare(
     tick: str | None = None,
     begin: str = "hour",
     source: str | None = None,
-    demand: Iterable[str] = (),
-    end: Sequence[str] = (),
+    demand: str | Iterable[str] = (),
+    end: str | Sequence[str] = (),
     answered: str | Iterable[str] = (),
-    constant: Iterable[str] = (),
-    code: Iterable[str] = (),
+    constant: str | Iterable[str] = (),
+    code: str | Iterable[str] = (),
     empty: str | None = None,
-    rename: Iterable[str] = (),
+    rename: str | Iterable[str] = (),
     decimal: str | None = None,
     delimiter: str | None = None,
     encoding: str | None = None,
@@ -62,7 +62,7 @@ def prepare(
     header: str | None = None,
     model: str | None = None,
     left_out: TextIO | None = None,
-    where: Iterable[str] = (),
+    where: str | Iterable[str] = (),
     begins: str | None = None,
     until: str | None = None,
     far: bool = False,
@@ -72,23 +72,30 @@ def prepare(
 ) -> Prepared:
     """Returns the trace (Prepared) made from an export, which is a path or bytes.
 
-    The other arguments are the options of `mpplan prepare`, as texts, except that `begins` is --from, `day` is a list of three, `model` is the text
+    The other arguments are the options of `mpplan prepare`, as texts, or lists of texts for those that may be repeated, except that `begins` is --from, `day` is a list of three, `model` is the text
     of a model, `left_out` is an open file for the rows left out, and `far` is a bool. Raises OSError if the export can't be read, and ValueError for
     an invalid option, if another is needed, or if too few rows are left.
 
     >>> export = b"When;Who;Long\\n02.03.2026 08:00:17;Desk;1,5\\n02.03.2026 08:00:05;Desk;0,5\\n"
-    >>> list(prepare(export, "When", source="Who", demand=["Long=talk:min"]).rows())
+    >>> trace = prepare(export, "When", source="Who", demand="Long=talk:min")
+    >>> list(trace.rows())
     [('desk', 5, 30), ('desk', 17, 90)]
+
+    A call such as `mpsim.run` takes it as its trace:
+
+    >>> import mpsim
+    >>> mpsim.run("model 1\\nsource desk\\nserver agent talk from desk\\n", trace)["agent"].max
+    18
     """
     per, place = _tick(tick, model), Zone(zone, twice)
     name = "the export" if isinstance(export, (bytes, bytearray)) else os.fspath(export)
     try:
         with fields_up_to(FIELD), Stream(export) as stream:
             plan = Plan(_table(stream, encoding, delimiter, sheet, skip, header), place, per, format, decimal, model)
-            plan.where(where)
-            plan.times(time, date, date_format, day, [answered] if isinstance(answered, str) else answered)
-            plan.values(demand, end, constant, code, empty)
-            plan.sources(source, rename)
+            plan.where(_each(where))
+            plan.times(time, date, date_format, day, _each(answered))
+            plan.values(_each(demand), _each(end), _each(constant), _each(code), empty)
+            plan.sources(source, _each(rename))
             plan.between(begins, until)
             rows, most = Rows(plan, left_out), given("--left-out-most", percent, left_out_most)
             rows.read()
@@ -97,6 +104,11 @@ def prepare(
         raise (TooManyLeft if isinstance(error, TooManyLeft) else ValueError)(f"{name}: {error}") from None
     except OverflowError:
         raise ValueError(f"{name}: times are before the year 1 or after the year 9999: is --format right?") from None
+
+
+def _each(value: str | Iterable[str]) -> list[str]:
+    """Returns the values of an option that may be repeated."""
+    return [value] if isinstance(value, str) else list(value)
 
 
 def _table(stream: Stream, encoding: str | None, delimiter: str | None, sheet: str | None, skip: int, header: str | None) -> Table:

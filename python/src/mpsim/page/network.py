@@ -72,8 +72,8 @@ def _servers(node: ModelNode) -> int | None:
 def unlike(report: Report) -> str | None:
     """Returns the name of the first node whose utilisation doesn't fit the number of servers in the model, or None."""
     for node in nodes_that_are_drawn(report) if report.span else ():
-        count, util = _servers(node), report[node.name].util
-        if count and util is not None and round(10**4 * util) != 10**4 * report[node.name].busy // (count * report.span):
+        count, util = _servers(node), report.by_name[node.name].util
+        if count and util is not None and round(10**4 * util) != 10**4 * report.by_name[node.name].busy // (count * report.span):
             return node.name
     return None
 

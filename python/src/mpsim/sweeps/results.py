@@ -106,11 +106,18 @@ class Sweep(Dict[Hashable, Scenario]):
         save(path, reports.values(), reports, title, tick, start, within)
 
     def to_pandas(self) -> pandas.DataFrame:
-        """Returns a data frame with a row per scenario and node, indexed by both. Raises ImportError if pandas is missing."""
+        """Returns a data frame with a row per scenario and node, indexed by both: the levels are `scenario` and `name`, or, if the labels are tuples of
+        several values, `scenario_1`, `scenario_2` and so on, and `name`. Raises ImportError if pandas is missing."""
         import pandas
 
         frames = {label: it.to_pandas() for label, it in self.reports().items()}
-        return pandas.concat(frames, names=["scenario", "name"]) if frames else pandas.DataFrame()
+        if not frames:
+            return pandas.DataFrame()
+        sizes = {len(label) if isinstance(label, tuple) else 0 for label in frames}
+        if sizes != {0} and len(sizes) == 1:
+            return pandas.concat(frames, names=[*(f"scenario_{number}" for number in range(1, max(sizes) + 1)), "name"])
+        keys = pandas.Index(list(frames), tupleize_cols=False)
+        return pandas.concat(list(frames.values()), keys=keys, names=["scenario", "name"])
 
 
 def load(path: Path, labels: Sequence[Hashable] | None = None) -> Report | Sweep:

@@ -62,4 +62,4 @@ def service(visits: Iterable[NodeVisits], within: Sequence[int] = (20,), percent
     """
     yield ["node", *heads(within, percents)]
     for visit in visits:
-        yield [visit.node, *figures_of(visit, visit.wait, within, percents)]
+        yield [visit.node, *figures_of(visit, visit.raw_wait, within, percents)]

@@ -52,7 +52,7 @@ def sojourns(report: Report) -> Iterator[Sojourn]:
         if node.kind == "source":
             for job, arrive in zip(visits.job, visits.arrive):
                 came[job], source[job] = arrive, number
-        for job, arrive, wait, depart in zip(visits.job, visits.arrive, visits.wait, visits.depart):
+        for job, arrive, wait, depart in zip(visits.job, visits.arrive, visits.raw_wait, visits.raw_depart):
             if wait == HELD:
                 held.add(job)
             gone = arrive if wait < 0 else depart
