@@ -1,5 +1,5 @@
-"""Traces as columns: dicts, numpy arrays, data frames of pandas, and objects with Arrow's C stream or the interchange protocol, with dates and lengths
-of time. Neither polars nor Arrow's library is needed: a stand-in makes the C stream byte by byte, as Arrow's documentation has it."""
+"""Traces as columns: dicts, numpy arrays, data frames of pandas, and objects with Arrow's C stream or the interchange protocol, with dates and
+lengths of time. Neither polars nor Arrow's library is needed: a stand-in makes the C stream byte by byte, as Arrow's documentation has it."""
 
 import ctypes
 import struct
@@ -22,7 +22,8 @@ except ImportError:
     numpy = pandas = None
 
 EIGHT = datetime(2026, 3, 2, 8)
-DATED = {"source": ["door", "door"], "time": [EIGHT + timedelta(seconds=5), EIGHT + timedelta(seconds=6)], "d": [timedelta(seconds=4), timedelta(seconds=1)]}
+TIMES = [EIGHT + timedelta(seconds=5), EIGHT + timedelta(seconds=6)]
+DATED = {"source": ["door", "door"], "time": TIMES, "d": [timedelta(seconds=4), timedelta(seconds=1)]}
 NEW_YORK = timezone(timedelta(hours=-5))
 
 
@@ -67,7 +68,8 @@ class ArrowTable:
         left = [self.chunks]
 
         def schema_into(_, target):
-            fields = [self._field(name, form, dictionary=self._field("", "u") if more else None) for name, (form, _, *more) in self.columns_of_chunk.items()]
+            texts, every = self._field("", "u"), self.columns_of_chunk.items()
+            fields = [self._field(name, form, dictionary=texts if more else None) for name, (form, _, *more) in every]
             top = self._field("", "+s", fields)
             top.release = self._release("schema")
             ctypes.memmove(target, ctypes.addressof(top), ctypes.sizeof(top))
@@ -178,9 +180,11 @@ class Arrow(Test):
         """Numbers of each width, texts of each form, dictionaries, missing values, chunks, and values before the first."""
         view = struct.pack("<i12s", 4, b"door") * 2
         for source in DOORS, ("U", [None, numbers("q", 0, 4, 8), b"doordoor"]), ("vu", [None, view]), ("c", [None, bytes(2)], [None, *DOORS[1][1:]]):
-            self.assertEqual(waited(ArrowTable({"source": source, "time": ("l", [None, numbers("q", 0, 1)]), "d": ("C", [None, bytes([4, 1])])})), (3, [0, 1]))
+            table = ArrowTable({"source": source, "time": ("l", [None, numbers("q", 0, 1)]), "d": ("C", [None, bytes([4, 1])])})
+            self.assertEqual(waited(table), (3, [0, 1]))
         for code, form in ("h", "s"), ("I", "I"), ("Q", "L"), ("d", "g"), ("f", "f"):
-            self.assertEqual(waited(ArrowTable({"source": DOORS, "time": ("i", [None, numbers("i", 0, 1)]), "d": (form, [None, numbers(code, 4, 1)])}))[0], 3)
+            table = ArrowTable({"source": DOORS, "time": ("i", [None, numbers("i", 0, 1)]), "d": (form, [None, numbers(code, 4, 1)])})
+            self.assertEqual(waited(table), (3, [0, 1]))
         later = {"source": ("u", [None, numbers("i", 0, 1, 5, 9), b"xdoordoor"]), "time": ("i", [None, numbers("i", 9, 0, 1)])}
         self.assertEqual(waited(ArrowTable({**later, "d": ("C", [None, bytes([9, 4, 1])])}, offset=1)), (3, [0, 1]))
         twice = ArrowTable({"source": DOORS, "time": ("i", [None, numbers("i", 3, 3)]), "d": ("C", [None, bytes([4, 1])])}, chunks=2)

@@ -46,7 +46,8 @@ class Programs(unittest.TestCase):
     def test_it_cannot_be_compiled(self):
         status, out, lines = self.found("mpedit")
         self.assertEqual((status, out, lines[0]), (1, [], "called --path mpedit"))
-        self.assertIn("ProgramError: no program mpedit in this package, in a clone around it (where ./build.py mpedit builds it), or on the PATH", lines[-1])
+        where = "in this package, in a clone around it (where ./build.py mpedit builds it), or on the PATH"
+        self.assertIn(f"ProgramError: no program mpedit {where}", lines[-1])
 
     def test_a_built_program_comes_first(self):
         on_path = self.program(self.clone / "mpsim")

@@ -112,10 +112,10 @@ class Model:
         >>> import mpsim
         >>> mpsim.Model().server("desk", "talk", "door", servers=5)
         Traceback (most recent call last):
-        ValueError: a server is one server: for 5 that share a queue use mpsim.agents.queues.Queue or mpplan pool, without a queue trunk('desk', 5, ..)
+        ValueError: a server is one server: for 5 that share a queue use mpplan pool or mpsim.agents.queues.Queue, without a queue trunk('desk', 5)
         """
         if servers != 1:
-            use = f"for {servers} that share a queue use mpsim.agents.queues.Queue or mpplan pool, without a queue trunk({name!r}, {servers}, ..)"
+            use = f"for {servers} that share a queue use mpplan pool or mpsim.agents.queues.Queue, without a queue trunk({name!r}, {servers})"
             raise ValueError(f"a server is one server: {use}")
         return self._add("server", name, [_demand(demand)], inputs)
 

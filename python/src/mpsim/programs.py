@@ -40,8 +40,8 @@ def find(name: str) -> str:
 
 @functools.lru_cache(maxsize=None)
 def _compiled(name: str) -> str | None:
-    """Returns the path of a program that tools/unproved.py compiles from the sources of the clone around this file, which takes minutes the first time;
-    None if there is no clone or it can't be compiled, as its lines on stderr say."""
+    """Returns the path of a program that tools/unproved.py compiles from the sources of the clone around this file, which takes minutes the first
+    time; None if there is no clone or it can't be compiled, as its lines on stderr say."""
     tool = os.path.join(HERE, "..", "..", "..", "tools", "unproved.py")
     if not os.path.isfile(tool):
         return None

@@ -49,8 +49,9 @@ class Report:
 
     `form` (1 or 2), `jobs` (int) and `span` (int, ticks) are those of its first lines; `nodes` (tuple of Node) and `exits` (tuple of Exit) are in the
     order of the lines, `by_name` has these nodes as a dict. `report["desk"]` is the node of that name (KeyError if there is none), and
-    `"desk" in report` tests for it; the name of a pool that `mpplan pool` made gives the figures of the whole, of which `max` and percentiles are None
-    without visits. `visits` (Visits) raises ValueError unless the report has job lines (`has_visits`, bool). `again` (Again) is None except after an edit. `str(report)` is the text without job lines; `lines()` has
+    `"desk" in report` tests for it; the name of a pool that `mpplan pool` made gives the figures of the whole, of which `max` and percentiles are
+    None without visits. `visits` (Visits) raises ValueError unless the report has job lines (`has_visits`, bool). `again` (Again) is None except after an
+    edit. `str(report)` is the text without job lines; `lines()` has
     everything.
 
     `model` is the model's text (str), which a page needs to draw the network, since a report doesn't say how nodes are connected. Reports from a run

@@ -269,7 +269,8 @@ def _of_trunk_group(report: Report, pool: str) -> NodeVisits:
 
 def _with_gone(found: NodeVisits, gone: NodeVisits) -> NodeVisits:
     """Returns the visits of a pool with those of callers who left, in order of arrival: they count as lost."""
-    rows = [*zip(found.arrive, found.job, found.raw_wait, found.raw_depart), *((arrive, job, LOST, LOST) for arrive, job in zip(gone.arrive, gone.job))]
+    rows = [*zip(found.arrive, found.job, found.raw_wait, found.raw_depart)]
+    rows += [(arrive, job, LOST, LOST) for arrive, job in zip(gone.arrive, gone.job)]
     every = NodeVisits(found.node)
     for name, column in zip(("arrive", "job", "raw_wait", "raw_depart"), zip(*sorted(rows, key=lambda row: row[:2]))):
         setattr(every, name, array(getattr(found, name).typecode, column))

@@ -72,7 +72,8 @@ def prepare(
 ) -> Prepared:
     """Returns the trace (Prepared) made from an export, which is a path or bytes.
 
-    The other arguments are the options of `mpplan prepare`, as texts, or lists of texts for those that may be repeated, except that `begins` is --from, `day` is a list of three, `model` is the text
+    The other arguments are the options of `mpplan prepare`, as texts, or lists of texts for those that may be repeated, except that
+    `begins` is --from, `day` is a list of three, `model` is the text
     of a model, `left_out` is an open file for the rows left out, and `far` is a bool. Raises OSError if the export can't be read, and ValueError for
     an invalid option, if another is needed, or if too few rows are left.
 

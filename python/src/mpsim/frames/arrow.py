@@ -85,8 +85,8 @@ def of_format(name: str, form: str, values: Sequence[Any]) -> Column:
 
 
 def columns_of_stream(frame: Any, names: Sequence[str] | None) -> dict[str, Column]:
-    """Returns the columns (dict of Column) of an object with `__arrow_c_stream__`; only those of these names, if given. Raises ValueError for one whose
-    type is neither a text, a number nor a time."""
+    """Returns the columns (dict of Column) of an object with `__arrow_c_stream__`; only those of these names, if given. Raises ValueError for one
+    whose type is neither a text, a number nor a time."""
     capsule = frame.__arrow_c_stream__()
     pointer = ctypes.pythonapi.PyCapsule_GetPointer
     pointer.restype, pointer.argtypes = ctypes.c_void_p, [ctypes.py_object, ctypes.c_char_p]

@@ -21,8 +21,8 @@ CODES.update({(FLOAT, 32): "f", (FLOAT, 64): "d", (BOOL, 8): "B", (DATETIME, 64)
 
 
 def columns_of_interchange(frame: Any, names: Sequence[str] | None) -> dict[str, Column]:
-    """Returns the columns (dict of Column) of an object with `__dataframe__`; only those of these names, if given. Raises ValueError for one whose type
-    is neither a text, a number nor a time."""
+    """Returns the columns (dict of Column) of an object with `__dataframe__`; only those of these names, if given. Raises ValueError for one whose
+    type is neither a text, a number nor a time."""
     table = frame.__dataframe__()
     wanted = [name for name in table.column_names() if names is None or name in names]
     forms: dict[str, str] = {}

@@ -22,12 +22,14 @@ def is_of_columns(value: Any) -> bool:
     """
     if isinstance(value, Mapping) or hasattr(value, "columns"):
         return True
-    return getattr(getattr(value, "dtype", None), "names", None) is not None or hasattr(value, "__arrow_c_stream__") or hasattr(value, "__dataframe__")
+    if getattr(getattr(value, "dtype", None), "names", None) is not None:
+        return True
+    return hasattr(value, "__arrow_c_stream__") or hasattr(value, "__dataframe__")
 
 
 def columns_of(value: Any, names: Sequence[str] | None = None) -> dict[str, Column]:
-    """Returns the columns (dict of Column) of such a value; only those of these names, if given. Raises TypeError or ValueError for columns that can't
-    be read."""
+    """Returns the columns (dict of Column) of such a value; only those of these names, if given. Raises TypeError or ValueError for columns that
+    can't be read."""
     if not hasattr(value, "iloc") and hasattr(value, "__arrow_c_stream__"):
         # pandas needs Arrow's library for it.
         return columns_of_stream(value, names)

@@ -15,8 +15,8 @@ if TYPE_CHECKING:
 
 
 class Clock(NamedTuple):
-    """What a caller says about ticks: the length of one (a text such as "1s" or "100ms", or a timedelta) and the date of time 0 (a datetime, or an ISO
-    8601 text); None for what is to be found."""
+    """What a caller says about ticks: the length of one (a text such as "1s" or "100ms", or a timedelta) and the date of time 0 (a datetime, or an
+    ISO 8601 text); None for what is to be found."""
 
     tick: Optional[Union[str, timedelta]] = None
     start: Optional[Union[str, datetime]] = None
@@ -36,7 +36,8 @@ def in_ticks(columns: Mapping[str, Column], text: str, clock: Clock) -> dict[str
     found = {}
     for name, column in columns.items():
         if column.kind == "moment" and name != "time":
-            raise ValueError(f"column {name!r} has dates: a trace has its arrival times in 'time' and lengths of time in other columns: subtract them")
+            use = "a trace has its arrival times in 'time', and lengths of time in other columns: subtract them"
+            raise ValueError(f"column {name!r} has dates: {use}")
         begin = zero if name == "time" else 0
         shift = 0 if name == "time" else per // 2
         if column.kind == "other":
@@ -72,7 +73,8 @@ def _tick(columns: Mapping[str, Column], text: str, clock: Clock) -> int:
 def _demands(text: str) -> list[str]:
     """Returns the columns that are lengths of time in a model: all but those by which splits divide."""
     try:
-        codes = [words[1] if words[0] == "cut" else words[-1] for words in (it.arguments.split() for it in nodes_of(text) if it.kind == "split") if words]
+        splits = [it.arguments.split() for it in nodes_of(text) if it.kind == "split"]
+        codes = [words[1] if words[0] == "cut" else words[-1] for words in splits if len(words) > 1]
     except ValueError:
         return []
     return [name for name in columns_named(text) if name not in codes]
@@ -89,8 +91,9 @@ def _zero(times: Column, text: str, clock: Clock) -> int:
         wall, offset = given("start", iso, said)
         zero, is_zoned = wall - (offset or 0), offset is not None
     if is_zoned != times.is_zoned:
-        has, lacks = ("time 0", "the times") if is_zoned else ("the times", "time 0")
-        raise ValueError(f"{has} ({said if is_zoned else 'in the trace'}) has an offset from UTC and {lacks} hasn't: give start, or times, of the same kind")
+        has, lacks = ("with", "without") if is_zoned else ("without", "with")
+        kinds = f"time 0 is {said}, {has} an offset from UTC, and the times of the trace are {lacks} one"
+        raise ValueError(f"{kinds}: give start of the kind of the times")
     first = min(_known(times), default=zero)
     if first < zero:
         raise ValueError(f"the first time is {length_text(zero - first)} before time 0, {said}: give an earlier start")

@@ -106,8 +106,9 @@ class Sweep(Dict[Hashable, Scenario]):
         save(path, reports.values(), reports, title, tick, start, within)
 
     def to_pandas(self) -> pandas.DataFrame:
-        """Returns a data frame with a row per scenario and node, indexed by both: the levels are `scenario` and `name`, or, if the labels are tuples of
-        several values, `scenario_1`, `scenario_2` and so on, and `name`. Raises ImportError if pandas is missing."""
+        """Returns a data frame with a row per scenario and node, indexed by both: the levels are `scenario` and `name`, or, if the labels are tuples
+        of as many values, `scenario_1`, `scenario_2` and so on, and `name`. Labels of which only some are tuples become texts.
+        Raises ImportError if pandas is missing."""
         import pandas
 
         frames = {label: it.to_pandas() for label, it in self.reports().items()}
@@ -116,7 +117,8 @@ class Sweep(Dict[Hashable, Scenario]):
         sizes = {len(label) if isinstance(label, tuple) else 0 for label in frames}
         if sizes != {0} and len(sizes) == 1:
             return pandas.concat(frames, names=[*(f"scenario_{number}" for number in range(1, max(sizes) + 1)), "name"])
-        keys = pandas.Index(list(frames), tupleize_cols=False)
+        # A tuple would become several levels.
+        keys = list(frames) if sizes == {0} else list(map(str, frames))
         return pandas.concat(list(frames.values()), keys=keys, names=["scenario", "name"])
 
 
