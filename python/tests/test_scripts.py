@@ -67,7 +67,8 @@ class Others(Test):
             ran = subprocess.run([python, "-c", script, path], cwd="/", env=SETTINGS, stdout=subprocess.PIPE, stderr=subprocess.PIPE, text=True)
             self.assertEqual(ran.returncode, 0, ran.stderr)
             shown = ast.literal_eval(ran.stdout)
-            self.assertEqual(len(shown), 4)
+            both = ["text/html", "text/plain"]
+            self.assertEqual(shown, [both, both, ["text/plain"], both])
 
     def test_the_week_is_drawn_again(self):
         ran = subprocess.run([sys.executable, "-B", EXAMPLES / "week" / "calls.py"], stdout=subprocess.PIPE, text=True)

@@ -11,9 +11,10 @@ from collections.abc import Iterable, Mapping
 from datetime import datetime, timedelta
 from typing import TYPE_CHECKING, NamedTuple, Tuple, cast
 
+from .builder import Model
 from .frames.columns import column_of
 from .frames.ticks import Clock, in_ticks
-from .model import Model, columns
+from .model import columns
 
 if TYPE_CHECKING:
     from collections.abc import Callable, Iterator, Sequence

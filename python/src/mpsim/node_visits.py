@@ -7,6 +7,8 @@ from fractions import Fraction
 from math import nan
 from typing import TYPE_CHECKING, Dict, NamedTuple, Optional
 
+from .wording import table_of
+
 if TYPE_CHECKING:
     import numpy
     import pandas
@@ -73,6 +75,9 @@ class NodeVisits:
 
     def __repr__(self) -> str:
         return f"<NodeVisits of {self.node}: {len(self)} visits>"
+
+    def _repr_html_(self) -> str:
+        return table_of(Visit._fields, self, len(self))
 
     def __iter__(self) -> Iterator[Visit]:
         for job, arrive, wait, depart in zip(self.job, self.arrive, self.raw_wait, self.raw_depart):
@@ -143,6 +148,12 @@ class Visits(Dict[str, NodeVisits]):
     >>> visits.count(), [it.depart for it in visits.each() if it.node == "desk"]
     (4, [4, 8])
     """
+
+    def __repr__(self) -> str:
+        return f"<Visits of {len(self)} nodes: {self.count()} visits>"
+
+    def _repr_html_(self) -> str:
+        return table_of(Visit._fields, self.each(), self.count())
 
     def each(self) -> Iterator[Visit]:
         """Yields the visits (Visit), in the order of the lines."""

@@ -259,6 +259,9 @@ class Reading:
         """The line after a report without job lines, and its number: in a sweep the next scenario begins there."""
         return self._line, self._number
 
+    def __repr__(self) -> str:
+        return f"<Reading of a report, {len(self.nodes)} nodes, span {self.span}>"
+
     def _next(self) -> None:
         self._number += 1
         self._line = self._stream.readline()

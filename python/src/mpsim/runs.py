@@ -28,12 +28,13 @@ import time
 from collections.abc import Iterable, Mapping
 from typing import TYPE_CHECKING
 
+from .builder import Model
 from .errors import BoundError, Error, ModelError, ProgramError, TraceError, VisitsError
 from .files import text_of
 from .frames.ticks import Clock
 from .inputs import edits_input, model_input, trace_input
 from .limits import MODELS
-from .model import Model, in_braces
+from .model import in_braces
 from .processes import Running
 from .programs import find
 from .report import Reading, with_model

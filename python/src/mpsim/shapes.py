@@ -6,9 +6,9 @@ import os
 from typing import IO, TYPE_CHECKING, Hashable, Iterable, Iterator, List, Mapping, Protocol, Sequence, Union
 
 if TYPE_CHECKING:
+    from .builder import Model
     from .exports.result import Prepared
     from .inputs import Add, Set
-    from .model import Model
     from .traces.trace import Trace
 
 # A file's name.

@@ -71,6 +71,9 @@ class Queue:
 
     path: Path | None
 
+    def __repr__(self) -> str:
+        return f"<Queue of {len(self.jobs)} calls at {self.node}>"
+
     def __init__(self, model: ModelInput, trace: Trace, node: str) -> None:
         self.text, self.trace, self.node = model_text(model), trace, node
         self.path = model if isinstance(model, os.PathLike) or isinstance(model, str) and "\n" not in model else None

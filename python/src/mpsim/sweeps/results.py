@@ -7,7 +7,9 @@ from collections.abc import Hashable
 from typing import TYPE_CHECKING, Dict, NamedTuple, Optional
 
 from ..errors import Error, ReportError, error_of, read_from
+from ..lines import PASSED
 from ..report import Reading, Report, stream_of, with_model
+from ..wording import counted, table_of
 
 if TYPE_CHECKING:
     from datetime import datetime
@@ -32,6 +34,18 @@ class Scenario(NamedTuple):
     status: int
     report: Optional[Report]
     refusal: Optional[Error]
+
+
+# The figures that a notebook shows of each node.
+SHOWN = "in", "lost", "mean_wait", "p90", "max", "util"
+
+
+def _rows_of(scenario: Scenario) -> list[Sequence[object]]:
+    """Returns the rows of a scenario in a notebook: one per node where jobs can wait or be lost, or one that says why it was refused."""
+    if scenario.report is None:
+        return [[scenario.label, scenario.refusal.told if scenario.refusal else f"status {scenario.status}"]]
+    nodes = [scenario.report[node.name] for node in scenario.report.nodes if node.kind not in PASSED]
+    return [[scenario.label, node.name, node.kind, *map(node.figure, SHOWN)] for node in nodes]
 
 
 class Sweep(Dict[Hashable, Scenario]):
@@ -70,6 +84,14 @@ class Sweep(Dict[Hashable, Scenario]):
             if every.count(label) > 1:
                 raise ValueError(f"the label {label!r} appears twice")
         return cls((it, scenario._replace(label=it)) for it, scenario in zip(labels or range(1, len(found) + 1), found))
+
+    def __repr__(self) -> str:
+        refused = sum(it.status != 0 for it in self.values())
+        return f"<Sweep of {counted(len(self), 'scenario')}{f', {refused} refused' if refused else ''}>"
+
+    def _repr_html_(self) -> str:
+        rows = [row for it in self.values() for row in _rows_of(it)]
+        return table_of(["scenario", "node", "kind", *SHOWN], rows, len(rows), 100)
 
     def reports(self) -> dict[Hashable, Report]:
         """Returns the reports of the scenarios that weren't refused: a dict of Report by label."""
