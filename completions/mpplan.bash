@@ -66,7 +66,8 @@ _mpplan() {
             repeated=' --within --percentile '
             ;;
         sweep)
-            options='--set --model --trace --node --within --page --csv-style --folder --parallel --slurm --resume --table --shard --help'
+            options='--set --model --trace --node --within --jobs --page --csv-style --folder --parallel --slurm --resume --table --shard
+                --help'
             repeated=' --set --model --trace --node '
             ;;
         page)
@@ -105,9 +106,10 @@ _mpplan() {
         sweep.--csv-style) choices='plain excel-de' ;;
         *.--abandoned | *.--agents | *.--answered | *.--begin | *.--by | *.--close | *.--code | *.--constant | *.--date | *.--date-format | \
             *.--day | *.--delimiter | *.--demand | *.--empty | *.--encoding | *.--end | *.--every | *.--first | *.--format | *.--from | \
-            *.--goal | *.--header | *.--labels | *.--left-out-most | *.--max-occupancy | *.--node | *.--open | *.--patience | *.--percentile \
-            | *.--pool | *.--rename | *.--seed | *.--set | *.--shard | *.--sheet | *.--shift | *.--shrinkage | *.--skip | *.--source | \
-            *.--start | *.--then | *.--tick | *.--time | *.--title | *.--until | *.--wait | *.--where | *.--within | *.--zone) return ;;
+            *.--goal | *.--header | *.--jobs | *.--labels | *.--left-out-most | *.--max-occupancy | *.--node | *.--open | *.--patience | \
+            *.--percentile | *.--pool | *.--rename | *.--seed | *.--set | *.--shard | *.--sheet | *.--shift | *.--shrinkage | *.--skip | \
+            *.--source | *.--start | *.--then | *.--tick | *.--time | *.--title | *.--until | *.--wait | *.--where | *.--within | *.--zone) \
+            return ;;
     esac
     if [[ $choices ]]; then
         COMPREPLY=($(compgen -W "$choices" -- "$word"))

@@ -140,7 +140,7 @@ class Pools(InFolder):
         self.made("--agents", 1, "--patience", "patient")
         told = "mpplan: desk is a pool: its waits are those of desk_queue\n"
         report = mpsim.run(self.model, self.out, jobs=True)
-        self.assertEqual((report["desk"].lost, report["desk_gone"].out), (0, 2))
+        self.assertEqual((report.by_name["desk"].lost, report["desk_gone"].out), (0, 2))
         (row,) = csv.DictReader(io.StringIO(self.tells("service", self.model, self.out, "--node", "desk", error=told)))
         self.assertEqual([row[name] for name in ("came", "departed", "lost", "within_20_of_all")], ["5", "3", "2", "0.6"])
         rows = self.tells("hours", self.model, self.out, "--node", "desk", error=told).splitlines()

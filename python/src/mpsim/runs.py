@@ -26,6 +26,7 @@ import contextlib
 import os
 import time
 from collections.abc import Iterable, Mapping
+from functools import partial
 from typing import TYPE_CHECKING
 
 from .builder import Model
@@ -35,6 +36,7 @@ from .frames.ticks import Clock
 from .inputs import edits_input, model_input, trace_input
 from .limits import MODELS
 from .model import in_braces
+from .parallel import in_order
 from .processes import Running
 from .programs import find
 from .report import Reading, with_model
@@ -178,6 +180,7 @@ def sweep(
     models: Models,
     *,
     jobs: bool = False,
+    processes: int = 1,
     tick: str | timedelta | None = None,
     start: str | datetime | None = None,
     timeout: float | None = None,
@@ -190,7 +193,7 @@ def sweep(
     [(1, 0.6666666666666666), (2, 0.3333333333333333), (3, 0.0)]
     """
     # If Ctrl-C comes between two scenarios, the program mustn't live as long as the traceback.
-    with contextlib.closing(scenarios(trace, models, jobs=jobs, tick=tick, start=start, timeout=timeout)) as coming:
+    with contextlib.closing(scenarios(trace, models, jobs=jobs, processes=processes, tick=tick, start=start, timeout=timeout)) as coming:
         return Sweep((item.label, item) for item in coming)
 
 
@@ -199,6 +202,7 @@ def scenarios(
     models: Models,
     *,
     jobs: bool = False,
+    processes: int = 1,
     tick: str | timedelta | None = None,
     start: str | datetime | None = None,
     timeout: float | None = None,
@@ -207,7 +211,7 @@ def scenarios(
     labelled 1, 2 and so on, of any length.
 
     mpsweep runs them, 64 per call. It writes no job lines, so with `jobs` each model is run by mpsim instead, which takes longer, and its report has
-    the visits. A model that is refused, or whose run is, gives a Scenario with its status. Other exceptions of `run` end the sweep: a file that can't
+    the visits. `processes` (int) of these calls run at once; the scenarios and their order are the same. A model that is refused, or whose run is, gives a Scenario with its status. Other exceptions of `run` end the sweep: a file that can't
     be read, lack of memory, and a timeout, which counts all runs together. If the trace is a list of rows, the first model gives the order of their
     columns. To stop early, drop the iterator or close it (`contextlib.closing`), which ends the program.
 
@@ -222,22 +226,26 @@ def scenarios(
     if isinstance(models, (str, bytes, Model)) or not isinstance(models, Iterable):
         raise TypeError("models are a dict or a list of models")
     labelled = list(models.items() if isinstance(models, Mapping) else enumerate(models, 1))
-    return _scenarios(trace, labelled, jobs, Clock(tick, start), timeout)
+    return _scenarios(trace, labelled, jobs, processes, Clock(tick, start), timeout)
 
 
 def _scenarios(
-    trace: TraceInput, labelled: Sequence[tuple[Hashable, ModelInput]], jobs: bool, clock: Clock, timeout: float | None
+    trace: TraceInput, labelled: Sequence[tuple[Hashable, ModelInput]], jobs: bool, processes: int, clock: Clock, timeout: float | None
 ) -> Generator[Scenario, None, None]:
     if not labelled:
         return
-    run_some, step = (_by_mpsim, 1) if jobs else (_by_mpsweep, MODELS)
+    run_some, step = (_by_mpsim, 1) if jobs else (_by_mpsweep, min(MODELS, -(-len(labelled) // max(processes, 1))))
     end = None if timeout is None else time.monotonic() + timeout
     with _inputs(lambda _: model_input(labelled[0][1]), lambda made: trace_input(trace, made[0], clock)) as (_, rows):
-        for begin in range(0, len(labelled), step):
-            some = labelled[begin : begin + step]
+
+        def piece(some: Sequence[tuple[Hashable, ModelInput]]) -> Iterator[Scenario]:
             with _inputs(*[lambda _, item=it: model_input(item) for _, it in some]) as texts:
                 left = None if end is None else max(end - time.monotonic(), 0)
                 yield from run_some(rows, texts, [label for label, _ in some], left)
+
+        pieces = (labelled[begin : begin + step] for begin in range(0, len(labelled), step))
+        with contextlib.closing(in_order((partial(piece, some) for some in pieces), processes)) as coming:
+            yield from coming
 
 
 @contextlib.contextmanager
