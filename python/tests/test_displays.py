@@ -9,7 +9,6 @@ from ground import DESK, EXAMPLES, Test
 import mpsim
 from mpsim.agents import Agent, Group
 from mpsim.agents.queues import Queue
-from mpsim.report import Reading
 from mpsim.traces import Trace
 
 CALLS = [("door", 0, 4), ("door", 1, 1), ("door", 2, 3)]
@@ -56,7 +55,6 @@ class Displays(Test):
             (report, "<Report of 3 jobs, 2 nodes, span 8>"),
             (report.visits, "<Visits of 2 nodes: 6 visits>"),
             (report.visits["desk"], "<NodeVisits of desk: 3 visits>"),
-            (Reading(str(report)), "<Reading of a report, 2 nodes, span 8>"),
             (sweep, "<Sweep of 2 scenarios, 1 refused>"),
             (trace, "<Trace of 1 records, columns source, time, d>"),
             (prepared, "<Prepared of 1 records, columns source, time, d>"),

@@ -18,7 +18,8 @@ STANDARD = {"array", "bisect", "collections", "contextlib", "csv", "fractions", 
 STANDARD |= {"__future__", "ctypes", "resource", "types"}
 STANDARD |= {"subprocess", "sys", "threading", "time", "typing"}
 # Further modules used by the planner's commands and the pages.
-STANDARD |= {"argparse", "base64", "codecs", "datetime", "difflib", "errno", "concurrent", "functools", "gc", "glob", "hashlib", "heapq", "html", "json", "locale"}
+STANDARD |= {"argparse", "base64", "codecs", "datetime", "difflib", "errno", "functools", "gc", "glob", "hashlib", "heapq", "html", "json", "locale"}
+STANDARD |= {"concurrent"}
 STANDARD |= {"bz2", "gzip", "lzma", "tempfile", "zipfile", "zlib"}
 STANDARD |= {"math", "operator", "random", "secrets", "shlex", "socket", "stat", "string", "unicodedata", "zoneinfo"}
 

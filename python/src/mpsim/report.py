@@ -50,8 +50,8 @@ class Report:
     `form` (1 or 2), `jobs` (int) and `span` (int, ticks) are those of its first lines; `nodes` (tuple of Node) and `exits` (tuple of Exit) are in the
     order of the lines, `by_name` has these nodes as a dict. `report["desk"]` is the node of that name (KeyError if there is none), and
     `"desk" in report` tests for it; the name of a pool that `mpplan pool` made gives the figures of the whole, of which `max` and percentiles are
-    None without visits. `visits` (Visits) raises ValueError unless the report has job lines (`has_visits`, bool). `again` (Again) is None except after an
-    edit. `str(report)` is the text without job lines; `lines()` has
+    None without visits. `visits` (Visits) raises ValueError unless the report has job lines (`has_visits`, bool). `again` (Again) is None except
+    after an edit. `str(report)` is the text without job lines; `lines()` has
     everything.
 
     `model` is the model's text (str), which a page needs to draw the network, since a report doesn't say how nodes are connected. Reports from a run
@@ -117,9 +117,9 @@ class Report:
         self._visits, self._pools = visits, None
 
     def _each_pool(self) -> dict[str, Node]:
-        if self._pools is None:
-            from .agents.pools import pool_nodes
+        from .agents.pools import pool_nodes
 
+        if self._pools is None:
             self._pools = pool_nodes(self)
         return self._pools
 
@@ -258,9 +258,6 @@ class Reading:
     def rest(self) -> tuple[bytes, int]:
         """The line after a report without job lines, and its number: in a sweep the next scenario begins there."""
         return self._line, self._number
-
-    def __repr__(self) -> str:
-        return f"<Reading of a report, {len(self.nodes)} nodes, span {self.span}>"
 
     def _next(self) -> None:
         self._number += 1

@@ -211,9 +211,10 @@ def scenarios(
     labelled 1, 2 and so on, of any length.
 
     mpsweep runs them, 64 per call. It writes no job lines, so with `jobs` each model is run by mpsim instead, which takes longer, and its report has
-    the visits. `processes` (int) of these calls run at once; the scenarios and their order are the same. A model that is refused, or whose run is, gives a Scenario with its status. Other exceptions of `run` end the sweep: a file that can't
-    be read, lack of memory, and a timeout, which counts all runs together. If the trace is a list of rows, the first model gives the order of their
-    columns. To stop early, drop the iterator or close it (`contextlib.closing`), which ends the program.
+    the visits. `processes` (int) of these calls run at once; the scenarios and their order are the same. A model that is refused, or whose run is,
+    gives a Scenario with its status. Other exceptions of `run` end the sweep: a file that can't be read, lack of memory, and a timeout, which counts
+    all runs together. If the trace is a list of rows, the first model gives the order of their columns. To stop early, drop the iterator or close it
+    (`contextlib.closing`), which ends the program.
 
     >>> import mpsim
     >>> models = mpsim.variants("model 1\\nsource door\\nserver desk ={ticks} from door\\n", ticks=[1, 2, 4])

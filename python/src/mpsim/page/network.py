@@ -92,7 +92,9 @@ def network_of_model(text: str) -> str:
     return _svg(nodes_of(text), {}, None, None, True)
 
 
-def _svg(nodes: Sequence[ModelNode], figures: Mapping[str, Node], counts: Mapping[tuple[str, int], int] | None, chosen: str | None, is_still: bool) -> str:
+def _svg(
+    nodes: Sequence[ModelNode], figures: Mapping[str, Node], counts: Mapping[tuple[str, int], int] | None, chosen: str | None, is_still: bool
+) -> str:
     layout, outputs = Layout(nodes), {node.name: node.outputs for node in nodes}
     # A wide network shrinks to the page, as long as its text stays legible, and then scrolls.
     size = f'viewBox="0 0 {layout.width:.0f} {layout.height:.0f}" width="{layout.width:.0f}" style="min-width:{0.72 * layout.width:.0f}px"'
