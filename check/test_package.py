@@ -91,7 +91,7 @@ class Types(Check):
             ("print(report['desk'].wait + 1, mpsim.Model().source('door'), mpsim.__version__)\n", ""),
             ("mpsim.does_not_exist(3)\n", 'Module has no attribute "does_not_exist"'),
             ("mpsim.run('model.txt', 'trace.csv', jobs='yes', worker=1)\n", 'Unexpected keyword argument "worker"'),
-            ("print(report.visits['desk'])\n", "is not indexable"),
+            ("print(report.mean_sojourn + 1)\n", "Unsupported operand types"),
         ):
             ran = self.mypy("--strict", self.file("program.py", begin, line))
             out = ran.out.decode()

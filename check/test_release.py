@@ -175,6 +175,14 @@ class Release(Check):
         listed = run("dpkg-deb", "-c", package).out.decode().splitlines()
         self.same("owners", {line.split()[1] for line in listed}, {"root/root"})
 
+    def test_what_lintian_says(self):
+        if not debian() or not shutil.which("lintian"):
+            self.skipTest("lintian isn't there")
+        words = ["--allow-root"] if os.getuid() == 0 else []
+        ran = run("lintian", *words, "--fail-on", "error", self.made() / PACKAGE)
+        errors = [line for line in ran.out.decode().splitlines() if line.startswith("E:")]
+        self.same(f"{ran.command}\n{ran.line.decode()}", (ran.status, errors), (0, []))
+
     def test_what_is_refused(self):
         top = self.clone("top", 0o022)
         release, settings = top / "tools" / "release", {"MPSIM_PROGRAMS": str(top / "programs")}

@@ -87,9 +87,9 @@ class Sample:
 
     def little(self, node, visits):
         """Little's law: the number in a node, summed over time, is the sum of the times in it. Who is lost is there for no time."""
-        stays = sum(visits.depart) - sum(visits.arrive)
+        stays = sum(visits.raw_depart) - sum(visits.arrive)
         if node.lost:
-            stays = sum(depart - arrive for arrive, wait, depart in zip(visits.arrive, visits.wait, visits.depart) if wait >= 0)
+            stays = sum(depart - arrive for arrive, wait, depart in zip(visits.arrive, visits.raw_wait, visits.raw_depart) if wait >= 0)
         self.nodes, self.visits = self.nodes + 1, self.visits + len(visits)
         self.off_little += [node.name] * (stays != node.area)
 
@@ -134,7 +134,7 @@ def stays_of(visits):
 
 
 def lost_of(visits):
-    return [wait < 0 for wait in visits.wait]
+    return [wait < 0 for wait in visits.raw_wait]
 
 
 SERVER = "model 1\nsource door\nserver desk a from door\n"

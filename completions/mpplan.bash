@@ -88,7 +88,8 @@ _mpplan() {
             repeated=' --within --percentile '
             ;;
         sweep)
-            options='--set --model --trace --node --within --page --csv-style --folder --parallel --slurm --resume --table --shard --help'
+            options='--set --model --trace --node --within --jobs --page --csv-style --folder --parallel --slurm --resume --table --shard
+                --help'
             repeated=' --set --model --trace --node '
             ;;
         page)
@@ -147,11 +148,11 @@ _mpplan() {
         *.--abandon-event | *.--abandoned | *.--add | *.--agents | *.--answered | *.--arrive-event | *.--assume | *.--begin | \
             *.--begin-event | *.--by | *.--close | *.--code | *.--column | *.--constant | *.--cost | *.--count | *.--date | *.--date-format \
             | *.--day | *.--delimiter | *.--demand | *.--empty | *.--encoding | *.--end | *.--end-event | *.--event | *.--every | *.--first \
-            | *.--fixed | *.--format | *.--from | *.--goal | *.--header | *.--labels | *.--left-out-most | *.--load | *.--max-occupancy | \
-            *.--missing | *.--node | *.--open | *.--patience | *.--percentile | *.--pool | *.--queue | *.--rename | *.--route | *.--seed | \
-            *.--set | *.--shard | *.--sheet | *.--shift | *.--shrinkage | *.--skip | *.--source | *.--start | *.--steps | *.--then | \
-            *.--tick | *.--time | *.--title | *.--trust-calls | *.--trust-interval | *.--trust-overall | *.--unit | *.--until | *.--wait | \
-            *.--what-if | *.--where | *.--within | *.--zone) return ;;
+            | *.--fixed | *.--format | *.--from | *.--goal | *.--header | *.--jobs | *.--labels | *.--left-out-most | *.--load | \
+            *.--max-occupancy | *.--missing | *.--node | *.--open | *.--patience | *.--percentile | *.--pool | *.--queue | *.--rename | \
+            *.--route | *.--seed | *.--set | *.--shard | *.--sheet | *.--shift | *.--shrinkage | *.--skip | *.--source | *.--start | \
+            *.--steps | *.--then | *.--tick | *.--time | *.--title | *.--trust-calls | *.--trust-interval | *.--trust-overall | *.--unit | \
+            *.--until | *.--wait | *.--what-if | *.--where | *.--within | *.--zone) return ;;
     esac
     if [[ $choices ]]; then
         COMPREPLY=($(compgen -W "$choices" -- "$word"))

@@ -26,6 +26,7 @@ class Abandoned(InFolder):
         want = [("jobs", 0, 60, 10, 0), ("jobs", 60, 0, 45, 1), ("jobs", 120, 70, 0, 0)]
         for options in (
             {"demand": ["talk"], "wait": "wait", "abandoned": ["talk="]},
+            {"demand": "talk", "wait": "wait", "abandoned": "talk="},
             {"demand": ["talk"], "wait": ["wait=wait:s"], "abandoned": ["state=gone"]},
             {"demand": ["talk"], "wait": ["answered", "end"], "abandoned": ["state=gone", "talk="]},
             {"answered": ["answered"], "end": ["end=talk"], "wait": ["answered", "end"], "abandoned": ["answered="]},

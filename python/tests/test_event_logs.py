@@ -65,7 +65,8 @@ class Stations(InFolder):
     def test_services_at_once(self):
         """Each end is that of its own station."""
         rows = "8:00,A,cut,START,x", "8:01,A,drill,START,x", "8:03,A,cut,END,x", "8:07,A,drill,END,x"
-        self.assertEqual(list(made(*rows, **KINDS).rows()), [("jobs", 0, 180, 360)])
+        for kinds in KINDS, {"begin_event": "START", "end_event": "END"}:
+            self.assertEqual(list(made(*rows, **kinds).rows()), [("jobs", 0, 180, 360)])
 
     def test_any_order_of_rows(self):
         """The newest first; by station; and shuffled, where no events of a station are at one time."""

@@ -299,7 +299,7 @@ class Looked(Looking):
         self.looker.pick("#run", 1)
         self.assertIn(shown, self.texts("#nodes tr[data-node=n0] td"))
         self.looker.press("[data-picture=waits]", "End")
-        self.assertEqual(self.texts("[data-told=waits]"), [f"100.0 % waited {max(report.visits['n0'].wait):,} or less"])
+        self.assertEqual(self.texts("[data-told=waits]"), [f"100.0 % waited {max(report.visits['n0'].raw_wait):,} or less"])
 
     def test_report_without_jobs(self):
         self.looker.show(page([mpsim.run(CALLS, day())]))

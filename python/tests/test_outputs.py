@@ -32,6 +32,7 @@ CALLS = (
     ("pool model trace --node desk --agents 2 --out OUT", {"model": "model", "trace": "trace"}),
     ("pool model trace --node desk --agents 2 --out-model OUT", {"model": "model", "trace": "trace"}),
     ("grid model trace --node desk --agents 2 --page OUT", {"model": "model", "trace": "trace"}),
+    ("inspect export --write-recipe OUT", {"export": "export"}),
     ("decision model trace --node desk --roster roster --out OUT", {"model": "model", "trace": "trace", "roster": "roster"}),
     ("run model trace --page OUT", {"model": "model", "trace": "trace"}),
     ("page report jobs --model model --out OUT", {"report": "report", "jobs": "report", "model": "model"}),
@@ -110,7 +111,7 @@ class Outputs(InFolder):
         tried = {(word[0], word[word.index("OUT") - 1]) for word in words}
         parsers = {name: parser_for(name)._subparsers._group_actions[0].choices[name] for name in COMMANDS}
         files = {(name, *action.option_strings) for name, parser in parsers.items() for action in parser._actions if action.metavar == "FILE"}
-        self.assertEqual({file for file in files if file[-1] not in ("--model", "--trace", "--report", "--roster")}, tried)
+        self.assertEqual({file for file in files if file[-1] not in ("--model", "--trace", "--report", "--roster", "--recipe", "--forms")}, tried)
 
 
 if __name__ == "__main__":

@@ -70,8 +70,8 @@ def many(nodes, each, longest, seed=2):
         it = visits[name] = NodeVisits(name)
         it.job.extend(range(1, each + 1))
         it.arrive.extend(at * longest // each for at in range(each))
-        it.wait.extend([draw.randrange(longest) if draw.random() < 0.9 else LOST for _ in range(4096)] * (each // 4096))
-        it.depart.extend(min(arrive + max(wait, 0), longest) for arrive, wait in zip(it.arrive, it.wait))
+        it.raw_wait.extend([draw.randrange(longest) if draw.random() < 0.9 else LOST for _ in range(4096)] * (each // 4096))
+        it.raw_depart.extend(min(arrive + max(wait, 0), longest) for arrive, wait in zip(it.arrive, it.raw_wait))
         kind = "source" if name == "s" else "server"
         lines.append(mpsim.Node(name, kind, each, each, 0, 0, longest, longest, longest, longest, longest, longest, longest, 9, 0.5))
     report = mpsim.Report(2, each, longest, lines, [mpsim.Exit(names[-1], 0, each, longest)], visits)
@@ -117,10 +117,10 @@ class Figures(Test):
         draw = random.Random(3)
         for count in 1, 2, 9, 1000, 30000:
             visits = NodeVisits("n")
-            visits.wait.extend([int(draw.paretovariate(1.1)) for _ in range(count)] + [LOST] * 3)
-            visits.job.extend(range(len(visits.wait)))
+            visits.raw_wait.extend([int(draw.paretovariate(1.1)) for _ in range(count)] + [LOST] * 3)
+            visits.job.extend(range(len(visits.raw_wait)))
             told = distribution(visits, 100)
-            waits = sorted(item for item in visits.wait if item >= 0)
+            waits = sorted(item for item in visits.raw_wait if item >= 0)
             for wait, below in zip(told["wait"], told["count"]):
                 self.assertEqual(below, sum(item <= wait for item in waits))
             self.assertEqual((told["came"], told["wait"][0], told["wait"][-1], told["count"][-1]), (count + 3, waits[0], waits[-1], count))
@@ -136,13 +136,13 @@ class Figures(Test):
             visits = NodeVisits("n")
             visits.arrive.extend(sorted(draw.randrange(span + 1) // step_of_times * step_of_times for _ in range(700)))
             visits.arrive.append(span)
-            visits.wait.extend(draw.choice([LOST, -2, draw.randrange(100)]) for _ in visits.arrive)
-            visits.job.extend(range(len(visits.wait)))
+            visits.raw_wait.extend(draw.choice([LOST, -2, draw.randrange(100)]) for _ in visits.arrive)
+            visits.job.extend(range(len(visits.raw_wait)))
             told = over_time(visits, span, pieces)
             self.assertEqual(sum(told["came"]), 701)
             self.assertEqual({len(told[item]) for item in ("came", "lost", "p50", "p90", "max")}, {span // told["width"] + 1})
             for at, came in enumerate(told["came"]):
-                mine = [wait for arrive, wait in zip(visits.arrive, visits.wait) if arrive // told["width"] == at]
+                mine = [wait for arrive, wait in zip(visits.arrive, visits.raw_wait) if arrive // told["width"] == at]
                 waits = sorted(item for item in mine if item >= 0)
                 want = [waits[(len(waits) * item + 99) // 100 - 1] if waits else None for item in (50, 90, 100)]
                 self.assertEqual((came, told["lost"][at]), (len(mine), len(mine) - len(waits)))
@@ -156,11 +156,11 @@ class Figures(Test):
             for arrive in sorted(draw.randrange(span + 1) // 2 * 2 for _ in range(count)):
                 wait = draw.choice([LOST, HELD, 0, 1, 2])
                 visits.arrive.append(arrive)
-                visits.wait.append(wait)
-                visits.depart.append(wait if wait < 0 else min(arrive + draw.choice([0, 1, 2, 5, 30]), span))
+                visits.raw_wait.append(wait)
+                visits.raw_depart.append(wait if wait < 0 else min(arrive + draw.choice([0, 1, 2, 5, 30]), span))
             there = []
             for tick in range(span):
-                stays = zip(visits.arrive, visits.wait, visits.depart)
+                stays = zip(visits.arrive, visits.raw_wait, visits.raw_depart)
                 there.append(sum(it != LOST and arrive <= tick and (it == HELD or tick < depart) for arrive, it, depart in stays))
             pieces = [there[at : at + width] for at in range(0, span, width)]
             want = {"width": width, "mean": [round(sum(piece) / len(piece), 3) for piece in pieces], "max": [max(piece) for piece in pieces]}

@@ -69,7 +69,7 @@ class Figures(Test):
                 text, report = text_of(path), mpsim.Report.read(path)
                 lines = words_of(text, "job")
                 if not lines:
-                    self.assertIsNone(report.visits)
+                    self.assertFalse(report.has_visits)
                     continue
                 self.assertEqual(list(report.visits), [node["name"] for node in nodes_of(text)])
                 self.assertEqual(report.visits.count(), len(lines))
@@ -82,7 +82,7 @@ class Figures(Test):
     def test_percentiles_and_shares(self):
         for path in reports():
             report, text = mpsim.Report.read(path), text_of(path)
-            for node in report.visits or ():
+            for node in report.visits if report.has_visits else ():
                 with self.subTest(path, node=node):
                     visits, waits = report.visits[node], waits_of(text, node)
                     count = sum(words[2] == node for words in words_of(text, "job"))

@@ -174,7 +174,7 @@ class Pools(InFolder):
         told = "mpplan: desk is a pool: its waits are those of desk_queue\n"
         together = "mpplan: figures of several sources together (mail, phone) at desk; {}\n"
         report = mpsim.run(self.model, self.out, jobs=True)
-        self.assertEqual((report["desk"].lost, report["desk_gone"].out), (0, 2))
+        self.assertEqual((report.by_name["desk"].lost, report["desk_gone"].out), (0, 2))
         said = told + together.format("--by source gives each")
         (row,) = csv.DictReader(io.StringIO(self.tells("service", self.model, self.out, "--node", "desk", error=said)))
         self.assertEqual([row[name] for name in ("came", "departed", "lost", "within_20_of_all")], ["5", "3", "2", "0.6"])

@@ -118,7 +118,7 @@ class Inputs(Test):
         report = mpsim.run(DESK, [], jobs=True)
         self.assertEqual((report["desk"].in_, report.visits.count(), list(report.visits)), (0, 0, ["door", "desk"]))
         self.assertEqual((report["desk"].mean_wait, report.mean_sojourn, report.visits["desk"].share_within(0)), (None, None, None))
-        self.assertIsNone(mpsim.run(DESK, []).visits)
+        self.assertFalse(mpsim.run(DESK, []).has_visits)
 
     def test_invalid_rows(self):
         dicts = [{"source": "door", "time": 0, "d": 1}, {"source": "door", "time": 0}]

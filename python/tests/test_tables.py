@@ -118,7 +118,7 @@ class Service(InFolder):
         count = 0
         for path in reports():
             report, text = mpsim.Report.read(path), text_of(path)
-            if report.visits is None:
+            if not report.has_visits:
                 continue
             _, *told = service(report.visits.values(), [0, 7], [50, 90, 99])
             for row, node in zip(told, nodes_of(text)):
@@ -165,7 +165,7 @@ class Sojourns(InFolder):
         for path in reports():
             report, text = mpsim.Report.read(path), text_of(path)
             kinds = {node["name"]: node["kind"] for node in nodes_of(text)}
-            if report.visits is None or {"fork", "join"} & set(kinds.values()):
+            if not report.has_visits or {"fork", "join"} & set(kinds.values()):
                 continue
             got, want = defaultdict(Counter), defaultdict(Counter)
             for sojourn in sojourns(report):

@@ -17,10 +17,11 @@ import mpsim
 MODULES = sorted(".".join(path.relative_to(SOURCES / "mpsim").with_suffix("").parts) for path in (SOURCES / "mpsim").rglob("*.py"))
 PAGE = ROOT / "docs" / "PYTHON.md"
 STANDARD = {"array", "bisect", "collections", "contextlib", "csv", "fractions", "importlib", "io", "itertools", "os", "re", "shutil", "signal"}
-STANDARD |= {"__future__", "_typeshed", "resource", "types"}
+STANDARD |= {"__future__", "_typeshed", "ctypes", "resource", "types"}
 STANDARD |= {"subprocess", "sys", "threading", "time", "typing"}
 # Further modules used by the planner's commands and the pages.
 STANDARD |= {"argparse", "base64", "codecs", "datetime", "difflib", "errno", "functools", "gc", "glob", "hashlib", "heapq", "html", "json", "locale"}
+STANDARD |= {"concurrent"}
 STANDARD |= {"bz2", "gzip", "lzma", "tempfile", "zipfile", "zlib"}
 STANDARD |= {"math", "operator", "random", "secrets", "shlex", "socket", "stat", "string", "unicodedata", "zoneinfo"}
 

@@ -140,8 +140,12 @@ class Weeks(InFolder):
     def test_the_need(self):
         """What `staff` finds reaches 80/20 in each half-hour of the simulation, and with any agent fewer some half-hour misses it. The table has the
         number by Erlang's formula beside it, which is another one in some half-hours."""
+        idle = "if these callers hung up, they count as no work, so fewer agents seem to be enough"
+        said = f"mpplan: warning: 628 of 22,582 calls at desk need 0 ticks: {idle}\n"
+        said += "mpplan: figures of several sources together (sales, service) at desk; --by source gives each\n"
         for weekday in "Monday", "Friday":
-            table = rows_of(self.tells("staff", self.model, self.calls, "--node", "desk", "--goal", "80/20", "--weekday", weekday.lower()))
+            words = "--node", "desk", "--goal", "80/20", "--weekday", weekday.lower()
+            table = rows_of(self.tells("staff", self.model, self.calls, *words, error=said))
             counts, days = [int(row["agents"]) for row in table], self.days(weekday)
             self.assertEqual((table[0]["from"], len(days)), ("08:00", 8))
             self.assertAlmostEqual(sum(float(row["calls"]) for row in table), sum(map(len, days)) / 8, delta=0.1)

@@ -130,8 +130,8 @@ class Project(Test):
         self.assertEqual(found["version"], importlib.import_module("mpsim").__version__)
         found = [path for path in (SOURCES / "mpsim").rglob("*") if path.is_file() and path.suffix != ".pyc" and path.parent.name != "bin"]
         data = sorted(item.name for item in found if item.suffix != ".py")
-        named = ["compared.html", "figures.js", "network.html", "page.css", "page.html", "page.js", "pictures.js", "piece.css"]
-        self.assertEqual(data, sorted([*named, "py.typed", *(f"{name}.txt" for name in NAMES)]))
+        pages = ["compared.html", "figures.js", "grid.js", "network.html", "page.css", "page.html", "page.js", "pictures.js", "piece.css"]
+        self.assertEqual(data, sorted([*pages, "sheet.css", "sheet.html", "py.typed", *(f"{name}.txt" for name in NAMES)]))
         if not (ROOT / ".git").exists() or not shutil.which("git"):
             self.skipTest("it is no clone of git, or git isn't there")
         ignored = subprocess.run(["git", "check-ignore", "--no-index", *map(str, found)], cwd=ROOT, stdout=subprocess.PIPE, text=True).stdout

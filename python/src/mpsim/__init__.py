@@ -20,6 +20,7 @@ from .version import __version__ as __version__
 
 if TYPE_CHECKING:
     # The same names as in _MODULES, for editors and type checkers.
+    from .builder import Model as Model
     from .errors import (
         BoundError as BoundError,
         EditsError as EditsError,
@@ -35,9 +36,10 @@ if TYPE_CHECKING:
         VisitsError as VisitsError,
         WriteError as WriteError,
     )
+    from .exports.prepare import prepare as prepare
     from .inputs import Add as Add, Set as Set
     from .lines import Again as Again, Exit as Exit, Node as Node
-    from .model import Model as Model, variants as variants
+    from .model import variants as variants
     from .node_visits import NodeVisits as NodeVisits, Visit as Visit, Visits as Visits
     from .report import Report as Report
     from .runs import edit as edit, made as made, run as run, scenarios as scenarios, sweep as sweep, visits as visits
@@ -52,9 +54,10 @@ _MODULES = {
     "scenarios": "runs",
     "sweep": "runs",
     "edit": "runs",
+    "prepare": "exports.prepare",
     "Set": "inputs",
     "Add": "inputs",
-    "Model": "model",
+    "Model": "builder",
     "variants": "model",
     "Report": "report",
     "Node": "lines",

@@ -8,15 +8,20 @@ import itertools
 import os
 import re
 from collections.abc import Iterable, Mapping
+from datetime import datetime, timedelta
 from typing import TYPE_CHECKING, NamedTuple, Tuple, cast
 
-from .model import Model, columns
+from .builder import Model
+from .frames.columns import column_of
+from .frames.ticks import Clock, in_ticks
+from .model import columns
 
 if TYPE_CHECKING:
     from collections.abc import Callable, Iterator, Sequence
     from typing import BinaryIO
 
-    from .shapes import EditsInput, Frame, ModelInput, Record, TraceInput
+    from .frames.columns import Column
+    from .shapes import EditsInput, ModelInput, Record, TraceInput
 
 
 class Set(NamedTuple):
@@ -191,14 +196,12 @@ def model_text(value: ModelInput) -> str:
         return given.text() or ""
 
 
-def trace_input(value: TraceInput, model: Input) -> Input:
-    """Returns the input for a trace: a path, a text, a data frame, or rows; `model` is an input too. Raises TypeError or ValueError for anything
-    else."""
+def trace_input(value: TraceInput, model: Input, clock: Clock = Clock()) -> Input:
+    """Returns the input for a trace: a path, a text, a trace made by `prepare`, a data frame, columns, or rows; `model` is an input too, and `clock`
+    says what a tick is, if the trace has dates or lengths of time. Raises TypeError or ValueError for anything else."""
     if isinstance(value, (str, bytes, bytearray, os.PathLike)):
         return _given(value)
-    if not isinstance(value, Iterable):
-        raise TypeError(f"a trace is a path, a text, a data frame or rows, not {type(value).__name__}")
-    rows = _rows_of_frame(cast("Frame", value)) if hasattr(value, "columns") else _rows(iter(cast("Iterable[Record]", value)), model)
+    rows = _rows_of(value, model, clock)
     return Input(write=lambda file: _write_rows(file, rows))
 
 
@@ -225,28 +228,63 @@ def _first(names: Iterable[str]) -> list[str]:
     return ["source", "time"] + [name for name in names if name not in ("source", "time")]
 
 
-def _rows_of_frame(frame: Frame) -> Iterable[Sequence[object]]:
-    """Returns the header and the rows of a pandas or polars data frame."""
-    names = list(frame.columns)
+def _rows_of(value: object, model: Input, clock: Clock) -> Iterable[Sequence[object]]:
+    """Returns the header and the rows of a trace that isn't a text or a path."""
+    if hasattr(value, "header") and hasattr(value, "rows"):
+        # A Trace, or a Prepared.
+        rows = value.rows() if callable(value.rows) else value.rows
+        return itertools.chain([value.header], cast("Iterable[Sequence[object]]", rows))
+    # Most calls have no frame.
+    from .frames.read import columns_of, is_of_columns
+
+    if is_of_columns(value):
+        text = model.text()
+        # Columns that the model doesn't use may be anything.
+        found = columns_of(value, None if text is None else ["source", "time", *columns(text)])
+        return _rows_of_columns(found, text or "", clock)
+    if hasattr(value, "dtype") and hasattr(value, "tolist"):
+        # The rows of a numpy array.
+        value = value.tolist()
+    if not isinstance(value, Iterable):
+        raise TypeError(f"a trace is a path, a text, a data frame, columns or rows, not {type(value).__name__}")
+    return _rows(iter(cast("Iterable[Record]", value)), model, clock)
+
+
+def _rows_of_columns(found: Mapping[str, Column], text: str, clock: Clock) -> Iterable[Sequence[object]]:
+    """Returns the header and the rows of columns by name."""
     for name in "source", "time":
-        if name not in names:
-            raise ValueError(f"the frame has no column {name!r}: {names}")
-    columns = [frame[name] for name in _first(names)]
-    values = [column.tolist() if hasattr(column, "tolist") else column.to_list() for column in columns]
-    return itertools.chain([_first(names)], zip(*values))
+        if name not in found:
+            raise ValueError(f"the trace has no column {name!r}: {list(found)}")
+    names = _first(found)
+    values = in_ticks(found, text, clock)
+    return itertools.chain([names], zip(*(values[name] for name in names)))
 
 
-def _rows(rows: Iterator[Record], model: Input) -> Iterable[Sequence[object]]:
+def _rows(rows: Iterator[Record], model: Input, clock: Clock) -> Iterable[Sequence[object]]:
     """Returns the header and the rows of mappings, named tuples, or sequences, whose first may be the header."""
     first = next(rows, None)
     if isinstance(first, Mapping):
         names = _first(first)
         every = cast("Iterator[Mapping[str, object]]", itertools.chain([first], rows))
-        return itertools.chain([names], (_of_mapping(it, names, number) for number, it in enumerate(every, 1)))
+        return _timed(names, (_of_mapping(it, names, number) for number, it in enumerate(every, 1)), model, clock)
     header: Sequence[str] | None = getattr(first, "_fields", None)
-    if header is None and (first is None or isinstance(first, str) or list(first[:2]) != ["source", "time"]):
-        header = ["source", "time", *columns(model.text() or "")]
-    return itertools.chain([] if header is None else [header], [] if first is None else [first], cast("Iterator[Sequence[object]]", rows))
+    left = cast("Iterator[Sequence[object]]", itertools.chain([] if first is None else [first], rows))
+    if header is None and first is not None and not isinstance(first, str) and list(first[:2]) == ["source", "time"]:
+        header = cast("Sequence[str]", next(left))
+    return _timed(["source", "time", *columns(model.text() or "")] if header is None else header, left, model, clock)
+
+
+def _timed(header: Sequence[str], rows: Iterator[Sequence[object]], model: Input, clock: Clock) -> Iterable[Sequence[object]]:
+    """Returns a header and rows; all at once if the first row has a date or a length of time, since all rows say what a tick is."""
+    first = next(rows, None)
+    every = itertools.chain([] if first is None else [first], rows)
+    if first is None or isinstance(first, (str, bytes)) or not any(isinstance(item, (datetime, timedelta)) for item in first):
+        return itertools.chain([header], every)
+    whole = list(every)
+    for number, row in enumerate(whole, 1):
+        if len(row) != len(header):
+            raise ValueError(f"trace record {number} has {len(row)} values, but there are {len(header)} columns: {', '.join(header)}")
+    return _rows_of_columns({name: column_of(name, list(values)) for name, values in zip(header, zip(*whole))}, model.text() or "", clock)
 
 
 def _of_mapping(row: Mapping[str, object], header: Sequence[str], number: int) -> list[object]:

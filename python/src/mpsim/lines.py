@@ -1,11 +1,30 @@
-"""The lines of a report, except job lines, as named tuples. docs/REPORT.md explains every field."""
+"""The lines of a report: their patterns and, except job lines, named tuples of them. docs/REPORT.md explains every field."""
 
 from __future__ import annotations
 
+import re
 from typing import NamedTuple, Optional
 
 # No job waits or is lost at these.
 PASSED = "source", "split", "fork"
+# Patterns of a number, a name and a kind of node.
+N, NAME = r"(0|[1-9]\d*)", r"([a-z][a-z0-9_]{0,31})"
+KIND = "source|server|delay|loss|tandem|forkjoin|split|fork|join|trunk"
+# The lines of a report, except job lines.
+LINES = {
+    name: re.compile(text.replace("NAME", NAME).replace("KIND", KIND).replace("N", N) + "\n", re.ASCII)
+    for name, text in {
+        "form": r"mpsim report ([12])",
+        "jobs": r"jobs N span N",
+        "node": r"node NAME (KIND) in N out N lost N(?: held N)? wait N max N(?: p50 N p90 N p99 N)? busy N area N peak N util (-|[01]\.\d{4})",
+        "exit": r"exit NAME\.([0-7]) N sojourn N",
+        "again": r"again N of N blocks",
+    }.items()
+}
+JOB = re.compile(rf"job {N} {NAME} arrive {N} (?:wait {N} depart {N}|lost|held)".encode())
+# The line of a visit that departed, without its node, its numbers and its line feed; then without letters.
+STAND_INS = (b" lost\n", b" wait -1 depart -1\n"), (b" held\n", b" wait -2 depart -2\n")
+SHAPE, DIGITS, LETTERS = b"job   wait  depart \n", b"0123456789-", b"abdeijoprtw"
 
 
 class Node(NamedTuple):

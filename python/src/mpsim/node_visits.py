@@ -4,7 +4,10 @@ from __future__ import annotations
 
 from array import array
 from fractions import Fraction
+from math import nan
 from typing import TYPE_CHECKING, Dict, NamedTuple, Optional
+
+from .wording import table_of
 
 if TYPE_CHECKING:
     import numpy
@@ -15,7 +18,7 @@ if TYPE_CHECKING:
 # Values of the wait and the departure of a visit without them. ENDS says how it ended.
 LOST, HELD = -1, -2
 ENDS = {LOST: "lost", HELD: "held"}
-FIELDS = "job", "arrive", "wait", "depart"
+FIELDS = "job", "arrive", "raw_wait", "raw_depart"
 
 
 class Visit(NamedTuple):
@@ -39,33 +42,51 @@ class Visit(NamedTuple):
 class NodeVisits:
     """The visits to one node, or some of them, in order of arrival.
 
-    `node` is its name; `job`, `arrive`, `wait` and `depart` are arrays of int by position, 28 bytes per visit. A lost visit has a wait and a
-    departure of -1, a visit held to the end -2. `len` counts the visits, and a loop gives each as a Visit.
+    `node` is its name; `job`, `arrive`, `wait` and `depart` are arrays by position. `len` counts the visits, and a loop gives each as a Visit. If all
+    visits departed, `wait` and `depart` are arrays of int. Otherwise they are arrays of float, in which a lost or held visit has a NaN, as pandas has
+    it: a mean that forgets these visits is NaN, instead of a wrong number. `raw_wait` and `raw_depart` are arrays of int, exact above 2^53 too, with
+    -1 for a lost visit and -2 for one held to the end. The four arrays of int take 28 bytes per visit.
 
     >>> import mpsim
     >>> model = "model 1\\nsource door\\nloss desk 2 =4 from door\\n"
     >>> desk = mpsim.run(model, [("door", 0), ("door", 1), ("door", 2)], jobs=True).visits["desk"]
-    >>> list(desk.wait), [it.end for it in desk]
-    ([0, 3, -1], ['left', 'left', 'lost'])
+    >>> list(desk.wait), list(desk.raw_wait), [it.end for it in desk]
+    ([0.0, 3.0, nan], [0, 3, -1], ['left', 'left', 'lost'])
     """
 
     node: str
     job: array[int]
     arrive: array[int]
-    wait: array[int]
-    depart: array[int]
+    raw_wait: array[int]
+    raw_depart: array[int]
 
     __slots__ = ("node", *FIELDS)
 
     def __init__(self, node: str) -> None:
         self.node, self.job = node, array("i")
-        self.arrive, self.wait, self.depart = array("q"), array("q"), array("q")
+        self.arrive, self.raw_wait, self.raw_depart = array("q"), array("q"), array("q")
+
+    @property
+    def wait(self) -> array[int] | array[float]:
+        """The waits (array of int, in ticks); with a lost or held visit, an array of float, in which it has a NaN."""
+        return _with_nan(self.raw_wait)
+
+    @property
+    def depart(self) -> array[int] | array[float]:
+        """The departures (array of int, in ticks); with a lost or held visit, an array of float, in which it has a NaN."""
+        return _with_nan(self.raw_depart)
 
     def __len__(self) -> int:
         return len(self.job)
 
+    def __repr__(self) -> str:
+        return f"<NodeVisits of {self.node}: {len(self)} visits>"
+
+    def _repr_html_(self) -> str:
+        return table_of(Visit._fields, self, len(self))
+
     def __iter__(self) -> Iterator[Visit]:
-        for job, arrive, wait, depart in zip(self.job, self.arrive, self.wait, self.depart):
+        for job, arrive, wait, depart in zip(self.job, self.arrive, self.raw_wait, self.raw_depart):
             if wait >= 0:
                 yield Visit(job, self.node, arrive, wait, depart, "left")
             else:
@@ -92,7 +113,7 @@ class NodeVisits:
         >>> report.visits["desk"].waits()
         array('q', [0, 3])
         """
-        return array("q", sorted(item for item in self.wait if item >= 0))
+        return array("q", sorted(item for item in self.raw_wait if item >= 0))
 
     def percentile(self, percent: float) -> int:
         """Returns the shortest wait (int, in ticks) that at least `percent` percent (0 to 100, int or float) of the departed visits don't exceed, as
@@ -115,12 +136,19 @@ class NodeVisits:
         >>> desk.share_within(3), desk.share_within(4), desk.share_within(4, departed=True)
         (0.5, 0.75, 1.0)
         """
-        count = sum(item >= 0 for item in self.wait) if departed else len(self)
-        return sum(0 <= item <= ticks for item in self.wait) / count if count else None
+        count = sum(item >= 0 for item in self.raw_wait) if departed else len(self)
+        return sum(0 <= item <= ticks for item in self.raw_wait) / count if count else None
 
     def to_pandas(self) -> pandas.DataFrame:
         """Returns a data frame with a row per visit, as Visits.to_pandas does. Raises ImportError if pandas is missing."""
         return _frame([self])
+
+
+def _with_nan(numbers: array[int]) -> array[int] | array[float]:
+    """Returns times as they are, or, if some are missing, as floats with NaN in their place."""
+    if min(numbers, default=0) >= 0:
+        return numbers
+    return array("d", [nan if number < 0 else number for number in numbers])
 
 
 def percentile_of(waits: Sequence[int], percent: float) -> int:
@@ -145,6 +173,12 @@ class Visits(Dict[str, NodeVisits]):
     >>> visits.count(), [it.depart for it in visits.each() if it.node == "desk"]
     (4, [4, 8])
     """
+
+    def __repr__(self) -> str:
+        return f"<Visits of {len(self)} nodes: {self.count()} visits>"
+
+    def _repr_html_(self) -> str:
+        return table_of(Visit._fields, self.each(), self.count())
 
     def each(self) -> Iterator[Visit]:
         """Yields the visits (Visit), in the order of the lines.
@@ -183,16 +217,16 @@ def _frame(parts: Sequence[NodeVisits]) -> pandas.DataFrame:
     def with_gaps(name: str) -> pandas.arrays.IntegerArray:
         return pandas.arrays.IntegerArray(numpy.where(gone, 0, joined(name, "i8")), gone.copy())
 
-    gone = joined("wait", "i8") < 0
+    gone = joined("raw_wait", "i8") < 0
     nodes = numpy.repeat(numpy.arange(len(parts)), [len(part) for part in parts])
-    ends = numpy.where(gone, -joined("wait", "i8"), 0)
+    ends = numpy.where(gone, -joined("raw_wait", "i8"), 0)
     return pandas.DataFrame(
         {
             "job": joined("job", "i4"),
             "node": pandas.Categorical.from_codes(nodes, [part.node for part in parts]),
             "arrive": joined("arrive", "i8"),
-            "wait": with_gaps("wait"),
-            "depart": with_gaps("depart"),
+            "wait": with_gaps("raw_wait"),
+            "depart": with_gaps("raw_depart"),
             "end": pandas.Categorical.from_codes(ends, ["left", "lost", "held"]),
         }
     )
@@ -207,14 +241,14 @@ class Totals:
 
     def add(self, visits: NodeVisits) -> None:
         """Adds some visits."""
-        lost, held = visits.wait.count(LOST), visits.wait.count(HELD)
+        lost, held = visits.raw_wait.count(LOST), visits.raw_wait.count(HELD)
         self.count, self.lost, self.held = self.count + len(visits), self.lost + lost, self.held + held
-        self.wait += sum(visits.wait) - lost * LOST - held * HELD
-        self.max = max(self.max, max(visits.wait))
-        self.area += sum(visits.depart) - sum(visits.arrive)
+        self.wait += sum(visits.raw_wait) - lost * LOST - held * HELD
+        self.max = max(self.max, max(visits.raw_wait))
+        self.area += sum(visits.raw_depart) - sum(visits.arrive)
         if lost or held:
             # A lost visit leaves when it arrives, a held one at the end, instead of the values that mark them.
-            self.area += sum(arrive - LOST for arrive, wait in zip(visits.arrive, visits.wait) if wait == LOST)
+            self.area += sum(arrive - LOST for arrive, wait in zip(visits.arrive, visits.raw_wait) if wait == LOST)
             self.area += held * (self.span - HELD)
 
     def figures(self) -> tuple[int, ...]:

@@ -9,7 +9,7 @@ from typing import TYPE_CHECKING
 
 from .errors import ReportError, read_from
 from .inputs import model_text
-from .lines import NUMBERS, Again, Exit, Node
+from .lines import DIGITS, JOB, LETTERS, LINES, NUMBERS, SHAPE, STAND_INS, Again, Exit, Node
 from .model import nodes_of
 from .node_visits import NodeVisits, Totals, Visits, filled
 
@@ -25,32 +25,16 @@ if TYPE_CHECKING:
 
 # The number of bytes of job lines read at a time.
 CHUNK = 1 << 19
-N, NAME = r"(0|[1-9]\d*)", r"([a-z][a-z0-9_]{0,31})"
-KIND = "source|server|delay|loss|tandem|forkjoin|split|fork|join|trunk"
-# The lines of a report, except job lines.
-LINES = {
-    name: re.compile(text.replace("NAME", NAME).replace("KIND", KIND).replace("N", N) + "\n", re.ASCII)
-    for name, text in {
-        "form": r"mpsim report ([12])",
-        "jobs": r"jobs N span N",
-        "node": r"node NAME (KIND) in N out N lost N(?: held N)? wait N max N(?: p50 N p90 N p99 N)? busy N area N peak N util (-|[01]\.\d{4})",
-        "exit": r"exit NAME\.([0-7]) N sojourn N",
-        "again": r"again N of N blocks",
-    }.items()
-}
-JOB = re.compile(rf"job {N} {NAME} arrive {N} (?:wait {N} depart {N}|lost|held)".encode())
-# The line of a visit that departed, without its node, its numbers and its line feed; then without letters.
-STAND_INS = (b" lost\n", b" wait -1 depart -1\n"), (b" held\n", b" wait -2 depart -2\n")
-SHAPE, DIGITS, LETTERS = b"job   wait  depart \n", b"0123456789-", b"abdeijoprtw"
 
 
 class Report:
     """The report of a run.
 
     `form` (1 or 2), `jobs` (int) and `span` (int, ticks) are those of its first lines; `nodes` (tuple of Node) and `exits` (tuple of Exit) are in the
-    order of the lines. `report["desk"]` is the node of that name (KeyError if there is none), and `"desk" in report` tests for it. `visits` (Visits)
-    is None unless the report has job lines. `again` (Again) is None except after an edit. `str(report)` is the text without job lines; `lines()` has
-    everything.
+    order of the lines, `by_name` has these nodes as a dict. `report["desk"]` is the node of that name (KeyError if there is none), and
+    `"desk" in report` tests for it; the name of a pool that `mpplan pool` made gives the figures of the whole, of which `max` and percentiles are
+    None without visits. `visits` (Visits) raises ValueError unless the report has job lines (`has_visits`, bool). `again` (Again) is None except
+    after an edit. `str(report)` is the text without job lines; `lines()` has everything.
 
     `model` is the model's text (str), which a page needs to draw the network, since a report doesn't say how nodes are connected. Reports from a run
     have it; reports read from a file have it only if it was given, else None. Setting it raises ValueError if its nodes aren't those of the report.
@@ -71,14 +55,15 @@ class Report:
     jobs: int
     span: int
     _model: str | None
+    _pools: dict[str, Node] | None
 
     def __init__(
         self, form: int, jobs: int, span: int, nodes: Iterable[Node], exits: Iterable[Exit], visits: Visits | None = None, again: Again | None = None
     ) -> None:
         self.form, self.jobs, self.span = form, jobs, span
-        self.nodes, self.exits, self.visits, self.again = tuple(nodes), tuple(exits), visits, again
-        self._by_name = {node.name: node for node in self.nodes}
-        self._model = None
+        self.nodes, self.exits, self._visits, self.again = tuple(nodes), tuple(exits), visits, again
+        self.by_name = {node.name: node for node in self.nodes}
+        self._model, self._pools = None, None
 
     @property
     def model(self) -> str | None:
@@ -89,13 +74,42 @@ class Report:
     def model(self, text: str | None) -> None:
         if text is not None and sorted((node.name, node.kind) for node in nodes_of(text)) != sorted((node.name, node.kind) for node in self.nodes):
             raise ValueError("the model isn't that of the report: its nodes differ")
-        self._model = text
+        self._model, self._pools = text, None
+
+    @property
+    def has_visits(self) -> bool:
+        """Whether the report has visits (bool)."""
+        return self._visits is not None
+
+    @property
+    def visits(self) -> Visits:
+        """The visits (Visits). Raises ValueError if the report has none.
+
+        >>> import mpsim
+        >>> mpsim.run("model 1\\nsource door\\n", [("door", 3)]).visits
+        Traceback (most recent call last):
+        ValueError: the report has no visits: run the model with jobs=True, or mpsim with --jobs
+        """
+        if self._visits is None:
+            raise ValueError("the report has no visits: run the model with jobs=True, or mpsim with --jobs")
+        return self._visits
+
+    @visits.setter
+    def visits(self, visits: Visits) -> None:
+        self._visits, self._pools = visits, None
+
+    def _each_pool(self) -> dict[str, Node]:
+        from .agents.pools import pool_nodes
+
+        if self._pools is None:
+            self._pools = pool_nodes(self)
+        return self._pools
 
     def __getitem__(self, name: str) -> Node:
-        return self._by_name[name]
+        return self._each_pool().get(name) or self.by_name[name]
 
     def __contains__(self, name: object) -> bool:
-        return name in self._by_name
+        return name in self.by_name or name in self._each_pool()
 
     # A loop could mean nodes or names; `nodes` is explicit.
     __iter__ = None
@@ -120,7 +134,7 @@ class Report:
             yield node.line() + "\n"
         for item in self.exits:
             yield f"exit {item.name}.{item.output} {item.jobs} sojourn {item.sojourn}\n"
-        for it in self.visits.each() if jobs and self.visits else ():
+        for it in self._visits.each() if jobs and self._visits else ():
             yield f"job {it.job} {it.node} arrive {it.arrive} " + (f"wait {it.wait} depart {it.depart}\n" if it.end == "left" else f"{it.end}\n")
         if self.again:
             yield f"again {self.again.done} of {self.again.blocks} blocks\n"

@@ -3,9 +3,15 @@
 What they take:
 
 - A model is a Model, a text (str with a line feed, or bytes), or a path (str or PathLike).
-- A trace is a path, a text, a pandas or polars data frame with the columns `source` and `time`, or rows: dicts, named tuples, or sequences, whose
-  first may be the header. Rows without a header are a source, a time and the values of the columns in the order in which the model first names them.
-  Times and values are whole numbers; whole floats are accepted, since a missing value turns a column into floats.
+- A trace is a path, a text, what `prepare` returns, columns with the names `source`, `time` and those of the model, or rows. Columns are a data
+  frame of pandas or polars, any object with `__arrow_c_stream__` or `__dataframe__`, a numpy array with named fields, or a dict of lists or arrays;
+  those that the model doesn't name are ignored. Rows are dicts, named tuples, or sequences, whose first may be the header. Rows without a header are
+  a source, a time and the values of the columns in the order in which the model first names them.
+- Times and values are whole numbers of ticks, or dates and lengths of time (datetime and timedelta of Python, pandas, numpy or Arrow). Whole floats
+  are accepted, since a missing value turns a column into floats.
+- `tick` (str such as "1s", or a timedelta) is the length of a tick, `start` (datetime or ISO 8601 text) the date of time 0, for a trace with dates or
+  lengths of time. By default they are those in the first lines of the model; else a tick is a second, and time 0 the beginning of the hour (of UTC,
+  if dates have a zone) of the first date. A date counts as the tick in which it falls, a length of time as the nearest number of ticks.
 - `workers` (int, 1 to 64) and `block` (int, 1 to 65,536) divide the work; they don't change the report.
 - `timeout` (seconds) limits the time of a program from its start to its end; a program that exceeds it is ended, and TimedOut is raised.
 
@@ -20,13 +26,17 @@ import contextlib
 import os
 import time
 from collections.abc import Iterable, Mapping
+from functools import partial
 from typing import TYPE_CHECKING
 
+from .builder import Model
 from .errors import BoundError, Error, ModelError, ProgramError, TraceError, VisitsError
 from .files import text_of
+from .frames.ticks import Clock
 from .inputs import edits_input, model_input, trace_input
 from .limits import MODELS
-from .model import Model, in_braces
+from .model import in_braces
+from .parallel import in_order
 from .processes import Running
 from .programs import find
 from .report import Reading, with_model
@@ -34,6 +44,7 @@ from .sweeps.results import Scenario, Sweep, scenarios_of
 
 if TYPE_CHECKING:
     from collections.abc import Callable, Generator, Hashable, Iterator, Sequence
+    from datetime import datetime, timedelta
     from typing import ContextManager, IO
 
     from .inputs import Input
@@ -52,8 +63,8 @@ def _inputs(*makers: Callable[[list[Input]], Input]) -> Iterator[list[Input]]:
         yield made
 
 
-def _model_and_trace(model: ModelInput, trace: TraceInput) -> ContextManager[list[Input]]:
-    return _inputs(lambda _: model_input(model), lambda made: trace_input(trace, made[0]))
+def _model_and_trace(model: ModelInput, trace: TraceInput, clock: Clock) -> ContextManager[list[Input]]:
+    return _inputs(lambda _: model_input(model), lambda made: trace_input(trace, made[0], clock))
 
 
 def _options(jobs: bool = False, workers: int | None = None, block: int | None = None, form: int | None = None) -> list[str]:
@@ -77,6 +88,8 @@ def run(
     workers: int | None = None,
     block: int | None = None,
     form: int | None = None,
+    tick: str | timedelta | None = None,
+    start: str | datetime | None = None,
     timeout: float | None = None,
 ) -> Report:
     """Runs a trace through a model with mpsim and returns the Report. With `jobs` it has the visits; `form` is 1 or 2 (default: 2). The module's
@@ -88,8 +101,15 @@ def run(
     >>> report = mpsim.run(model, [("phone", 0, 30), ("web", 10, 60), ("phone", 20, 15)], jobs=True)
     >>> report["desk"].max, report.visits["desk"].share_within(20)
     (70, 0.6666666666666666)
+
+    Dates and lengths of time become ticks:
+
+    >>> from datetime import datetime, timedelta
+    >>> calls = {"source": ["phone", "web"], "time": [datetime(2026, 3, 2, 8), datetime(2026, 3, 2, 8, 1)], "talk": [timedelta(minutes=3)] * 2}
+    >>> mpsim.run(model, calls)["desk"].max
+    120
     """
-    with _model_and_trace(model, trace) as inputs:
+    with _model_and_trace(model, trace, Clock(tick, start)) as inputs:
         words = [item.word for item in inputs] + _options(jobs, workers, block, form)
         return _report("mpsim", words, inputs, jobs, timeout)
 
@@ -108,7 +128,14 @@ def made(
 
 @contextlib.contextmanager
 def visits(
-    model: ModelInput, trace: TraceInput, *, workers: int | None = None, block: int | None = None, timeout: float | None = None
+    model: ModelInput,
+    trace: TraceInput,
+    *,
+    workers: int | None = None,
+    block: int | None = None,
+    tick: str | timedelta | None = None,
+    start: str | datetime | None = None,
+    timeout: float | None = None,
 ) -> Iterator[Reading]:
     """Runs mpsim without keeping the visits: a block with a Reading (`mpsim.report`), whose `nodes` and `exits` are available at once, and whose
     `pieces()` gives the visits, as NodeVisits of one node each. Leaving the block early ends the program. Raises what `run` does, at the latest at
@@ -120,12 +147,20 @@ def visits(
     ...     sum(wait > 2 for piece in reading.pieces() if piece.node == "desk" for wait in piece.wait)
     1
     """
-    with _model_and_trace(model, trace) as inputs:
+    with _model_and_trace(model, trace, Clock(tick, start)) as inputs:
         with Running("mpsim", [item.word for item in inputs] + _options(True, workers, block), inputs, timeout=timeout) as running:
             yield Reading(running.stream)
 
 
-def edit(model: ModelInput, trace: TraceInput, edits: EditsInput, *, timeout: float | None = None) -> Report:
+def edit(
+    model: ModelInput,
+    trace: TraceInput,
+    edits: EditsInput,
+    *,
+    tick: str | timedelta | None = None,
+    start: str | datetime | None = None,
+    timeout: float | None = None,
+) -> Report:
     """Runs an edited trace with mpedit and returns the Report, whose `again` says how much of the run the edits affect. Edits are a text (str with a
     line feed, or bytes), a path, or a list of Set and Add. Raises what `run` does, and EditsError.
 
@@ -135,11 +170,21 @@ def edit(model: ModelInput, trace: TraceInput, edits: EditsInput, *, timeout: fl
     >>> report["desk"].wait, report.again.done, report.again.blocks
     (1, 2, 2)
     """
-    with _inputs(lambda _: model_input(model), lambda made: trace_input(trace, made[0]), lambda _: edits_input(edits)) as inputs:
+    clock = Clock(tick, start)
+    with _inputs(lambda _: model_input(model), lambda made: trace_input(trace, made[0], clock), lambda _: edits_input(edits)) as inputs:
         return _report("mpedit", [item.word for item in inputs], inputs, False, timeout)
 
 
-def sweep(trace: TraceInput, models: Models, *, jobs: bool = False, timeout: float | None = None) -> Sweep:
+def sweep(
+    trace: TraceInput,
+    models: Models,
+    *,
+    jobs: bool = False,
+    processes: int = 1,
+    tick: str | timedelta | None = None,
+    start: str | datetime | None = None,
+    timeout: float | None = None,
+) -> Sweep:
     """Runs a trace through many models and returns the Sweep. The arguments and exceptions are those of `scenarios`.
 
     >>> import mpsim
@@ -148,18 +193,28 @@ def sweep(trace: TraceInput, models: Models, *, jobs: bool = False, timeout: flo
     [(1, 0.6666666666666666), (2, 0.3333333333333333), (3, 0.0)]
     """
     # If Ctrl-C comes between two scenarios, the program mustn't live as long as the traceback.
-    with contextlib.closing(scenarios(trace, models, jobs=jobs, timeout=timeout)) as coming:
+    with contextlib.closing(scenarios(trace, models, jobs=jobs, processes=processes, tick=tick, start=start, timeout=timeout)) as coming:
         return Sweep((item.label, item) for item in coming)
 
 
-def scenarios(trace: TraceInput, models: Models, *, jobs: bool = False, timeout: float | None = None) -> Generator[Scenario, None, None]:
+def scenarios(
+    trace: TraceInput,
+    models: Models,
+    *,
+    jobs: bool = False,
+    processes: int = 1,
+    tick: str | timedelta | None = None,
+    start: str | datetime | None = None,
+    timeout: float | None = None,
+) -> Generator[Scenario, None, None]:
     """Runs a trace through many models, and yields each Scenario as it comes, in the order of the models. They are a dict by label, or a list,
     labelled 1, 2 and so on, of any length.
 
     mpsweep runs them, 64 per call. It writes no job lines, so with `jobs` each model is run by mpsim instead, which takes longer, and its report has
-    the visits. A model that is refused, or whose run is, gives a Scenario with its status. Other exceptions of `run` end the sweep: a file that can't
-    be read, lack of memory, and a timeout, which counts all runs together. If the trace is a list of rows, the first model gives the order of their
-    columns. To stop early, drop the iterator or close it (`contextlib.closing`), which ends the program.
+    the visits. `processes` (int) of these calls run at once; the scenarios and their order are the same. A model that is refused, or whose run is,
+    gives a Scenario with its status. Other exceptions of `run` end the sweep: a file that can't be read, lack of memory, and a timeout, which counts
+    all runs together. If the trace is a list of rows, the first model gives the order of their columns. To stop early, drop the iterator or close it
+    (`contextlib.closing`), which ends the program.
 
     >>> import mpsim
     >>> models = mpsim.variants("model 1\\nsource door\\nserver desk ={ticks} from door\\n", ticks=[1, 2, 4])
@@ -172,22 +227,26 @@ def scenarios(trace: TraceInput, models: Models, *, jobs: bool = False, timeout:
     if isinstance(models, (str, bytes, Model)) or not isinstance(models, Iterable):
         raise TypeError("models are a dict or a list of models")
     labelled = list(models.items() if isinstance(models, Mapping) else enumerate(models, 1))
-    return _scenarios(trace, labelled, jobs, timeout)
+    return _scenarios(trace, labelled, jobs, processes, Clock(tick, start), timeout)
 
 
 def _scenarios(
-    trace: TraceInput, labelled: Sequence[tuple[Hashable, ModelInput]], jobs: bool, timeout: float | None
+    trace: TraceInput, labelled: Sequence[tuple[Hashable, ModelInput]], jobs: bool, processes: int, clock: Clock, timeout: float | None
 ) -> Generator[Scenario, None, None]:
     if not labelled:
         return
-    run_some, step = (_by_mpsim, 1) if jobs else (_by_mpsweep, MODELS)
+    run_some, step = (_by_mpsim, 1) if jobs else (_by_mpsweep, min(MODELS, -(-len(labelled) // max(processes, 1))))
     end = None if timeout is None else time.monotonic() + timeout
-    with _inputs(lambda _: model_input(labelled[0][1]), lambda made: trace_input(trace, made[0])) as (_, rows):
-        for begin in range(0, len(labelled), step):
-            some = labelled[begin : begin + step]
+    with _inputs(lambda _: model_input(labelled[0][1]), lambda made: trace_input(trace, made[0], clock)) as (_, rows):
+
+        def piece(some: Sequence[tuple[Hashable, ModelInput]]) -> Iterator[Scenario]:
             with _inputs(*[lambda _, item=it: model_input(item) for _, it in some]) as texts:
                 left = None if end is None else max(end - time.monotonic(), 0)
                 yield from run_some(rows, texts, [label for label, _ in some], left)
+
+        pieces = (labelled[begin : begin + step] for begin in range(0, len(labelled), step))
+        with contextlib.closing(in_order((partial(piece, some) for some in pieces), processes)) as coming:
+            yield from coming
 
 
 @contextlib.contextmanager

@@ -6,15 +6,18 @@ import os
 from typing import IO, TYPE_CHECKING, Hashable, Iterable, Iterator, List, Mapping, Protocol, Sequence, Union
 
 if TYPE_CHECKING:
+    from .builder import Model
+    from .exports.result import Prepared
     from .inputs import Add, Set
-    from .model import Model
+    from .traces.trace import Trace
 
 # A file's name.
 Path = Union[str, "os.PathLike[str]"]
 # What a call takes as a model, a record of a trace, a trace, edits, many models, and a report.
 ModelInput = Union["Model", str, bytes, bytearray, "os.PathLike[str]"]
 Record = Union[Mapping[str, object], Sequence[object]]
-TraceInput = Union[str, bytes, bytearray, "os.PathLike[str]", "Frame", Iterable[Record]]
+Table = Union["Frame", "ArrowFrame", "InterchangeFrame", Mapping[str, Iterable[object]]]
+TraceInput = Union[str, bytes, bytearray, "os.PathLike[str]", "Prepared", "Trace", "Table", Iterable[Record]]
 EditsInput = Union[str, bytes, bytearray, "os.PathLike[str]", Iterable[Union["Set", "Add", str]]]
 Models = Union[Mapping[Hashable, ModelInput], Iterable[ModelInput]]
 ReportInput = Union[str, bytes, IO[bytes]]
@@ -37,6 +40,18 @@ class FrameColumn(Protocol):
 
     def to_list(self) -> List[object]:
         """Returns the values."""
+
+
+class ArrowFrame(Protocol):
+    """A table that gives its columns as Arrow's C stream."""
+
+    def __arrow_c_stream__(self, requested_schema: object = None) -> object: ...
+
+
+class InterchangeFrame(Protocol):
+    """A table that gives its columns by the interchange protocol of data frames."""
+
+    def __dataframe__(self, nan_as_null: bool = False, allow_copy: bool = True) -> object: ...
 
 
 class Reader(Protocol):

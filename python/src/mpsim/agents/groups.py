@@ -70,6 +70,9 @@ class Group:
     [0, 13, 7]
     """
 
+    def __repr__(self) -> str:
+        return f"<Group of {len(self.intervals)} agents>"
+
     def __init__(self, agents: Iterable[Agent], priorities: Mapping[str, int] | None = None, choose: str = LONGEST_IDLE) -> None:
         if choose not in (LONGEST_IDLE, FIRST):
             raise ValueError(f"choose {choose!r}: expected {LONGEST_IDLE!r} or {FIRST!r}")

@@ -21,7 +21,7 @@ if TYPE_CHECKING:
 
 def visits_in(report: Report) -> Visits:
     """Returns the visits of a report. Raises ValueError if it has none."""
-    if report.visits is None:
+    if not report.has_visits:
         raise ValueError("the report has no job lines: run mpsim with --jobs")
     return report.visits
 
@@ -46,9 +46,9 @@ def gone_name(pool: str) -> str:
     return f"{pool}_gone"
 
 
-def _loses(report: Nodes, pool: str) -> bool:
-    """Returns whether callers may leave the queue of a pool, in a report or among a model's nodes."""
-    return _kind(report, left_name(pool)) == "split" and _kind(report, gone_name(pool)) == "delay"
+def _loses(nodes: Nodes, pool: str) -> bool:
+    """Returns whether callers may leave the queue of a pool, among the nodes of a report or of a model."""
+    return _kind(nodes, left_name(pool)) == "split" and _kind(nodes, gone_name(pool)) == "delay"
 
 
 def end_names(pool: str, agents: int) -> list[str]:
@@ -69,28 +69,29 @@ def pooled(report: Report, pool: str) -> NodeVisits:
     >>> [(it.arrive, it.wait, it.depart) for it in pooled(report, "desk")]
     [(0, 0, 9), (2, 7, 13)]
     """
-    if _kind(report, pool) == "trunk" and _kind(report, queue_name(pool)) == "delay":
+    if _kind(report.by_name, pool) == "trunk" and _kind(report.by_name, queue_name(pool)) == "delay":
         return _of_trunk_group(report, pool)
     visits = visits_in(report)
-    agents = [visits[agent] for agent in agents_of(report, pool)]
+    agents = [visits[agent] for agent in agents_of(report.by_name, pool)]
     if not agents:
         names = ", ".join(node.name for node in report.nodes)
         raise ValueError(f"the report has no pool {pool!r}, neither as a trunk group nor as a server per agent; its nodes are {names}")
-    if len(agents) > 1 and queue_name(pool) not in report:
+    if len(agents) > 1 and queue_name(pool) not in report.by_name:
         more = f"which mpplan pool would have put upstream of the servers {agent_name(pool, 1)} to {agent_name(pool, len(agents))}"
         raise ValueError(f"the report has no pool {pool!r}: it lacks the node {queue_name(pool)}, {more}")
     # A pool of one agent has no split.
     return _of_agents(pool, visits.get(queue_name(pool), agents[0]), agents)
 
 
-def _kind(report: Nodes, name: str) -> str | None:
-    return report[name].kind if name in report else None
+def _kind(nodes: Nodes, name: str) -> str | None:
+    return nodes[name].kind if name in nodes else None
 
 
-def agents_of(report: Nodes, pool: str) -> list[str]:
-    """Returns the servers (list of str) of a pool with a server per agent, from a report or from a model's nodes (dict of ModelNode by name)."""
+def agents_of(nodes: Nodes, pool: str) -> list[str]:
+    """Returns the servers (list of str) of a pool with a server per agent, from the nodes of a report (`by_name`) or of a model (dict of ModelNode by
+    name)."""
     agents: list[str] = []
-    while _kind(report, agent_name(pool, len(agents) + 1)) == "server":
+    while _kind(nodes, agent_name(pool, len(agents) + 1)) == "server":
         agents.append(agent_name(pool, len(agents) + 1))
     return agents
 
@@ -102,16 +103,16 @@ def _named_as_pools(report: Report) -> Iterator[str]:
         if not item.name.endswith(queue_name("")):
             continue
         pool = item.name.removesuffix(queue_name(""))
-        if item.kind == "delay" and _kind(report, pool) == "trunk":
+        if item.kind == "delay" and _kind(report.by_name, pool) == "trunk":
             arguments = [node.arguments for node in nodes_of(report.model) if node.name == item.name] if report.model else []
             if arguments not in ([], [f"{pool}_wait"]):
                 continue
             agents = [pool]
         elif item.kind == "split":
-            agents = agents_of(report, pool)
+            agents = agents_of(report.by_name, pool)
         else:
             continue
-        if agents and item.out == sum(report[name].in_ for name in agents):
+        if agents and item.out == sum(report.by_name[name].in_ for name in agents):
             yield pool
 
 
@@ -137,7 +138,7 @@ def know_model(report: Report, text: str) -> None:
 
 
 def _lost(report: Report, pool: str) -> int:
-    return report[pool].lost if _kind(report, pool) == "trunk" else 0
+    return report.by_name[pool].lost if _kind(report.by_name, pool) == "trunk" else 0
 
 
 class PoolLines:
@@ -154,11 +155,11 @@ class PoolLines:
         for pool in _named_as_pools(report):
             if self._names and pool not in self._names:
                 continue
-            agents = agents_of(report, pool)
-            where = queue_name(pool) if _kind(report, pool) == "trunk" else f"{agents[0]} to {agents[-1]}"
+            agents = agents_of(report.by_name, pool)
+            where = queue_name(pool) if _kind(report.by_name, pool) == "trunk" else f"{agents[0]} to {agents[-1]}"
             self._where.setdefault(pool, where)
             self._lost[pool] = max(self._lost.get(pool, 0), _lost(report, pool))
-            self._lacks |= report.visits is None and not _lost(report, pool)
+            self._lacks |= not report.has_visits and not _lost(report, pool)
 
     def lines(self) -> Iterator[str]:
         """Yields a line (str) per pool."""
@@ -189,8 +190,8 @@ def pool_lines(reports: Iterable[Report], names: Collection[str] = (), lacks: bo
 def parts(report: Report, pool: str) -> list[str]:
     """Returns the nodes (list of str) that a pool replaces: its queue, and its trunk group or the delays that gather its agents' outputs."""
     # If nothing reads the agents' outputs, no node has the pool's name.
-    ends = end_names(pool, len(agents_of(report, pool))) if _kind(report, pool) == "delay" else ()
-    return [queue_name(pool), pool, *ends, *((left_name(pool), gone_name(pool)) if _loses(report, pool) else ())]
+    ends = end_names(pool, len(agents_of(report.by_name, pool))) if _kind(report.by_name, pool) == "delay" else ()
+    return [queue_name(pool), pool, *ends, *((left_name(pool), gone_name(pool)) if _loses(report.by_name, pool) else ())]
 
 
 def names_of(report: Report, nodes: Collection[str] = ()) -> list[str]:
@@ -215,6 +216,11 @@ def names_of(report: Report, nodes: Collection[str] = ()) -> list[str]:
     return [name for name in every if name in nodes]
 
 
+def pool_nodes(report: Report) -> dict[str, Node]:
+    """Returns the pools of a report (dict of Node by name), each with the figures of the whole."""
+    return {pool: _node(report, pool) for pool in pools(report)}
+
+
 def with_pools(report: Report, nodes: Collection[str] = ()) -> dict[str, Node]:
     """Returns the nodes of a report that `names_of` gives (dict of str to Node), with a Node of kind "pool" in place of each pool's `parts`. Without
     visits its percentiles and `max` are None; its `peak` always is.
@@ -226,15 +232,14 @@ def with_pools(report: Report, nodes: Collection[str] = ()) -> dict[str, Node]:
     >>> with_pools(report)["desk"].kind, with_pools(report)["desk"].p90
     ('pool', 7)
     """
-    known = pools(report)
-    return {name: _node(report, name) if name in known else report[name] for name in names_of(report, nodes)}
+    return {name: report[name] for name in names_of(report, nodes)}
 
 
 def beside_pools(report: Report) -> list[Node]:
     """Returns all nodes of a report (list of Node), in its order, with each pool in place of the node of its name, or before its queue if there is
     none. The pool's other nodes stay, because the network shows them."""
-    made = {pool: _node(report, pool) for pool in pools(report)}
-    before = {queue_name(name): it for name, it in made.items() if name not in report}
+    made = pool_nodes(report)
+    before = {queue_name(name): it for name, it in made.items() if name not in report.by_name}
     return [node for item in report.nodes for node in (before.get(item.name), made.get(item.name, item)) if node is not None]
 
 
@@ -246,48 +251,49 @@ def visits_at(report: Report, names: Iterable[str]) -> list[NodeVisits]:
 
 def _node(report: Report, pool: str) -> Node:
     """Returns a pool as a Node."""
-    queue, is_trunk = report[queue_name(pool)], _kind(report, pool) == "trunk"
-    agents = [report[agent] for agent in ([pool] if is_trunk else agents_of(report, pool))]
+    queue, is_trunk = report.by_name[queue_name(pool)], _kind(report.by_name, pool) == "trunk"
+    agents = [report.by_name[agent] for agent in ([pool] if is_trunk else agents_of(report.by_name, pool))]
     # Jobs in the delay are waiting.
     wait = queue.area if is_trunk else sum(agent.wait for agent in agents)
     busy, area = sum(agent.busy for agent in agents), sum(agent.area for agent in [queue, *agents])
     util = agents[0].util if is_trunk else 10**4 * busy // (len(agents) * report.span) / 10**4 if report.span else None
-    waits = None if report.visits is None else pooled(report, pool).waits()
+    waits = pooled(report, pool).waits() if report.has_visits else None
     longest, p50, p90, p99 = (None if waits is None else percentile_of(waits, item) for item in (100, 50, 90, 99))
-    gone = report[gone_name(pool)].in_ if _loses(report, pool) else 0
+    gone = report.by_name[gone_name(pool)].in_ if _loses(report.by_name, pool) else 0
     out, held = sum(agent.out for agent in agents), agents[0].held
     return Node(pool, "pool", queue.in_ + gone, out, gone, held, wait, longest, p50, p90, p99, busy, area, None, util)
 
 
 def _of_trunk_group(report: Report, pool: str) -> NodeVisits:
-    lost = report[pool].lost
+    lost = report.by_name[pool].lost
     if lost:
         raise ValueError(f"{lost} calls find no free agent at {pool}: the trace was made for another number of agents")
     visits = visits_in(report)
     queue, group = visits[queue_name(pool)], visits[pool]
-    waits = map(int.__sub__, queue.depart, queue.arrive)
-    found = _together(pool, queue, waits, dict(zip(group.job, group.depart)))
-    return _with_gone(found, visits[gone_name(pool)]) if _loses(report, pool) else found
+    waits = map(int.__sub__, queue.raw_depart, queue.arrive)
+    found = _together(pool, queue, waits, dict(zip(group.job, group.raw_depart)))
+    return _with_gone(found, visits[gone_name(pool)]) if _loses(report.by_name, pool) else found
 
 
 def _with_gone(found: NodeVisits, gone: NodeVisits) -> NodeVisits:
     """Returns the visits of a pool with those of callers who left, in order of arrival: they count as lost."""
-    rows = [*zip(found.arrive, found.job, found.wait, found.depart), *((arrive, job, LOST, LOST) for arrive, job in zip(gone.arrive, gone.job))]
+    rows = [*zip(found.arrive, found.job, found.raw_wait, found.raw_depart)]
+    rows += [(arrive, job, LOST, LOST) for arrive, job in zip(gone.arrive, gone.job)]
     every = NodeVisits(found.node)
-    for name, column in zip(("arrive", "job", "wait", "depart"), zip(*sorted(rows, key=lambda row: row[:2]))):
+    for name, column in zip(("arrive", "job", "raw_wait", "raw_depart"), zip(*sorted(rows, key=lambda row: row[:2]))):
         setattr(every, name, array(getattr(found, name).typecode, column))
     return every
 
 
 def _of_agents(pool: str, queue: NodeVisits, agents: Sequence[NodeVisits]) -> NodeVisits:
-    waits = {job: wait for agent in agents for job, wait in zip(agent.job, agent.wait)}
-    ends = {job: depart for agent in agents for job, depart in zip(agent.job, agent.depart)}
+    waits = {job: wait for agent in agents for job, wait in zip(agent.job, agent.raw_wait)}
+    ends = {job: depart for agent in agents for job, depart in zip(agent.job, agent.raw_depart)}
     return _together(pool, queue, map(waits.__getitem__, queue.job), ends)
 
 
 def _together(pool: str, queue: NodeVisits, waits: Iterable[int], ends: Mapping[int, int]) -> NodeVisits:
     """Returns the visits of a pool from those to its queue (NodeVisits), with their waits and, by record, the ends of their services."""
     found = NodeVisits(pool)
-    found.job, found.arrive, found.wait = queue.job, queue.arrive, array("q", waits)
-    found.depart = array("q", map(ends.__getitem__, queue.job))
+    found.job, found.arrive, found.raw_wait = queue.job, queue.arrive, array("q", waits)
+    found.raw_depart = array("q", map(ends.__getitem__, queue.job))
     return found

@@ -71,6 +71,9 @@ class Queue:
 
     path: Path | None
 
+    def __repr__(self) -> str:
+        return f"<Queue of {len(self.jobs)} calls at {self.node}>"
+
     def __init__(self, model: ModelInput, trace: Trace, node: str) -> None:
         self.text, self.trace, self.node = model_text(model), trace, node
         self.path = model if isinstance(model, os.PathLike) or isinstance(model, str) and "\n" not in model else None
@@ -193,7 +196,7 @@ def calls_at(report: Report, node: str, pool: str, demand: str, trace: Trace) ->
     """Returns the calls of a pool (str) that arrive at a node (str), from a report with visits: their records (from 1), their arrivals, and their
     service times in the trace (Trace) of the run (lists of int). Raises ValueError if a job arrives there more than once."""
     # A network without jobs has no job lines.
-    visits = report.visits[node] if report.visits else NodeVisits(node)
+    visits = report.visits[node] if report.has_visits and report.visits else NodeVisits(node)
     jobs = list(visits.job)
     if len(set(jobs)) < len(jobs):
         raise ValueError(f"a job visits {pool} more than once, but its record has room for only one wait")

@@ -64,7 +64,7 @@ def model_pools(model: ModelInput, trace: Trace) -> list[ModelPool]:
     if groups := [name for name, *_, end in found if name == end]:
         with contextlib.suppress(ModelError, TraceError, BoundError, VisitsError):
             report = run(front(text, groups), trace.lines())
-            lost = {name: report[name].lost for name in groups}
+            lost = {name: report.by_name[name].lost for name in groups}
     return [ModelPool(name, agents, demand, front(text, [end])) for name, agents, demand, end in found if not lost.get(name)]
 
 
@@ -107,7 +107,7 @@ def carried(report: Report, pool: str, pieces: Sequence[Sequence[int]]) -> int:
     came = {job: (arrive, depart) for job, arrive, depart in _columns(report, queue_name(pool))}
     ends = {job: depart for job, _, depart in _columns(report, pool)}
     calls = [(arrive, ends[job], begin, job) for job, (arrive, begin) in came.items()]
-    if gone_name(pool) in report:
+    if gone_name(pool) in report.by_name:
         calls += [(arrive, depart, arrive, job) for job, arrive, depart in _columns(report, gone_name(pool))]
     calls.sort()
     piece_of = {record + 1: number for number, records in enumerate(pieces) for record in records}
@@ -128,8 +128,8 @@ def carried(report: Report, pool: str, pieces: Sequence[Sequence[int]]) -> int:
 
 
 def _columns(report: Report, node: str) -> Iterator[tuple[int, int, int]]:
-    visits = report.visits[node] if report.visits else NodeVisits(node)
-    return zip(visits.job, visits.arrive, visits.depart)
+    visits = report.visits[node] if report.has_visits and report.visits else NodeVisits(node)
+    return zip(visits.job, visits.arrive, visits.raw_depart)
 
 
 def _named(nodes: Mapping[str, ModelNode]) -> Iterator[tuple[str, int, str, str]]:

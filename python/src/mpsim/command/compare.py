@@ -42,7 +42,7 @@ def main(args: Namespace) -> None:
     found = compare(reports, args.figure, args.node)
     for line in pool_lines(reports, args.node):
         say(line)
-    if args.figure in ("max", "p50", "p90", "p99") and any(pools(report) and report.visits is None for report in reports):
+    if args.figure in ("max", "p50", "p90", "p99") and any(pools(report) and not report.has_visits for report in reports):
         say(f"a pool's {args.figure} needs job lines: run mpsim with --jobs")
     if args.csv or args.format != "csv" or args.csv_style != "plain":
         write_table(differences(labels, found), args.format, args.csv_style)

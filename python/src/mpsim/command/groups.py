@@ -142,7 +142,7 @@ def rows_of_group(args: Namespace) -> list[Row]:
     # The program must find that no call is lost.
     with locating_errors(made, model=args.model):
         report = run(model.encode(errors="surrogateescape"), made.lines(), jobs=False)
-    if lost := report[args.node].lost:
+    if lost := report.by_name[args.node].lost:
         raise ValueError(f"{counted(lost, 'call')} found no free agent: this is a mistake in mpplan")
     with all_written(args.out, args.out_model) as (out, out_model):
         if out:

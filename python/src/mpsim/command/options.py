@@ -3,6 +3,7 @@
 from __future__ import annotations
 
 import argparse
+import re
 from typing import TYPE_CHECKING, NamedTuple
 
 from ..tables.sheets import STYLES
@@ -51,6 +52,13 @@ def percentile_word(parser: ArgumentParser, what: str = "waits") -> None:
     """Declares --percentile."""
     says = f"percentile of the {what} to report (default: 50, 90, 95 and 99); may be repeated"
     parser.add_argument("--percentile", type=float, action=Once, metavar="P", help=says)
+
+
+def positive(text: str) -> int:
+    """Returns a whole number above 0. Raises ArgumentTypeError for another text."""
+    if not re.fullmatch("[1-9][0-9]{0,5}", text):
+        raise argparse.ArgumentTypeError(f"{text}: expected a whole number, 1 or more")
+    return int(text)
 
 
 class Time(NamedTuple):

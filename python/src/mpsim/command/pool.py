@@ -76,10 +76,10 @@ def _of_report(args: Namespace, within: Sequence[int], percents: Sequence[float]
     if args.model or args.agents or args.out or args.out_model:
         raise ValueError("--report reads a pool that has been run: give no model, trace, --agents, --out or --out-model with it")
     report = Report.read(args.report)
-    if report.visits is None:
+    if not report.has_visits:
         raise ValueError(f"{args.report}: the report has no job lines: run mpsim with --jobs")
     visits = pooled(report, args.node)
-    return [["node", *heads(within, percents)], [args.node, *figures(visits.wait, within, percents)]]
+    return [["node", *heads(within, percents)], [args.node, *figures(visits.raw_wait, within, percents)]]
 
 
 def _of_agents(args: Namespace, within: Sequence[int], percents: Sequence[float]) -> tuple[list[Row], str | None]:

@@ -22,9 +22,9 @@ def report_of(args: Namespace) -> Report:
     if args.trace is not None:
         return run(args.report, args.trace, jobs=True)
     report = Report.read(args.report)
-    if report.visits is None and report.jobs:
+    if not report.has_visits and report.jobs:
         raise ValueError(f"{args.report}: the report has no job lines: run mpsim with --jobs")
-    if report.visits is None:
+    if not report.has_visits:
         # Without jobs there are no job lines.
         report.visits = Visits((node.name, NodeVisits(node.name)) for node in report.nodes)
     return report

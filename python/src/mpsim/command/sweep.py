@@ -4,11 +4,13 @@ from __future__ import annotations
 
 import os
 import shlex
+from functools import partial
 from typing import TYPE_CHECKING
 
 from ..agents.pools import PoolLines
 from ..errors import Error
 from ..files import judge_outputs, written
+from ..parallel import in_order
 from ..progress import Progress
 from ..sweeps.local import label_of, pools_again, scenarios_in, shares_of
 from ..sweeps.plans import Plan, files_of, sets_of
@@ -18,11 +20,14 @@ from ..tables.sheets import Writer
 from ..traces.trace import header_of, pool_warning
 from .machines import by_parallel, by_slurm
 from .messages import say
-from .options import resolve_within, style_words, within_word
+from .options import positive, resolve_within, style_words, within_word
 
 if TYPE_CHECKING:
     from argparse import ArgumentParser, Namespace
-    from collections.abc import Iterable, Mapping, Sequence
+    from collections.abc import Iterable, Iterator, Mapping, Sequence
+
+    from ..sweeps.plans import TraceFile
+    from ..sweeps.results import Scenario
 
 EXAMPLE = """mpplan sweep model.txt trace.csv --set agents=20..40 --page sweep.html >table.csv
          mpplan sweep model.txt monday.csv --trace tuesday.csv --set agents=20..40 --folder sweep --parallel='--jobs 4' >table.csv
@@ -42,6 +47,7 @@ def words(parser: ArgumentParser) -> None:
     alone = "only rows of this node or pool; may be repeated; --folder stores it with the sweep"
     parser.add_argument("--node", action="append", default=[], metavar="NAME", help=alone)
     within_word(parser, "takes longer: add two columns with the share served within")
+    parser.add_argument("--jobs", type=positive, default=1, metavar="N", help="run this many calls of mpsweep at once, here; default: 1")
     parser.add_argument("--page", metavar="FILE", help="also write an HTML page with curves over the values")
     style_words(parser)
     folder = parser.add_argument_group("sweeps of any size, on any machines")
@@ -63,6 +69,8 @@ def _judged(args: Namespace) -> None:
         raise ValueError("--page and --within can't be used with --folder: they are made from what memory holds")
     if goes_on and (args.model or args.set or args.models or args.traces):
         raise ValueError(f"{args.folder} already has its models, values and traces: give none with --resume, --table or --shard")
+    if args.jobs > 1 and (args.parallel is not None or args.slurm is not None or args.table or args.shard is not None):
+        raise ValueError("--jobs can't be used with --parallel, --slurm, --table or --shard")
     if args.parallel is not None and args.slurm is not None:
         raise ValueError("--parallel and --slurm exclude each other: give one of them")
 
@@ -102,18 +110,21 @@ def _in_memory(args: Namespace) -> int:
         writer, done = Writer(file, args.csv_style), 0
         again = {trace["path"] for trace in plan.traces if pools_again(plan, trace)}
         writer.writerow(head)
-        for shard in range(1, plan.shards + 1):
-            trace = plan.shard(shard)[0]
-            for at, it in scenarios_in(plan, shard, args.within is not None, again):
-                found = rows_of(plan, trace, at, it, pool_notes, args.node)
-                if args.within is not None:
-                    shares = list(shares_of(it.report, args.within, args.node)) if it.report is not None else [[None, None]]
-                    found = [[*row[:-1], *both, row[-1]] for row, both in zip(found, shares)]
-                writer.writerows(found)
-                refused, done = refused or it.status != 0, done + 1
-                if args.page:
-                    kept[label_of(plan, trace, at)] = it
-                progress(done)
+
+        def piece(trace: TraceFile, models: range) -> Iterator[tuple[TraceFile, int, Scenario]]:
+            return ((trace, at, it) for at, it in scenarios_in(plan, trace, models, args.within is not None, again))
+
+        tasks = (partial(piece, trace, models) for trace, models in plan.pieces(args.jobs))
+        for trace, at, it in in_order(tasks, args.jobs):
+            found = rows_of(plan, trace, at, it, pool_notes, args.node)
+            if args.within is not None:
+                shares = list(shares_of(it.report, args.within, args.node)) if it.report is not None else [[None, None]]
+                found = [[*row[:-1], *both, row[-1]] for row, both in zip(found, shares)]
+            writer.writerows(found)
+            refused, done = refused or it.status != 0, done + 1
+            if args.page:
+                kept[label_of(plan, trace, at)] = it
+            progress(done)
     _print_pools(pool_notes, "give mpplan sweep --within")
     if args.page:
         kept.save(args.page, title=" ".join(args.set) or None, within=args.within)
@@ -135,15 +146,22 @@ def _cleared(folder: Folder) -> None:
             os.unlink(path)
 
 
-def _here(folder: Folder, lacking: Sequence[int]) -> None:
-    """Runs one shard after another. If one fails, the others still run."""
+def _here(folder: Folder, lacking: Sequence[int], jobs: int) -> None:
+    """Runs the shards, this many at once. If one fails, the others still run."""
+
+    def attempt(shard: int) -> list[str | None]:
+        try:
+            run_shard(folder, shard)
+        except (Error, OSError, ValueError) as error:
+            return [f"shard {shard}: {one_line(error)}"]
+        return [None]
+
     with Progress(len(lacking), "shards") as progress:
-        for done, shard in enumerate(lacking):
+        progress(0)
+        for done, failure in enumerate(in_order((partial(attempt, shard) for shard in lacking), jobs), 1):
+            if failure:
+                say(failure)
             progress(done)
-            try:
-                run_shard(folder, shard)
-            except (Error, OSError, ValueError) as error:
-                say(f"shard {shard}: {one_line(error)}")
 
 
 def _run(args: Namespace, folder: Folder) -> None:
@@ -156,7 +174,7 @@ def _run(args: Namespace, folder: Folder) -> None:
     elif lacking and args.slurm is not None:
         by_slurm(folder, lacking, shlex.split(args.slurm))
     else:
-        _here(folder, lacking)
+        _here(folder, lacking, args.jobs)
 
 
 def ranges(numbers: Iterable[int], most: int = 20) -> str:

@@ -52,13 +52,13 @@ class _Words(NamedTuple):
     tick: str | None
     begin: str
     source: str | None
-    demand: Iterable[str]
-    end: Sequence[str]
+    demand: str | Iterable[str]
+    end: str | Sequence[str]
     answered: str | Iterable[str]
-    constant: Iterable[str]
-    code: Iterable[str]
+    constant: str | Iterable[str]
+    code: str | Iterable[str]
     empty: str | None
-    rename: Iterable[str]
+    rename: str | Iterable[str]
     decimal: str | None
     delimiter: str | None
     encoding: str | None
@@ -66,7 +66,7 @@ class _Words(NamedTuple):
     header: str | None
     model: str | None
     left_out: TextIO | None
-    where: Iterable[str]
+    where: str | Iterable[str]
     begins: str | None
     until: str | None
     far: bool
@@ -75,14 +75,14 @@ class _Words(NamedTuple):
     sheet: str | None
     fixed: str | None
     wait: str | Iterable[str]
-    abandoned: Sequence[str]
+    abandoned: str | Iterable[str]
     unit: str | None
     steps: str | None
     event: str | None
-    arrive_event: Sequence[str]
-    begin_event: Sequence[str]
-    end_event: Sequence[str]
-    abandon_event: Sequence[str]
+    arrive_event: str | Iterable[str]
+    begin_event: str | Iterable[str]
+    end_event: str | Iterable[str]
+    abandon_event: str | Iterable[str]
     route: str | None
 
 
@@ -99,13 +99,13 @@ def prepare(
     tick: str | None = None,
     begin: str = "hour",
     source: str | None = None,
-    demand: Iterable[str] = (),
-    end: Sequence[str] = (),
+    demand: str | Iterable[str] = (),
+    end: str | Sequence[str] = (),
     answered: str | Iterable[str] = (),
-    constant: Iterable[str] = (),
-    code: Iterable[str] = (),
+    constant: str | Iterable[str] = (),
+    code: str | Iterable[str] = (),
     empty: str | None = None,
-    rename: Iterable[str] = (),
+    rename: str | Iterable[str] = (),
     decimal: str | None = None,
     delimiter: str | None = None,
     encoding: str | None = None,
@@ -113,7 +113,7 @@ def prepare(
     header: str | None = None,
     model: str | None = None,
     left_out: TextIO | None = None,
-    where: Iterable[str] = (),
+    where: str | Iterable[str] = (),
     begins: str | None = None,
     until: str | None = None,
     far: bool = False,
@@ -122,25 +122,32 @@ def prepare(
     sheet: str | None = None,
     fixed: str | None = None,
     wait: str | Iterable[str] = (),
-    abandoned: Sequence[str] = (),
+    abandoned: str | Iterable[str] = (),
     unit: str | None = None,
     steps: str | None = None,
     event: str | None = None,
-    arrive_event: Sequence[str] = (),
-    begin_event: Sequence[str] = (),
-    end_event: Sequence[str] = (),
-    abandon_event: Sequence[str] = (),
+    arrive_event: str | Iterable[str] = (),
+    begin_event: str | Iterable[str] = (),
+    end_event: str | Iterable[str] = (),
+    abandon_event: str | Iterable[str] = (),
     route: str | None = None,
 ) -> Prepared:
     """Returns the trace (Prepared) made from an export, which is a path or bytes.
 
-    The other arguments are the options of `mpplan prepare`, as texts, except that `begins` is --from, `day` is a list of three, `model` is the text
-    of a model, `left_out` is an open file for the rows left out, and `far` is a bool. Raises OSError if the export can't be read, and ValueError for
-    an invalid option, if another is needed, or if too few rows are left.
+    The other arguments are the options of `mpplan prepare`, as texts, or lists of texts for those that may be repeated, except that `begins` is
+    --from, `day` is a list of three, `model` is the text of a model, `left_out` is an open file for the rows left out, and `far` is a bool. Raises
+    OSError if the export can't be read, and ValueError for an invalid option, if another is needed, or if too few rows are left.
 
     >>> export = b"When;Who;Long\\n02.03.2026 08:00:17;Desk;1,5\\n02.03.2026 08:00:05;Desk;0,5\\n"
-    >>> list(prepare(export, "When", source="Who", demand=["Long=talk:min"]).rows())
+    >>> trace = prepare(export, "When", source="Who", demand="Long=talk:min")
+    >>> list(trace.rows())
     [('desk', 5, 30), ('desk', 17, 90)]
+
+    A call such as `mpsim.run` takes it as its trace:
+
+    >>> import mpsim
+    >>> mpsim.run("model 1\\nsource desk\\nserver agent talk from desk\\n", trace)["agent"].max
+    18
     """
     [(_, made)] = _made(None, _Words(**locals()))
     return made
@@ -218,16 +225,20 @@ def _in_parts(plan: Plan, by: str, most: float, words: _Words) -> Iterator[tuple
 def _planned(table: Table, place: Zone, per: int, words: _Words) -> Plan:
     """Returns the Plan for a table."""
     plan = Plan(table, place, per, words.format, words.decimal, words.model)
-    plan.where(words.where)
-    answered, wait = ([item] if isinstance(item, str) else list(item) for item in (words.answered, words.wait))
-    plan.times(words.time, words.date, words.date_format, words.day, answered)
-    plan.values(words.demand, words.end, words.constant, words.code, words.empty)
-    plan.waits(wait, words.abandoned)
-    kinds = words.arrive_event, words.begin_event, words.end_event, words.abandon_event
+    plan.where(_each(words.where))
+    plan.times(words.time, words.date, words.date_format, words.day, _each(words.answered))
+    plan.values(_each(words.demand), _each(words.end), _each(words.constant), _each(words.code), words.empty)
+    plan.waits(_each(words.wait), _each(words.abandoned))
+    kinds = [_each(kind) for kind in (words.arrive_event, words.begin_event, words.end_event, words.abandon_event)]
     plan.events(words.unit, words.steps, words.event, kinds, words.route)
-    plan.sources(words.source, words.rename)
+    plan.sources(words.source, _each(words.rename))
     plan.between(words.begins, words.until)
     return plan
+
+
+def _each(value: str | Iterable[str]) -> list[str]:
+    """Returns the values of an option that may be repeated."""
+    return [value] if isinstance(value, str) else list(value)
 
 
 def _tick(tick: str | None, model: str | None) -> int:

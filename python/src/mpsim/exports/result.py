@@ -7,6 +7,7 @@ from itertools import chain
 from typing import TYPE_CHECKING
 
 from ..times.calendar import first_lines, with_settings
+from ..wording import table_of
 from .codes import line_of, with_codes, word_of
 
 if TYPE_CHECKING:
@@ -42,6 +43,12 @@ class Prepared:
         self.header, self.names, self.tick, self.zone, self.codes = header, names, tick, zone, {}
         self.sources, self.times, self.values = [], array("q"), [array("q") for _ in header[2:]]
         self.told, self.warned, self.unlike, self.left, self.texts, self.zero = [], [], [], {}, {}, None
+
+    def __repr__(self) -> str:
+        return f"<Prepared of {len(self)} records, columns {', '.join(self.header)}>"
+
+    def _repr_html_(self) -> str:
+        return table_of(self.header, self.rows(), len(self))
 
     def __len__(self) -> int:
         return len(self.times)

@@ -12,7 +12,7 @@ from ..agents.pools import beside_pools, pool_lines
 from ..files import written
 from .colours import in_light, style
 from .flows import flows
-from .network import arguments_of, network, nodes_that_are_drawn
+from .network import arguments_of, network, network_of_model, nodes_that_are_drawn
 from .pictures import NUMBERS, pictures_of
 from .parts import part, policy, shown_text
 from .tables import columns_of, exits_table, facts, legend, nodes_table
@@ -165,6 +165,12 @@ def drawing(report: Report) -> str:
     rules = in_light(part("piece.css"))
     ground = in_light('<rect width="100%" height="100%" fill="var(--paper)"/>')
     return f'{head}><style>{rules}</style>{ground}<g class="mpsim">{body.removesuffix("</svg>")}</g></svg>\n'
+
+
+def model_piece(text: str) -> str:
+    """Returns what a notebook shows of a model's text (str): the network, without figures. Raises ValueError if the text isn't a model."""
+    svg = network_of_model(text)
+    return f'<div class="mpsim piece"><style>{style()}{part("piece.css")}</style><div class="scroll">{svg}</div></div>'
 
 
 def piece(report: Report) -> str:

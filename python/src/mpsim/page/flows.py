@@ -17,7 +17,7 @@ def flows(nodes: Iterable[ModelNode], report: Report) -> dict[tuple[str, int], i
     for a split and a join the report counts all outputs together, so each is derived from the node that reads it."""
     known = {(item.name, item.output): item.jobs for item in report.exits}
     for node in nodes:
-        line = report[node.name]
+        line = report.by_name[node.name]
         if node.kind in ("loss", "trunk"):
             known[node.name, 0], known[node.name, 1] = line.out, line.lost
         elif node.kind == "fork":
@@ -28,9 +28,9 @@ def flows(nodes: Iterable[ModelNode], report: Report) -> dict[tuple[str, int], i
     while len(known) > before:
         before = len(known)
         for node in nodes:
-            _by_sum(known, node.inputs, report[node.name].in_)
+            _by_sum(known, node.inputs, report.by_name[node.name].in_)
             if node.kind == "split":
-                _by_sum(known, [(node.name, number) for number in range(node.outputs)], report[node.name].out)
+                _by_sum(known, [(node.name, number) for number in range(node.outputs)], report.by_name[node.name].out)
     return known
 
 

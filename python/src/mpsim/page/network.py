@@ -11,7 +11,7 @@ from .layers import HIGH, WIDE, Layout
 from .tables import shown
 
 if TYPE_CHECKING:
-    from collections.abc import Iterable, Sequence
+    from collections.abc import Iterable, Mapping, Sequence
 
     from ..lines import Node
     from ..model import ModelNode
@@ -72,8 +72,8 @@ def _servers(node: ModelNode) -> int | None:
 def unlike(report: Report) -> str | None:
     """Returns the name of the first node whose utilisation doesn't fit the number of servers in the model, or None."""
     for node in nodes_that_are_drawn(report) if report.span else ():
-        count, util = _servers(node), report[node.name].util
-        if count and util is not None and round(10**4 * util) != 10**4 * report[node.name].busy // (count * report.span):
+        count, util = _servers(node), report.by_name[node.name].util
+        if count and util is not None and round(10**4 * util) != 10**4 * report.by_name[node.name].busy // (count * report.span):
             return node.name
     return None
 
@@ -84,17 +84,27 @@ def network(report: Report, lines: Iterable[Node], chosen: str | None = None, is
     nodes, figures = nodes_that_are_drawn(report), {line.name: line for line in lines}
     if not nodes:
         return ""
-    layout, counts, outputs = Layout(nodes), flows(nodes, report), {node.name: node.outputs for node in nodes}
-    most = max([*counts.values(), 1])
+    return _svg(nodes, figures, flows(nodes, report), chosen, is_still)
+
+
+def network_of_model(text: str) -> str:
+    """Returns the SVG (str) of a model's text, without figures. Raises ValueError if the text isn't a model."""
+    return _svg(nodes_of(text), {}, None, None, True)
+
+
+def _svg(
+    nodes: Sequence[ModelNode], figures: Mapping[str, Node], counts: Mapping[tuple[str, int], int] | None, chosen: str | None, is_still: bool
+) -> str:
+    layout, outputs = Layout(nodes), {node.name: node.outputs for node in nodes}
     # A wide network shrinks to the page, as long as its text stays legible, and then scrolls.
     size = f'viewBox="0 0 {layout.width:.0f} {layout.height:.0f}" width="{layout.width:.0f}" style="min-width:{0.72 * layout.width:.0f}px"'
     parts = [f'<svg class="network" {size} role="group" aria-label="Network of {len(nodes)} nodes">']
-    parts += [_line(it, [layout.places[name] for name in it.path], counts.get(it.output), most, outputs[it.output[0]]) for it in layout.lines]
-    parts += [_box(figures[node.name], node, layout.places[node.name], node.name == chosen, is_still) for node in nodes]
+    parts += [_line(it, [layout.places[name] for name in it.path], counts, outputs[it.output[0]]) for it in layout.lines]
+    parts += [_box(figures.get(node.name), node, layout.places[node.name], node.name == chosen, is_still) for node in nodes]
     return "".join(parts) + "</svg>"
 
 
-def _line(line: Line, places: Sequence[tuple[float, float]], count: int | None, most: int, outputs: int) -> str:
+def _line(line: Line, places: Sequence[tuple[float, float]], counts: Mapping[tuple[str, int], int] | None, outputs: int) -> str:
     name, number = line.output
     (x, y), last = places[0], places[-1]
     x += WIDE
@@ -106,30 +116,31 @@ def _line(line: Line, places: Sequence[tuple[float, float]], count: int | None, 
         path += f"C{middle:.0f} {y:.1f} {middle:.0f} {to_y:.1f} {end} {to_y:.1f}" + ("" if is_last else f"h{WIDE}")
         x, y = to_x + WIDE, to_y
     to_x, to_y = last
-    text = "unknown" if count is None else f"{count:,}"
+    count, most = (counts or {}).get(line.output), max([*(counts or {}).values(), 1])
+    text = "" if counts is None else "unknown " if count is None else f"{count:,} "
     if line.is_read:
         tip = f'<path class="tip" d="M{to_x - 8} {to_y - 5:.1f}l8 5l-8 5z"/>'
     else:
         tip = f'<circle class="tip" cx="{to_x + 3}" cy="{to_y:.1f}" r="4"/>'
-        tip += f'<text class="flow leave" x="{to_x + 11}" y="{to_y + 4:.1f}">{text} leave</text>'
+        tip += f'<text class="flow leave" x="{to_x + 11}" y="{to_y + 4:.1f}">{text}leave</text>'
     # The number of the output is near the next layer, where the lines of a split have separated.
     near_x, near_y = places[1]
     port = f'<text class="flow" x="{near_x - 12}" y="{near_y - 7:.1f}" text-anchor="end">.{number}</text>' if outputs > 1 and number else ""
-    label = f"<title>output {number}: {text} jobs</title>"
+    label = f"<title>output {number}{'' if counts is None else f': {text}jobs'}</title>"
     drawn = f'<path d="{path}" stroke-width="{1 + 5 * (count or 0) / most:.1f}"/>'
     return f'<g class="edge{" none" if count == 0 else ""}" data-flow="{name}.{number}">{label}{drawn}{tip}{port}</g>'
 
 
-def _box(line: Node, node: ModelNode, place: tuple[float, float], is_chosen: bool, is_still: bool) -> str:
+def _box(line: Node | None, node: ModelNode, place: tuple[float, float], is_chosen: bool, is_still: bool) -> str:
     x, middle = place
-    top, said, left = middle - HIGH / 2, escape(said_of(line)), x + INDENT.get(node.kind, 10)
+    top, said, left = middle - HIGH / 2, escape(said_of(line) if line else f"{node.name}, {arguments_of(node)}"), x + INDENT.get(node.kind, 10)
     parts = [f'<title>{said}</title><rect class="box" x="{x}" y="{top:.1f}" width="{WIDE}" height="{HIGH}" rx="{ROUND.get(node.kind, 8)}"/>']
-    rows = ("name", 18, _shortened(node.name, 14)), ("kind", 33, arguments_of(node)), ("figures", 46, figures_of(line))
+    rows = ("name", 18, _shortened(node.name, 14)), ("kind", 33, arguments_of(node)), ("figures", 46, figures_of(line) if line else "")
     parts += [f'<text class="{kind}" x="{left}" y="{top + down:.1f}">{escape(text)}</text>' for kind, down, text in rows]
-    if line.util is not None:
+    if line and line.util is not None:
         parts.append(f'<text class="load" x="{x + WIDE - 10}" y="{top + 18:.1f}" text-anchor="end">{int(100 * line.util + 0.5)} %</text>')
         bar = f'x="{x + 10}" y="{top + 51:.1f}" height="5" rx="2.5"'
         parts.append(f'<rect class="rail" {bar} width="{WIDE - 20}"/><rect class="meter" {bar} width="{(WIDE - 20) * min(line.util, 1):.1f}"/>')
     button = "" if is_still else f' tabindex="0" role="button" aria-pressed="{str(is_chosen).lower()}" aria-label="{said}"'
-    kinds = f"node load{step(line.util)}{' marked' if is_chosen else ''}"
+    kinds = f"node load{step(line.util if line else None)}{' marked' if is_chosen else ''}"
     return f'<g class="{kinds}" data-node="{node.name}"{button}>{"".join(parts)}</g>'

@@ -53,7 +53,7 @@ def over_time(visits: NodeVisits, span: int, pieces: int, tick: float | Fraction
     waits_at: dict[str, list[int | None]] = {"p50": [], "p90": [], "max": []}
     for end_time in range(width, span + width + 1, width):
         end = bisect_left(visits.arrive, end_time, begin)
-        waits = sorted(item for item in visits.wait[begin:end] if item >= 0)
+        waits = sorted(item for item in visits.raw_wait[begin:end] if item >= 0)
         came.append(end - begin)
         lost.append(end - begin - len(waits))
         for name, percent in ("p50", 50), ("p90", 90), ("max", 100):
@@ -72,8 +72,8 @@ def number_over_time(visits: NodeVisits, span: int, width: int) -> dict[str, obj
     >>> number_over_time(report.visits["desk"], report.span, 5)
     {'width': 5, 'mean': [1.8, 1.6, 1.0], 'max': [2, 2, 1]}
     """
-    begins = array("q", (arrive for arrive, wait in zip(visits.arrive, visits.wait) if wait != LOST))
-    ends = array("q", sorted(span if wait == HELD else depart for depart, wait in zip(visits.depart, visits.wait) if wait != LOST))
+    begins = array("q", (arrive for arrive, wait in zip(visits.arrive, visits.raw_wait) if wait != LOST))
+    ends = array("q", sorted(span if wait == HELD else depart for depart, wait in zip(visits.raw_depart, visits.raw_wait) if wait != LOST))
     means, greatest, came, gone = [], [], 0, 0
     for begin in range(0, span, width):
         end, first, before = min(begin + width, span), came, gone
@@ -111,7 +111,7 @@ def distribution(visits: NodeVisits, most: int) -> dict[str, object]:
 def pictures_of(report: Report, nodes: Iterable[Node], numbers: int, tick: float | Fraction | None = None) -> dict[str, dict[str, dict[str, object]]]:
     """Returns the charts of those nodes (list of Node) of a report where jobs can stay and did arrive, by name, with about this many numbers in all.
     `tick` is the seconds per tick, if known."""
-    if report.visits is None:
+    if not report.has_visits:
         return {}
     waited = {node.name: node.kind not in WITHOUT_WAITS for node in nodes if node.kind not in PASSED}
     drawn = [visit for visit in visits_at(report, waited) if len(visit)]

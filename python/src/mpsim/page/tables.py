@@ -47,7 +47,7 @@ def columns_of(reports: Iterable[Report], within: int | None = None) -> list[Col
     that."""
     if within is None:
         return COLUMNS
-    if any(report.visits is None for report in reports):
+    if not all(report.has_visits for report in reports):
         raise ValueError("the share within a time needs job lines: use jobs=True or --jobs")
     most = within
     says = f"share of all arrivals served after at most {most} ticks"

@@ -34,10 +34,9 @@ def shares_of(report: Report, ticks: int, nodes: Collection[str]) -> Iterator[Ro
         yield [None if share is None else round(share, 6) for share in shares]
 
 
-def scenarios_in(plan: Plan, shard: int, with_jobs: bool, again: Collection[str]) -> Iterator[tuple[int, Scenario]]:
-    """Yields the scenarios of a shard as they come, with the numbers of their models. `again` has the paths of traces whose pools are worked out
-    again for each model."""
-    trace, models = plan.shard(shard)
+def scenarios_in(plan: Plan, trace: TraceFile, models: range, with_jobs: bool, again: Collection[str]) -> Iterator[tuple[int, Scenario]]:
+    """Yields the scenarios of a trace and up to 64 models of a plan as they come, with the numbers of their models. `again` has the paths of traces
+    whose pools are worked out again for each model."""
     if trace["path"] in again:
         yield from _pooled_again(plan, trace, models, with_jobs)
         return

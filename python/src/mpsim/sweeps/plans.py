@@ -15,7 +15,7 @@ from ..model import in_braces, lines_of
 from ..tables.nodes import heads
 
 if TYPE_CHECKING:
-    from collections.abc import Collection, Iterable, Mapping, Sequence
+    from collections.abc import Collection, Iterable, Iterator, Mapping, Sequence
     from typing import Dict, List, Union
 
     from ..shapes import Path
@@ -181,6 +181,13 @@ class Plan:
         """Returns the trace of a shard, and the numbers of its models (range)."""
         trace, piece = divmod(number - 1, self.a_trace)
         return self.traces[trace], range(piece * MODELS, min((piece + 1) * MODELS, self.each))
+
+    def pieces(self, least: int) -> Iterator[tuple[TraceFile, range]]:
+        """Yields the traces with numbers of models (range) that make up the sweep, in its order: the shards, cut smaller if there would be fewer than
+        `least` (int)."""
+        size = max(1, min(MODELS, -(-self.scenarios // least)))
+        for trace in self.traces:
+            yield from ((trace, range(begin, min(begin + size, self.each))) for begin in range(0, self.each, size))
 
     def head(self) -> list[str]:
         """Returns the names of the table's columns."""

@@ -7,7 +7,9 @@ from collections.abc import Hashable
 from typing import TYPE_CHECKING, Dict, NamedTuple, Optional
 
 from ..errors import Error, ReportError, error_of, read_from
+from ..lines import PASSED
 from ..report import Reading, Report, stream_of, with_model
+from ..wording import counted, table_of
 
 if TYPE_CHECKING:
     from datetime import datetime
@@ -38,6 +40,18 @@ class Scenario(NamedTuple):
     status: int
     report: Optional[Report]
     refusal: Optional[Error]
+
+
+# The figures that a notebook shows of each node.
+SHOWN = "in", "lost", "mean_wait", "p90", "max", "util"
+
+
+def _rows_of(scenario: Scenario) -> list[Sequence[object]]:
+    """Returns the rows of a scenario in a notebook: one per node where jobs can wait or be lost, or one that says why it was refused."""
+    if scenario.report is None:
+        return [[scenario.label, scenario.refusal.told if scenario.refusal else f"status {scenario.status}"]]
+    nodes = [scenario.report[node.name] for node in scenario.report.nodes if node.kind not in PASSED]
+    return [[scenario.label, node.name, node.kind, *map(node.figure, SHOWN)] for node in nodes]
 
 
 class Sweep(Dict[Hashable, Scenario]):
@@ -83,6 +97,14 @@ class Sweep(Dict[Hashable, Scenario]):
             if every.count(label) > 1:
                 raise ValueError(f"the label {label!r} appears twice")
         return cls((it, scenario._replace(label=it)) for it, scenario in zip(labels or range(1, len(found) + 1), found))
+
+    def __repr__(self) -> str:
+        refused = sum(it.status != 0 for it in self.values())
+        return f"<Sweep of {counted(len(self), 'scenario')}{f', {refused} refused' if refused else ''}>"
+
+    def _repr_html_(self) -> str:
+        rows = [row for it in self.values() for row in _rows_of(it)]
+        return table_of(["scenario", "node", "kind", *SHOWN], rows, len(rows), 100)
 
     def reports(self) -> dict[Hashable, Report]:
         """Returns the reports of the scenarios that weren't refused: a dict of Report by label.
@@ -131,11 +153,20 @@ class Sweep(Dict[Hashable, Scenario]):
         save(path, reports.values(), reports, title, tick, start, within)
 
     def to_pandas(self) -> pandas.DataFrame:
-        """Returns a data frame with a row per scenario and node, indexed by both. Raises ImportError if pandas is missing."""
+        """Returns a data frame with a row per scenario and node, indexed by both: the levels are `scenario` and `name`, or, if the labels are tuples
+        of as many values, `scenario_1`, `scenario_2` and so on, and `name`. Labels of which only some are tuples become texts.
+        Raises ImportError if pandas is missing."""
         import pandas
 
         frames = {label: it.to_pandas() for label, it in self.reports().items()}
-        return pandas.concat(frames, names=["scenario", "name"]) if frames else pandas.DataFrame()
+        if not frames:
+            return pandas.DataFrame()
+        sizes = {len(label) if isinstance(label, tuple) else 0 for label in frames}
+        if sizes != {0} and len(sizes) == 1:
+            return pandas.concat(frames, names=[*(f"scenario_{number}" for number in range(1, max(sizes) + 1)), "name"])
+        # A tuple would become several levels.
+        keys = list(frames) if sizes == {0} else list(map(str, frames))
+        return pandas.concat(list(frames.values()), keys=keys, names=["scenario", "name"])
 
 
 def load(path: Path, labels: Sequence[Hashable] | None = None) -> Report | Sweep:

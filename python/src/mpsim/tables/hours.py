@@ -41,7 +41,7 @@ def hours(visits: NodeVisits, days: Calendar, by: str = "hour", within: Sequence
     every = sorted(set(names), key=WEEKDAYS.index if by == "weekday" else None) if by in ("hour", "weekday") else names
     place = {name: at for at, name in enumerate(every)} if by in ("hour", "weekday") else {}
     waits: dict[int, list[int]] = defaultdict(list)
-    for arrive, wait in zip(visits.arrive, visits.wait):
+    for arrive, wait in zip(visits.arrive, visits.raw_wait):
         part = bisect_right(begins, arrive) - 1
         waits[place[names[part]] if place else part].append(wait)
     yield ["hour" if by == "each" else by, *heads(within, percents)]

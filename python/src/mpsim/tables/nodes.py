@@ -27,10 +27,10 @@ def rows(report: Report, of: str = "nodes", nodes: Collection[str] = ()) -> Iter
     and its trunk group, except for exits (`agents.pools.with_pools`). Missing figures are None. Raises ValueError for an unknown node, and if there
     are no visits."""
     names = names_of(report, nodes)
-    if of == "visits" and report.visits is None and report.jobs:
+    if of == "visits" and not report.has_visits and report.jobs:
         raise ValueError("the report has no job lines: run mpsim with --jobs")
     if of == "visits":
-        return (list(visit) for visits in (visits_at(report, names) if report.visits else ()) for visit in visits)
+        return (list(visit) for visits in (visits_at(report, names) if report.has_visits else ()) for visit in visits)
     if of == "exits":
         return (list(item) for item in report.exits if not nodes or item.name in nodes)
     return ([*with_pool[:-1], None if with_pool.util is None else f"{with_pool.util:.4f}"] for with_pool in with_pools(report, nodes).values())

@@ -35,7 +35,7 @@ def staffing(
     for count in agents:
         report = queue.run(count, by)
         visits = pooled(report, queue.node)
-        worked = sum(visits.depart) - sum(visits.arrive) - sum(visits.wait)
+        worked = sum(visits.raw_depart) - sum(visits.arrive) - sum(visits.raw_wait)
         # Truncated to four digits, as in a report.
         util = 10**4 * worked // (count * report.span) if report.span else 0
-        yield [count, f"{util / 10**4:.4f}", *figures(visits.wait, within, percents)]
+        yield [count, f"{util / 10**4:.4f}", *figures(visits.raw_wait, within, percents)]

@@ -65,7 +65,7 @@ def service(
     """
     yield ["node", *([] if sources is None else ["source"]), *heads(within, percents)]
     for visit in visits:
-        yield [visit.node, *([] if sources is None else ["all"]), *figures_of(visit, visit.wait, within, percents)]
+        yield [visit.node, *([] if sources is None else ["all"]), *figures_of(visit, visit.raw_wait, within, percents)]
         for name in () if sources is None else sorted({sources[job] for job in visit.job}):
             mine = of_source(visit, sources or {}, [name])
-            yield [visit.node, name, *figures_of(mine, mine.wait, within, percents)]
+            yield [visit.node, name, *figures_of(mine, mine.raw_wait, within, percents)]

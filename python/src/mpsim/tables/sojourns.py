@@ -97,13 +97,13 @@ def _ways(report: Report) -> Ways:
         if node.kind == "source":
             for job, arrive in zip(visits.job, visits.arrive):
                 came[job], source[job] = arrive, number
-        departs: Sequence[int] = visits.depart
-        if visits.wait and min(visits.wait) < 0:
-            for job, wait in zip(visits.job, visits.wait):
+        departs: Sequence[int] = visits.raw_depart
+        if visits.raw_wait and min(visits.raw_wait) < 0:
+            for job, wait in zip(visits.job, visits.raw_wait):
                 if wait == HELD:
                     stays[job] = 0
-            departs = [arrive if wait < 0 else depart for arrive, wait, depart in zip(visits.arrive, visits.wait, visits.depart)]
-        for job, wait, depart in zip(visits.job, visits.wait, departs):
+            departs = [arrive if wait < 0 else depart for arrive, wait, depart in zip(visits.arrive, visits.raw_wait, visits.raw_depart)]
+        for job, wait, depart in zip(visits.job, visits.raw_wait, departs):
             if depart >= gone[job]:
                 gone[job], end[job] = depart, 2 * number + (wait < 0)
     stays[0] = 0
@@ -119,7 +119,7 @@ def _ways_by(numpy: Any, report: Report) -> Ways:
     stays, every = numpy.ones(count, bool), visits_in(report)
     for number, node in enumerate(report.nodes):
         visits = every[node.name]
-        job, arrive, wait, depart = (numpy.asarray(column) for column in (visits.job, visits.arrive, visits.wait, visits.depart))
+        job, arrive, wait, depart = (numpy.asarray(column) for column in (visits.job, visits.arrive, visits.raw_wait, visits.raw_depart))
         if node.kind == "source":
             came[job], source[job] = arrive, number
         stays[job[wait == HELD]] = False

@@ -78,8 +78,8 @@ def _figures(
     if agents:
         queue = Queue(model, trace, nodes[0])
         for many in agents:
-            yield (nodes[0], many), [*figures(queue.visits(many).wait, within, percents)]
+            yield (nodes[0], many), [*figures(queue.visits(many).raw_wait, within, percents)]
         return
     report = run(model.encode(errors="surrogateescape"), trace.lines(), jobs=True)
     for visits in visits_to(report, places_of(report, nodes)):
-        yield (visits.node, None), [*figures_of(visits, visits.wait, within, percents)]
+        yield (visits.node, None), [*figures_of(visits, visits.raw_wait, within, percents)]

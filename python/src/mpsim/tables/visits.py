@@ -23,7 +23,7 @@ class Passing(NodeVisits):
 def _of_delays(report: Report, found: list[NodeVisits]) -> list[NodeVisits]:
     """Returns visits (list of NodeVisits) with those to delays as Passing."""
     for at, visits in enumerate(found):
-        if visits.node in report and report[visits.node].kind == "delay":
+        if visits.node in report.by_name and report.by_name[visits.node].kind == "delay":
             found[at] = Passing(visits.node)
             found[at].extend(visits)
     return found
@@ -34,7 +34,7 @@ def places_of(report: Report, nodes: Collection[str] = ()) -> list[str]:
     queue and its trunk group. Raises ValueError for an unknown name."""
     known = pools(report)
     if not nodes:
-        return [name for name in names_of(report) if name in known or report[name].kind not in PASSED]
+        return [name for name in names_of(report) if name in known or report.by_name[name].kind not in PASSED]
     for name in nodes:
         if name not in report and name not in known:
             raise ValueError(f"no node {name!r}; it has {', '.join(node.name for node in report.nodes)}")
@@ -57,7 +57,7 @@ def sources_in(report: Report) -> dict[int, str]:
     >>> sources_in(report)
     {1: 'phone', 2: 'mail'}
     """
-    visits = report.visits or Visits()
+    visits = report.visits if report.has_visits else Visits()
     return {job: node.name for node in report.nodes if node.kind == "source" and node.name in visits for job in visits[node.name].job}
 
 

@@ -13,6 +13,7 @@ from ..errors import Error
 from ..files import bytes_of
 from ..inputs import records_of, row_writer
 from ..times.formats import looks_like_clocks
+from ..wording import table_of
 
 if TYPE_CHECKING:
     from collections.abc import Iterable, Iterator, Sequence
@@ -61,6 +62,12 @@ class Trace:
 
     def __init__(self, path: str, header: list[str], rows: list[list[str]]) -> None:
         self.path, self.header, self.rows = path, header, rows
+
+    def __repr__(self) -> str:
+        return f"<Trace of {len(self.rows)} records, columns {', '.join(self.header)}>"
+
+    def _repr_html_(self) -> str:
+        return table_of(self.header, self.rows, len(self.rows))
 
     @classmethod
     def read(cls, path: Path, texts: list[str] | None = None) -> Trace:
