@@ -1,9 +1,9 @@
 #!/usr/bin/env python3
-"""Writes docs/API.md, the reference of the Python package, from its docstrings.
+"""Writes docs/API*.md, the reference of the Python package, from its docstrings.
 
 usage: check/api_page.py     in any directory
 
-Run it whenever a signature or a docstring changes: `check/run api` compares the page with the sources.
+Run it whenever a signature or a docstring changes: `check/run api` compares the pages with the sources.
 """
 import ast
 import pathlib
@@ -12,14 +12,23 @@ import textwrap
 
 ROOT = pathlib.Path(__file__).resolve().parent.parent
 SOURCES = ROOT / "python" / "src" / "mpsim"
-PAGE = ROOT / "docs" / "API.md"
-# Modules whose names are public besides those of the package itself.
-MODULES = "agents.groups", "agents.pools", "agents.queues", "agents.rosters", "agents.staffing", "report", "traces.trace"
-HEAD = """# Python API
+# Each page: its title; the modules whose names are attributes of the package; and modules whose other names are public too.
+PAGES = {
+    "API": ("Python API: runs, models and traces", ["runs", "exports.prepare", "inputs", "builder", "model", "errors"], ["traces.trace"]),
+    "API_REPORTS": ("Python API: reports and sweeps", ["report", "node_visits", "lines", "sweeps.results"], ["report"]),
+    "API_AGENTS": ("Python API: agents", [], ["agents.groups", "agents.rosters", "agents.staffing", "agents.queues", "agents.pools"]),
+}
+HEAD = (
+    "`check/api_page.py` writes this page from the docstrings of the package. [PYTHON.md](PYTHON.md) is the guide; the other pages are {others}. "
+    "{what}"
+)
+OWN = "Names are attributes of `mpsim`, unless the heading names the module to import them from."
+FROM = "Import names from the module that the heading names."
 
-`check/api_page.py` writes this page from the docstrings of the package. [PYTHON.md](PYTHON.md) is the guide. Names of the first part are
-attributes of `mpsim`; the others are imported from the module that the heading names.
-"""
+
+def file_of(page):
+    """Returns the file of a page."""
+    return ROOT / "docs" / f"{page}.md"
 
 
 def tree_of(module):
@@ -88,16 +97,19 @@ def parts_of(node, level):
             yield shown(said)
 
 
-def page():
-    """Returns the text of the page."""
-    parts, known = [HEAD.strip()], public()
-    for module, names in known.items():
+def text_of(page):
+    """Returns the text of a page."""
+    title, own, others = PAGES[page]
+    links = " and ".join(f"[{it}.md]({it}.md)" for it in PAGES if it != page)
+    head = HEAD.format(others=links, what=OWN if own else FROM)
+    parts, known = [f"# {title}", textwrap.fill(head, 120, break_long_words=False, break_on_hyphens=False)], public()
+    for module in own:
         tree = tree_of(module)
         parts += [f"## mpsim: {module}", shown(ast.get_docstring(tree))]
         defined = {it.name: it for it in tree.body if isinstance(it, (ast.FunctionDef, ast.ClassDef))}
-        for name in names:
+        for name in known[module]:
             parts += parts_of(defined[name], 3)
-    for module in MODULES:
+    for module in others:
         tree = tree_of(module)
         parts += [f"## mpsim.{module}", shown(ast.get_docstring(tree))]
         for it in tree.body:
@@ -107,4 +119,5 @@ def page():
 
 
 if __name__ == "__main__":
-    PAGE.write_text(page())
+    for name in PAGES:
+        file_of(name).write_text(text_of(name))
