@@ -302,11 +302,15 @@ def unstopped():
 
 
 def end(checks):
-    """Ends these checks and everything that they started."""
+    """Ends these checks and everything that they started. A process that a check was just starting can miss the signal, so what is left of its group
+    is killed, before the number of the group may be given to another."""
     for check in checks:
         with contextlib.suppress(ProcessLookupError):
             os.killpg(check.pid, signal.SIGTERM)
     for check in checks:
+        with contextlib.suppress(ChildProcessError, ProcessLookupError):
+            os.waitid(os.P_PID, check.pid, os.WEXITED | os.WNOWAIT)
+            os.killpg(check.pid, signal.SIGKILL)
         check.wait()
 
 
