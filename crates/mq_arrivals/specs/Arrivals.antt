@@ -50,14 +50,12 @@ pub record CanCome (s : Arriving) (v : ℕ) : Type 0 where
   pub there : (node : Node) (port : ℕ) (input : Input) → slice_get s.plan.now.net.nodes v ≡ Some node → slice_get node.inputs port ≡ Some input → IsThere s.outputs.now input
   pub few : (node : Node) → slice_get s.plan.now.net.nodes v ≡ Some node → length (arriving s.rows.now v node s.outputs.now) ≤ 1048576
 
--- what comes to all of these nodes can be; they are few, and there are 1 to 64 workers
+-- what comes to all of these nodes can be; they are few
 pub record IsArriving (s : Arriving) : Type 0 where
   pub read : IsReadFor s.plan.now.net s.rows.now
   pub ordered : AreOrdered s.outputs.now
   pub can : (k v : ℕ) → slice_get s.ready.now k ≡ Some v → CanCome s v
   pub nodes : length s.ready.now ≤ 64
-  pub some : 1 ≤ s.workers
-  pub most : s.workers ≤ 64
   pub block : 1 ≤ s.block
 
 -- what came to one of these nodes is all that comes, by time

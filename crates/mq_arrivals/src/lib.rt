@@ -15,10 +15,9 @@ mod rows;
 use crate::merges::{all_merged, comings_of};
 use mq_base::{List, OutOfMemory};
 use mq_core::nodes_are_in_limits;
-use mq_crew::{Gate, run_parts};
+use mq_crew::{Crew, Gate};
 pub use nodes::{Arrived, Arriving};
 pub use rows::{rows_by_time, stream_of};
-use std::alloc::Global;
 use std::thread::Threads;
 
 /// What comes to each of the nodes that are ready, in some order of the nodes: the rows of a source by
@@ -30,19 +29,17 @@ use std::thread::Threads;
 /// by blocks, between co-ranks. What comes is the same for all workers, blocks and gates. It refuses for
 /// want of memory alone.
 pub fn arrivals_of<'a, R: Threads + Sync, G: Gate>(
-    rt: &R,
-    alloc: Global,
+    crew: &Crew<R, G>,
     arriving: &Arriving<'a, '_>,
-    gate: &G,
 ) -> Result<List<Arrived<'a>>, OutOfMemory>
     requires { IsArriving arriving.now }
     ensures len { IfOk result (λ all. length all ≡ length arriving.now.ready.now) }
     ensures each { IfOk result (λ all. AllByRecursion (HasArrived arriving.now) all) }
 {
     nodes_are_in_limits();
-    let comings = comings_of(rt, alloc, arriving, gate)?;
-    match run_parts(rt, alloc, arriving.workers, comings.as_slice(), gate) {
-        Ok(groups) => all_merged(alloc, comings, groups),
+    let comings = comings_of(crew, arriving)?;
+    match crew.parts(comings.as_slice()) {
+        Ok(groups) => all_merged(crew.alloc, comings, groups),
         Err(fault) => {
             drop(comings);
             Err(fault)

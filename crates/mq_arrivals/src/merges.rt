@@ -16,7 +16,7 @@ use crate::nodes::{Arrived, Arriving};
 use crate::rows::{rows_by_time, stream_of};
 use mq_base::{List, OutOfMemory};
 use mq_core::{Node, Rows, Stream, is_source};
-use mq_crew::{Gate, Pieces, run_parts};
+use mq_crew::{Crew, Gate, Pieces};
 use mq_merge::{Arrivals, merge_piece};
 use mq_scan::{Blocks, block_size, cut};
 use std::alloc::Global;
@@ -88,13 +88,13 @@ fn merged_block(
 }
 
 // How two streams are cut: for one worker, and where one of them is empty, they are one block.
-fn blocks_of(arriving: &Arriving, first: &Stream, second: &Stream) -> Blocks
+fn blocks_of(arriving: &Arriving, workers: u32, first: &Stream, second: &Stream) -> Blocks
     requires few { length first.now.time + length second.now.time ≤ 1048576 }
     requires some { 1 ≤ arriving.now.block }
     ensures { result.n ≡ length first.now.time + length second.now.time }
 {
     let size = (first.time.len() + second.time.len()) as u32;
-    if arriving.workers == 1 || first.time.is_empty() || second.time.is_empty() {
+    if workers == 1 || first.time.is_empty() || second.time.is_empty() {
         return cut(size, size.max(1));
     }
     cut(size, block_size(size, arriving.block))
@@ -108,7 +108,7 @@ fn reads(node: &Node, port: usize) -> bool
 }
 
 // What comes to a node by its first two ports, or to a source.
-fn opening<'a>(alloc: Global, arriving: &Arriving<'a, '_>, number: u32) -> Coming<'a>
+fn opening<'a>(alloc: Global, arriving: &Arriving<'a, '_>, workers: u32, number: u32) -> Coming<'a>
     requires arriving { IsArriving arriving.now }
     requires ready { Contains arriving.now.ready.now number }
     ensures { IsComing arriving.now 2 result }
@@ -118,7 +118,13 @@ fn opening<'a>(alloc: Global, arriving: &Arriving<'a, '_>, number: u32) -> Comin
         let origin = Origin::Unsorted(arriving.rows);
         return Coming { number, origin };
     }
-    further(arriving, number, by_first_port(alloc, arriving, node), 1)
+    further(
+        arriving,
+        workers,
+        number,
+        by_first_port(alloc, arriving, node),
+        1,
+    )
 }
 
 // What comes to a node by its first port: what that reads.
@@ -146,14 +152,18 @@ fn nothing(alloc: Global) -> Stream
 }
 
 // What comes by their first two ports to the nodes that are ready, or to the sources among them.
-fn openings<'a>(alloc: Global, arriving: &Arriving<'a, '_>) -> Result<List<Coming<'a>>, OutOfMemory>
+fn openings<'a>(
+    alloc: Global,
+    arriving: &Arriving<'a, '_>,
+    workers: u32,
+) -> Result<List<Coming<'a>>, OutOfMemory>
     requires arriving { IsArriving arriving.now }
     ensures len { IfOk result (λ all. length all ≡ length arriving.now.ready.now) }
     ensures each { IfOk result (λ all. AllByRecursion (IsComing arriving.now 2) all) }
 {
     let mut all = List::new(alloc);
     for at in 0..arriving.ready.len() {
-        all.push(opening(alloc, arriving, arriving.ready[at]))?;
+        all.push(opening(alloc, arriving, workers, arriving.ready[at]))?;
     }
     Ok(all)
 }
@@ -234,6 +244,7 @@ fn behind(alloc: Global, blocks: &Blocks, group: &List<Stream>) -> Result<Stream
 // What comes to a node by one port more, where it has one, and what came before.
 fn further<'a>(
     arriving: &Arriving<'a, '_>,
+    workers: u32,
     number: u32,
     before: Arrivals<'a>,
     port: usize,
@@ -249,7 +260,7 @@ fn further<'a>(
         return Coming { number, origin };
     }
     let next = stream_of(arriving.outputs, node.inputs.get(port));
-    let blocks = blocks_of(arriving, before.stream(), next);
+    let blocks = blocks_of(arriving, workers, before.stream(), next);
     let origin = Origin::Ports(before, next, blocks);
     Coming { number, origin }
 }
@@ -288,6 +299,7 @@ pub fn all_merged<'a>(
 fn all_further<'a>(
     alloc: Global,
     arriving: &Arriving<'a, '_>,
+    workers: u32,
     comings: List<Coming<'a>>,
     groups: List<List<Stream>>,
     port: usize,
@@ -303,7 +315,7 @@ fn all_further<'a>(
     let mut all = List::new(alloc);
     while let Some(arrived) = left.pop() {
         let Arrived { number, arrivals } = arrived;
-        all.push(further(arriving, number, arrivals, port))?;
+        all.push(further(arriving, workers, number, arrivals, port))?;
     }
     Ok(all)
 }
@@ -311,19 +323,24 @@ fn all_further<'a>(
 /// What comes to the nodes that are ready, before the last of at most 8 ports is merged: a list of pieces
 /// for each further port.
 pub fn comings_of<'a, R: Threads + Sync, G: Gate>(
-    rt: &R,
-    alloc: Global,
+    crew: &Crew<R, G>,
     arriving: &Arriving<'a, '_>,
-    gate: &G,
 ) -> Result<List<Coming<'a>>, OutOfMemory>
     requires { IsArriving arriving.now }
     ensures len { IfOk result (λ all. length all ≡ length arriving.now.ready.now) }
     ensures each { IfOk result (λ all. AllByRecursion (IsComing arriving.now 8) all) }
 {
-    let mut comings = openings(alloc, arriving)?;
+    let mut comings = openings(crew.alloc, arriving, crew.workers)?;
     for port in 2..8 {
-        match run_parts(rt, alloc, arriving.workers, comings.as_slice(), gate) {
-            Ok(groups) => comings = all_further(alloc, arriving, comings, groups, port)?,
+        match crew.parts(comings.as_slice()) {
+            Ok(groups) => comings = all_further(
+                crew.alloc,
+                arriving,
+                crew.workers,
+                comings,
+                groups,
+                port,
+            )?,
             Err(fault) => {
                 drop(comings);
                 return Err(fault);

@@ -12,8 +12,6 @@ pub struct Arriving<'a, 'r> {
     pub outputs: &'a [List<Stream>],
     /// The nodes that are ready, at most 64, by order of declaration.
     pub ready: &'r [u32],
-    /// How many workers there are: 1 to 64.
-    pub workers: u32,
     /// How many items a block has at least: 1 at least.
     pub block: u32,
 }

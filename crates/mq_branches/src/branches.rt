@@ -10,7 +10,7 @@ use crate::servers::{Task, serve_all};
 use mq_asked::Asked;
 use mq_base::{List, OutOfMemory};
 use mq_core::Stream;
-use mq_crew::Gate;
+use mq_crew::{Crew, Gate};
 use mq_forkjoin::{copy_of, later_times};
 use mq_stations::ForkJoinScan;
 use std::alloc::Global;
@@ -96,22 +96,17 @@ fn tasks_of<'b>(
 
 // When the jobs depart from the next server of each branch.
 fn next_departures<R: Threads + Sync, G: Gate>(
-    rt: &R,
-    alloc: Global,
-    workers: u32,
+    crew: &Crew<R, G>,
     tier: &Tier,
     branches: &List<Branch>,
-    gate: &G,
 ) -> Result<List<List<u64>>, OutOfMemory>
     requires running { AllByRecursion (IsRunning tier.now.arrivals.now.time tier.now.server) branches.now }
     requires all { tier.now.scan.now.blocks.n ≡ length tier.now.arrivals.now.time }
     requires few { length branches.now ≤ 8 }
-    requires some { 1 ≤ workers }
-    requires most { workers ≤ 64 }
     ensures { IfOk result (λ all. all ≡ map (next_departs tier.now.server) branches.now) }
 {
-    let tasks = tasks_of(alloc, tier, branches)?;
-    serve_all(rt, alloc, workers, &tasks, gate)
+    let tasks = tasks_of(crew.alloc, tier, branches)?;
+    serve_all(crew, &tasks)
 }
 
 // A branch whose jobs have come through so many of its servers at these times is put to the others that
@@ -198,28 +193,23 @@ fn advanced<'a>(
 /// There are 1 to 64 workers. The gate is entered with each piece that is drawn. It refuses for want of
 /// memory alone.
 pub fn forkjoin_departures<'a, R: Threads + Sync, G: Gate>(
-    rt: &R,
-    alloc: Global,
-    workers: u32,
+    crew: &Crew<R, G>,
     arrivals: &'a Stream,
     scan: &'a ForkJoinScan<'a>,
-    gate: &G,
 ) -> Result<List<u64>, OutOfMemory>
     requires load { AreBranchLoads arrivals.now.time scan.now.demands }
     requires all { scan.now.blocks.n ≡ length arrivals.now.time }
-    requires some { 1 ≤ workers }
-    requires most { workers ≤ 64 }
     ensures { IfOk result (λ departs. departs ≡ forkjoin_departs arrivals.now.time scan.now.demands) }
 {
-    let mut passage = begun(alloc, arrivals, scan)?;
+    let mut passage = begun(crew.alloc, arrivals, scan)?;
     for server in 0..4 {
         let tier = Tier {
             arrivals,
             scan,
             server,
         };
-        match next_departures(rt, alloc, workers, &tier, &passage.branches, gate) {
-            Ok(departs) => passage = advanced(alloc, &tier, passage, departs)?,
+        match next_departures(crew, &tier, &passage.branches) {
+            Ok(departs) => passage = advanced(crew.alloc, &tier, passage, departs)?,
             Err(fault) => {
                 drop(passage);
                 return Err(fault);

@@ -6,7 +6,7 @@ ghost use Rattle.mq_crew.specs.Crew.{AreAll, AreGroups};
 ghost use Rattle.mq_branches.specs.Servers.{AreCarriesOf, AreDeparturesOf, IsCarried, IsSumFor, IsTask};
 
 use mq_base::{List, OutOfMemory};
-use mq_crew::{Gate, Pieces, run_parts};
+use mq_crew::{Crew, Gate, Pieces};
 use mq_maxplus::{Affine, Mp};
 use mq_scan::{Blocks, block_carries, block_summary, block_times, joined_times};
 use mq_server::{ServerStep, carries_are_departures};
@@ -146,25 +146,20 @@ fn finished_all(
 // When all jobs depart from each of several servers, at most 64 of them, in two lists of pieces: the
 // summaries of their blocks, and the blocks applied.
 pub fn serve_all<R: Threads + Sync, G: Gate>(
-    rt: &R,
-    alloc: Global,
-    workers: u32,
+    crew: &Crew<R, G>,
     tasks: &List<Task>,
-    gate: &G,
 ) -> Result<List<List<u64>>, OutOfMemory>
     requires tasks { AllByRecursion IsTask tasks.now }
     requires few { length tasks.now ≤ 64 }
-    requires some { 1 ≤ workers }
-    requires most { workers ≤ 64 }
     ensures { IfOk result (λ all. all ≡ map (λ task. lindley 0 task.arrive.now task.demands.now) tasks.now) }
 {
-    let groups = run_parts(rt, alloc, workers, tasks.as_slice(), gate)?;
-    let carried = begun_all(alloc, tasks, &groups);
+    let groups = crew.parts(tasks.as_slice())?;
+    let carried = begun_all(crew.alloc, tasks, &groups);
     drop(groups);
     let begun = carried?;
-    match run_parts(rt, alloc, workers, begun.as_slice(), gate) {
+    match crew.parts(begun.as_slice()) {
         Ok(groups) => {
-            let departs = finished_all(alloc, &begun, &groups);
+            let departs = finished_all(crew.alloc, &begun, &groups);
             drop(groups);
             drop(begun);
             departs

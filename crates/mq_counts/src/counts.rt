@@ -1,5 +1,5 @@
 // What a report says of nodes, from what came to them and what left.
-ghost use Rattle.std.specs.Prelude.{◌≡◌, ◌<◌, ◌≤◌, ◌^◌, ◌==◌, ◌&&◌, ℕ, List as Items, length, IfOk};
+ghost use Rattle.std.specs.Prelude.{◌≡◌, ◌<◌, ◌^◌, ◌==◌, ◌&&◌, ℕ, List as Items, length, IfOk};
 ghost use Rattle.std.specs.List.{AllByRecursion, list_any};
 ghost use Rattle.mq_core.specs.StandardTable.{run_of};
 ghost use Rattle.mq_core.specs.Theorems.{IsReadFor};
@@ -17,7 +17,7 @@ use crate::tails::{NO_WAIT, tails_of};
 use crate::totals::{NodeVisits, sums_by_node};
 use mq_base::{List, OutOfMemory};
 use mq_core::{Input, Kind, Node, Plan, Rows, span_is_sequences};
-use mq_crew::Gate;
+use mq_crew::{Crew, Gate};
 use mq_stats::{BlockCount, Exit, NodeTotals, Percentiles, lasts_are_greatest};
 use std::alloc::Global;
 use std::thread::Threads;
@@ -106,25 +106,20 @@ fn all_visits<'a>(
 
 // Returns the percentiles of the waits at these nodes if the form is 2, and an empty list otherwise.
 fn tails_told<R: Threads + Sync, G: Gate>(
-    rt: &R,
-    alloc: Global,
-    workers: u32,
+    crew: &Crew<R, G>,
     nodes: &List<NodeVisits>,
     sums: &List<BlockCount>,
     form: u8,
-    gate: &G,
 ) -> Result<List<Percentiles>, OutOfMemory>
-    requires some { 1 ≤ workers }
-    requires most { workers ≤ 64 }
     requires few { length nodes.now < 2 ^ 16 }
     requires visited { AllByRecursion IsVisited nodes.now }
     requires sums { AreSumsOf nodes.now sums.now }
     ensures { IfOk result (λ tails. form ≡ 2 → AreTailsOf nodes.now tails) }
 {
     if form != 2 {
-        return Ok(List::new(alloc));
+        return Ok(List::new(crew.alloc));
     }
-    tails_of(rt, alloc, workers, nodes, sums, gate)
+    tails_of(crew, nodes, sums)
 }
 
 // Returns the percentiles at a node, or zeros if the form isn't 2.
@@ -175,29 +170,24 @@ fn counts_at(
 
 // Returns what the report says of each node, from the counts of its visits.
 fn counts_with<R: Threads + Sync, G: Gate>(
-    rt: &R,
-    alloc: Global,
-    workers: u32,
+    crew: &Crew<R, G>,
     nodes: &[Node],
     rows: &Rows,
     all: &List<NodeSequences>,
     visits: &List<NodeVisits>,
     sums: &List<BlockCount>,
     form: u8,
-    gate: &G,
 ) -> Result<List<NodeCount>, OutOfMemory>
-    requires some { 1 ≤ workers }
-    requires most { workers ≤ 64 }
     requires few { length all.now < 2 ^ 16 }
     requires countable { AllByRecursion (AreCountable rows.now) all.now }
     requires visits { AreVisitsIn rows.now all.now (length all.now) visits.now }
     requires sums { AreSumsOf visits.now sums.now }
     ensures { IfOk result (λ counts. AreCountsOf nodes.now rows.now form all.now counts) }
 {
-    let tails = tails_told(rt, alloc, workers, visits, sums, form, gate)?;
-    match parted_exits(rt, alloc, workers, nodes, rows, all, gate) {
+    let tails = tails_told(crew, visits, sums, form)?;
+    match parted_exits(crew, nodes, rows, all) {
         Ok(parted) => {
-            let counts = counts_at(alloc, all, visits, sums, &tails, &parted, form);
+            let counts = counts_at(crew.alloc, all, visits, sums, &tails, &parted, form);
             drop(parted);
             drop(tails);
             counts
@@ -213,27 +203,20 @@ fn counts_with<R: Threads + Sync, G: Gate>(
 /// by each output that no input of the network reads (`parted_exits`). 1 to 64 workers compute it, and enter the gate with each piece. The
 /// only error is out of memory.
 pub fn counts_of<R: Threads + Sync, G: Gate>(
-    rt: &R,
-    alloc: Global,
-    workers: u32,
+    crew: &Crew<R, G>,
     nodes: &[Node],
     rows: &Rows,
     all: &List<NodeSequences>,
     form: u8,
-    gate: &G,
 ) -> Result<List<NodeCount>, OutOfMemory>
-    requires some { 1 ≤ workers }
-    requires most { workers ≤ 64 }
     requires few { length all.now < 2 ^ 16 }
     requires countable { AllByRecursion (AreCountable rows.now) all.now }
     ensures { IfOk result (λ counts. AreCountsOf nodes.now rows.now form all.now counts) }
 {
-    let visits = all_visits(alloc, rows, all, form == 2)?;
-    match sums_by_node(rt, alloc, workers, &visits, gate) {
+    let visits = all_visits(crew.alloc, rows, all, form == 2)?;
+    match sums_by_node(crew, &visits) {
         Ok(sums) => {
-            let counts = counts_with(
-                rt, alloc, workers, nodes, rows, all, &visits, &sums, form, gate,
-            );
+            let counts = counts_with(crew, nodes, rows, all, &visits, &sums, form);
             drop(sums);
             drop(visits);
             counts

@@ -15,7 +15,7 @@ use crate::seen::{SeenStreams, exit_seen, leaving_count, output_count};
 use crate::totals::{PIECE, piece_count};
 use mq_base::{List, OutOfMemory};
 use mq_core::{Node, Rows};
-use mq_crew::{Gate, Pieces, run_parts};
+use mq_crew::{Crew, Gate, Pieces};
 use mq_stats::{Exit, exits_added, exits_join};
 use std::alloc::Global;
 use std::thread::Threads;
@@ -152,23 +152,18 @@ fn all_streams<'a>(
 /// streams of a node are cut into pieces of 16,384 positions, and the pieces of all nodes form one list. 1 to 64 workers make it,
 /// and enter the gate with each piece. The only error is out of memory.
 pub fn parted_exits<'a, R: Threads + Sync, G: Gate>(
-    rt: &R,
-    alloc: Global,
-    workers: u32,
+    crew: &Crew<R, G>,
     nodes: &[Node],
     rows: &'a Rows,
     all: &List<NodeSequences<'a>>,
-    gate: &G,
 ) -> Result<PartedExits<'a>, OutOfMemory>
-    requires some { 1 ≤ workers }
-    requires most { workers ≤ 64 }
     requires few { length all.now < 2 ^ 16 }
     requires countable { AllByRecursion (AreCountable rows.now) all.now }
     ensures parted { IfOk result AreParted }
     ensures streams { IfOk result (λ parted. AreNodeStreams nodes.now rows.now all.now (length all.now) parted.nodes) }
 {
-    let streams = all_streams(alloc, nodes, rows, all)?;
-    match run_parts(rt, alloc, workers, streams.as_slice(), gate) {
+    let streams = all_streams(crew.alloc, nodes, rows, all)?;
+    match crew.parts(streams.as_slice()) {
         Ok(parts) => Ok(PartedExits {
             nodes: streams,
             parts,

@@ -1,5 +1,5 @@
 // What a report says of a run that is kept.
-ghost use Rattle.std.specs.Prelude.{◌≡◌, ◌≤◌, ◌<◌, ◌^◌, ℕ, length, IfOk, Some, slice_get};
+ghost use Rattle.std.specs.Prelude.{◌≡◌, ◌<◌, ◌^◌, ℕ, length, IfOk, Some, slice_get};
 ghost use Rattle.mq_core.specs.Results.{totals_of};
 ghost use Rattle.mq_core.specs.Sequences.{IsRunOf};
 ghost use Rattle.mq_core.specs.StandardTable.{run_of};
@@ -16,7 +16,7 @@ use mq_base::{List, OutOfMemory};
 use mq_core::{
     Node, Plan, Rows, Run, runs_have_sequences, span_is_sequences, totals_are_sequences,
 };
-use mq_crew::Gate;
+use mq_crew::{Crew, Gate};
 use mq_stats::{NodeTotals, lasts_are_greatest, runs_give_streams, runs_give_visits};
 use std::alloc::Global;
 use std::thread::Threads;
@@ -70,25 +70,20 @@ fn sequences_by_node<'a>(
 /// Returns what a report of this form says of a run. No node has more than 1,048,576 visits. 1 to 64 workers compute it, and
 /// enter the gate with each piece. The only error is out of memory.
 pub fn counts_of_run<R: Threads + Sync, G: Gate>(
-    rt: &R,
-    alloc: Global,
-    workers: u32,
+    crew: &Crew<R, G>,
     plan: &Plan,
     rows: &Rows,
     run: &Run,
     form: u8,
-    gate: &G,
 ) -> Result<Counts, OutOfMemory>
-    requires some { 1 ≤ workers }
-    requires most { workers ≤ 64 }
     requires read { IsReadFor plan.now.net rows.now }
     requires run { IsRunOf plan.now rows.now run.now }
     requires few { HasFewVisits plan.now rows.now }
     ensures { IfOk result (AreCounts plan.now rows.now form) }
 {
-    let all = sequences_by_node(alloc, plan, rows, run)?;
+    let all = sequences_by_node(crew.alloc, plan, rows, run)?;
     let nodes = plan.net.nodes.as_slice();
-    match counts_of(rt, alloc, workers, nodes, rows, &all, form, gate) {
+    match counts_of(crew, nodes, rows, &all, form) {
         Ok(counts) => {
             drop(all);
             Ok(counted(plan, rows, counts))

@@ -14,7 +14,7 @@ use crate::tails::KnownNodes;
 use crate::totals::{NodeVisits, PIECE, piece_count, piece_ends};
 use mq_base::{List, OutOfMemory};
 use mq_core::{Kind, Rows};
-use mq_crew::{Gate, Pieces, run_parts};
+use mq_crew::{Crew, Gate, Pieces};
 use mq_stats::{
     BlockCount, Percentiles, WaitCounts, counted_percentiles, counts_added, no_counts, waits_join,
 };
@@ -211,19 +211,14 @@ fn counted_of(
 /// longest wait has ticks, and at least 16,384. 1 to 64 workers make the pieces, and enter the gate with each. The only error is out of
 /// memory.
 pub fn counted_tails<R: Threads + Sync, G: Gate>(
-    rt: &R,
-    alloc: Global,
-    workers: u32,
+    crew: &Crew<R, G>,
     known: &KnownNodes,
-    gate: &G,
 ) -> Result<List<Option<Percentiles>>, OutOfMemory>
-    requires some { 1 ≤ workers }
-    requires most { workers ≤ 64 }
     requires few { length known.now.nodes.now < 2 ^ 16 }
     requires known { AreKnown known.now }
     ensures { IfOk result (λ counted. AreCountedOf known.now.nodes.now (length known.now.nodes.now) counted) }
 {
-    let all = waits_by_node(alloc, known)?;
-    let groups = run_parts(rt, alloc, workers, all.as_slice(), gate)?;
-    counted_of(alloc, known, &all, &groups)
+    let all = waits_by_node(crew.alloc, known)?;
+    let groups = crew.parts(all.as_slice())?;
+    counted_of(crew.alloc, known, &all, &groups)
 }

@@ -1,5 +1,5 @@
 // The percentiles of the waits at nodes.
-ghost use Rattle.std.specs.Prelude.{◌≡◌, ◌<◌, ◌≤◌, ◌^◌, IfOk, IfSome, Some, length, slice_get};
+ghost use Rattle.std.specs.Prelude.{◌≡◌, ◌<◌, ◌^◌, IfOk, IfSome, Some, length, slice_get};
 ghost use Rattle.std.specs.List.{AllByRecursion};
 ghost use Rattle.mq_counts.specs.Tails.{AreCounting, AreKnown, AreTailsOf, IsTailIn};
 ghost use Rattle.mq_counts.specs.Totals.{AreSumsOf, IsVisited};
@@ -8,7 +8,7 @@ use crate::seen::tail_seen;
 use crate::tail_pieces::counted_tails;
 use crate::totals::NodeVisits;
 use mq_base::{List, OutOfMemory};
-use mq_crew::{Gate, Pieces, made};
+use mq_crew::{Crew, Gate, Pieces};
 use mq_stats::{BlockCount, Percentiles};
 use std::alloc::Global;
 use std::thread::Threads;
@@ -95,33 +95,28 @@ fn known_tails(alloc: Global, of: &NodesTails) -> Result<Option<List<Percentiles
 /// another list. 1 to 64 workers make the pieces, and enter the gate with each; without pieces there are no workers. No node has
 /// more than 1,048,576 visits. The only error is out of memory.
 pub fn tails_of<R: Threads + Sync, G: Gate>(
-    rt: &R,
-    alloc: Global,
-    workers: u32,
+    crew: &Crew<R, G>,
     nodes: &List<NodeVisits>,
     sums: &List<BlockCount>,
-    gate: &G,
 ) -> Result<List<Percentiles>, OutOfMemory>
-    requires some { 1 ≤ workers }
-    requires most { workers ≤ 64 }
     requires few { length nodes.now < 2 ^ 16 }
     requires visited { AllByRecursion IsVisited nodes.now }
     requires sums { AreSumsOf nodes.now sums.now }
     ensures { IfOk result (λ tails. AreTailsOf nodes.now tails) }
 {
     let known = KnownNodes { nodes, sums };
-    let counted = counted_tails(rt, alloc, workers, &known, gate)?;
+    let counted = counted_tails(crew, &known)?;
     let all = NodesTails {
         known,
         counted: &counted,
     };
-    match known_tails(alloc, &all) {
+    match known_tails(crew.alloc, &all) {
         Ok(Some(tails)) => {
             drop(counted);
             Ok(tails)
         }
         Ok(None) => {
-            let tails = made(rt, alloc, workers, &all, gate);
+            let tails = crew.made(&all);
             drop(counted);
             tails
         }

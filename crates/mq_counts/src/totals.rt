@@ -9,7 +9,7 @@ ghost use Rattle.mq_counts.specs.Totals.{AreSumsOf, IsPieceCount, IsSumOf, IsVis
 use crate::seen::{SeenVisits, block_seen, visit_count};
 use mq_base::{List, OutOfMemory};
 use mq_core::{Kind, Rows};
-use mq_crew::{Gate, Pieces, run_parts};
+use mq_crew::{Crew, Gate, Pieces};
 use mq_stats::{BlockCount, blocks_added, waits_join};
 use std::alloc::Global;
 use std::thread::Threads;
@@ -144,20 +144,15 @@ fn sums_of(
 /// pieces of 16,384, and the pieces of all nodes form one list. 1 to 64 workers make it, and enter the gate with each
 /// piece. The only error is out of memory.
 pub fn sums_by_node<R: Threads + Sync, G: Gate>(
-    rt: &R,
-    alloc: Global,
-    workers: u32,
+    crew: &Crew<R, G>,
     nodes: &List<NodeVisits>,
-    gate: &G,
 ) -> Result<List<BlockCount>, OutOfMemory>
-    requires some { 1 ≤ workers }
-    requires most { workers ≤ 64 }
     requires few { length nodes.now < 2 ^ 16 }
     requires visited { AllByRecursion IsVisited nodes.now }
     ensures { IfOk result (λ sums. AreSumsOf nodes.now sums) }
 {
-    let groups = run_parts(rt, alloc, workers, nodes.as_slice(), gate)?;
-    let sums = sums_of(alloc, nodes, &groups);
+    let groups = crew.parts(nodes.as_slice())?;
+    let sums = sums_of(crew.alloc, nodes, &groups);
     drop(groups);
     sums
 }

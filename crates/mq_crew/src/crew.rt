@@ -1,140 +1,83 @@
-// Workers that draw numbers and make pieces.
-ghost use Rattle.std.specs.Prelude.{◌≡◌, ◌+◌, ◌<◌, ◌≤◌, [], IfOk};
-ghost use Rattle.std.specs.Thread.{IsSync, IsSend};
-ghost use Rattle.mq_claims.specs.Seats.{IsSeatOf};
-ghost use Rattle.mq_crew.specs.Crew.{IsMadeOf, AreAll, AreRecorded, AreWorked};
+// A crew, and the lists of pieces that it makes.
+ghost use Rattle.std.specs.Prelude.{◌≡◌, ◌≤◌, IfOk};
+ghost use Rattle.mq_crew.specs.Crew.{AreAll, AreRecorded};
 
-use crate::order::{merged, placed};
+use crate::order::placed;
+use crate::workers::crew;
 use crate::{Gate, Pieces};
 use mq_base::{List, OutOfMemory};
-use mq_claims::{ClaimSeat, Claims};
+use mq_claims::Claims;
 use std::alloc::Global;
-use std::thread::{Threads, join};
+use std::thread::Threads;
 
-// One worker draws numbers until one has reached the count, and makes the piece of each below it.
-fn work<P: Pieces, G: Gate>(
-    alloc: Global,
-    claims: &Claims,
-    mut seat: ClaimSeat,
-    worker: u32,
-    pieces: &P,
-    gate: &G,
-) -> (ClaimSeat, Result<Vec<(u32, P::Piece)>, OutOfMemory>)
-    requires fit { P.fit pieces.now }
-    requires own { IsSeatOf claims.now seat }
-    requires limit { claims.now.limit ≡ P.size pieces.now }
-    requires fresh { seat.draws ≡ [] }
-    ensures seat { (result.0.table ≡ seat.table) × (result.0.right ≡ seat.right) }
-    ensures made { IfOk result.1 (λ v. IsMadeOf (P.is_piece pieces.now) (P.size pieces.now) result.0.draws v.items) }
-    ensures worked { IfOk result.1 (λ v. AreWorked (P.size pieces.now) 1 result.0.draws v.items) }
-{
-    let count = pieces.count();
-    let mut made = Vec::new(alloc);
-    'draws: loop {
-        let number = claims.claim(&mut seat);
-        if number >= count as u64 {
-            return (seat, Ok(made));
-        }
-        let b = number as u32;
-        gate.enter(&seat, worker, b);
-        let piece = match pieces.piece(alloc, b) {
-            Ok(piece) => piece,
-            Err(refused) => return (seat, Err(refused)),
-        };
-        if made.push((b, piece)).is_err() {
-            return (seat, Err(OutOfMemory));
+/// Who makes the pieces of a list: 1 to 64 workers, which are threads of this runtime, and enter this gate.
+#[derive(Drop)]
+pub struct Crew<'a, R, G> {
+    pub rt: &'a R,
+    pub alloc: Global,
+    pub workers: u32,
+    pub gate: &'a G,
+    pub ghost some: { 1 ≤ workers },
+    pub ghost most: { workers ≤ 64 },
+}
+
+impl<'a, R: Threads + Sync, G: Gate> Crew<'a, R, G> {
+    /// Returns a crew of this many workers.
+    pub fn new(rt: &'a R, alloc: Global, workers: u32, gate: &'a G) -> Crew<'a, R, G>
+        requires some { 1 ≤ workers }
+        requires most { workers ≤ 64 }
+        ensures { result.workers ≡ workers }
+    {
+        Crew {
+            rt,
+            alloc,
+            workers,
+            gate,
         }
     }
-}
 
-// Each step halves the workers and starts a new thread for one half.
-#[cycle(crew)]
-fn crew<P: Pieces, G: Gate, R: Threads + Sync>(
-    rt: &R,
-    alloc: Global,
-    claims: &Claims,
-    mut seat: ClaimSeat,
-    first: u32,
-    workers: u32,
-    pieces: &P,
-    gate: &G,
-) -> (ClaimSeat, Result<Vec<(u32, P::Piece)>, OutOfMemory>)
-    requires fit { P.fit pieces.now }
-    requires some { 1 ≤ workers }
-    requires room { first + workers ≤ 64 }
-    requires own { IsSeatOf claims.now seat }
-    requires right { seat.right ≡ workers }
-    requires limit { claims.now.limit ≡ P.size pieces.now }
-    requires fresh { seat.draws ≡ [] }
-    ensures seat { (result.0.table ≡ seat.table) × (result.0.right ≡ seat.right) }
-    ensures made { IfOk result.1 (λ v. IsMadeOf (P.is_piece pieces.now) (P.size pieces.now) result.0.draws v.items) }
-    ensures worked { IfOk result.1 (λ v. AreWorked (P.size pieces.now) workers result.0.draws v.items) }
-{
-    if workers == 1 {
-        return work(alloc, claims, seat, first, pieces, gate);
+    /// Returns the same crew with this many workers.
+    pub fn with(&self, workers: u32) -> Crew<'a, R, G>
+        requires some { 1 ≤ workers }
+        requires most { workers ≤ 64 }
+        ensures { result.workers ≡ workers }
+    {
+        Crew::new(self.rt, self.alloc, workers, self.gate)
     }
-    let high = workers / 2;
-    let low = workers - high;
-    let other = claims.split(&mut seat, high);
-    let front = move || -> (ClaimSeat, Result<Vec<(u32, P::Piece)>, OutOfMemory>)
-        requires { IsSync R.row × IsSync P.row × IsSync G.row × IsSend P.Piece.row × P.fit pieces.now × (1 ≤ low) × (first + low ≤ 64) × IsSeatOf claims.now seat × (seat.right ≡ low) × (claims.now.limit ≡ P.size pieces.now) × (seat.draws ≡ []) }
-        ensures { (result.0.table ≡ seat.table) × (result.0.right ≡ seat.right) × IfOk result.1 (λ v. IsMadeOf (P.is_piece pieces.entry.now) (P.size pieces.entry.now) result.0.draws v.items) × IfOk result.1 (λ v. AreWorked (P.size pieces.entry.now) low result.0.draws v.items) }
-    { crew(rt, alloc, claims, seat, first, low, pieces, gate) };
-    let back = move || -> (ClaimSeat, Result<Vec<(u32, P::Piece)>, OutOfMemory>)
-        requires { IsSync R.row × IsSync P.row × IsSync G.row × IsSend P.Piece.row × P.fit pieces.now × (1 ≤ high) × (first + low + high ≤ 64) × IsSeatOf claims.now other × (other.right ≡ high) × (claims.now.limit ≡ P.size pieces.now) × (other.draws ≡ []) }
-        ensures { (result.0.table ≡ other.table) × (result.0.right ≡ other.right) × IfOk result.1 (λ v. IsMadeOf (P.is_piece pieces.entry.now) (P.size pieces.entry.now) result.0.draws v.items) × IfOk result.1 (λ v. AreWorked (P.size pieces.entry.now) high result.0.draws v.items) }
-    { crew(rt, alloc, claims, other, first + low, high, pieces, gate) };
-    let ((mut mine, a), (its, b)) = join(rt, front, back);
-    claims.join(&mut mine, its);
-    (mine, merged(a, b))
-}
 
-/// Returns all pieces, each at its index. They are made by 1 to 64 workers, which draw the indices;
-/// no more workers start than there are pieces, but at least one. Each worker enters the gate with a
-/// number that it drew, and then makes that piece. Some schedule of the machine of workers records
-/// these pieces. The only error is that memory runs out.
-pub fn run_pieces<P: Pieces, G: Gate, R: Threads + Sync>(
-    rt: &R,
-    alloc: Global,
-    workers: u32,
-    pieces: &P,
-    gate: &G,
-) -> Result<List<P::Piece>, OutOfMemory>
-    requires fit { P.fit pieces.now }
-    requires some { 1 ≤ workers }
-    requires most { workers ≤ 64 }
-    ensures all { IfOk result (λ l. AreAll (P.is_piece pieces.now) (P.size pieces.now) l) }
-    ensures recorded { IfOk result (λ l. AreRecorded workers (P.size pieces.now) l) }
-{
-    let count = pieces.count();
-    let workers = workers.min(count).max(1);
-    let (claims, seat) = Claims::new(alloc, count, workers)?;
-    let (seat, made) = crew(rt, alloc, &claims, seat, 0, workers, pieces, gate);
-    claims.close(seat);
-    placed(alloc, count, made?)
-}
+    /// Returns all pieces, each at its index. The workers draw the indices; no more of them start than
+    /// there are pieces, but at least one. Each enters the gate with a number that it drew, and then makes
+    /// that piece. Some schedule of the machine of workers records these pieces. The only error is that
+    /// memory runs out.
+    pub fn run_pieces<P: Pieces>(&self, pieces: &P) -> Result<List<P::Piece>, OutOfMemory>
+        requires fit { P.fit pieces.now }
+        ensures all { IfOk result (λ l. AreAll (P.is_piece pieces.now) (P.size pieces.now) l) }
+        ensures recorded { IfOk result (λ l. AreRecorded self.now.workers (P.size pieces.now) l) }
+    {
+        let count = pieces.count();
+        let workers = self.workers.min(count).max(1);
+        let (claims, seat) = Claims::new(self.alloc, count, workers)?;
+        let (seat, made) = crew(
+            self.rt, self.alloc, &claims, seat, 0, workers, pieces, self.gate,
+        );
+        claims.close(seat);
+        placed(self.alloc, count, made?)
+    }
 
-/// Returns all pieces, each at its index. Fewer than two are made directly, without workers or gate;
-/// others by `run_pieces`. The only error is that memory runs out.
-pub fn made<P: Pieces, G: Gate, R: Threads + Sync>(
-    rt: &R,
-    alloc: Global,
-    workers: u32,
-    pieces: &P,
-    gate: &G,
-) -> Result<List<P::Piece>, OutOfMemory>
-    requires fit { P.fit pieces.now }
-    requires some { 1 ≤ workers }
-    requires most { workers ≤ 64 }
-    ensures { IfOk result (λ made. AreAll (P.is_piece pieces.now) (P.size pieces.now) made) }
-{
-    let count = pieces.count();
-    if count > 1 {
-        return run_pieces(rt, alloc, workers, pieces, gate);
+    /// Returns all pieces, each at its index. Fewer than two are made directly, without workers or gate;
+    /// others by `run_pieces`. The only error is that memory runs out.
+    pub fn made<P: Pieces>(&self, pieces: &P) -> Result<List<P::Piece>, OutOfMemory>
+        requires { P.fit pieces.now }
+        ensures { IfOk result (λ made. AreAll (P.is_piece pieces.now) (P.size pieces.now) made) }
+    {
+        let count = pieces.count();
+        if count > 1 {
+            return self.run_pieces(pieces);
+        }
+        let mut made = List::new(self.alloc);
+        if count == 1 {
+            made.push(pieces.piece(self.alloc, 0)?)?;
+        }
+        Ok(made)
     }
-    let mut made = List::new(alloc);
-    if count == 1 {
-        made.push(pieces.piece(alloc, 0)?)?;
-    }
-    Ok(made)
 }

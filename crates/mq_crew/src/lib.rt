@@ -6,9 +6,9 @@ mod gate;
 mod order;
 mod parts;
 mod pieces;
+mod workers;
 
-pub use crew::{made, run_pieces};
+pub use crew::Crew;
 pub use gate::{Gate, Open};
 pub use order::{merged, placed};
-pub use parts::run_parts;
 pub use pieces::Pieces;

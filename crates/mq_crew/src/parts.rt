@@ -4,7 +4,7 @@ ghost use Rattle.std.specs.List.{AllByRecursion};
 ghost use Rattle.std.specs.Vec.Iter.{into_iter_items, into_iter_len};
 ghost use Rattle.mq_crew.specs.Crew.{AreAll, AreGroups, IsPieceOf, total_size};
 
-use crate::{Gate, Pieces, made};
+use crate::{Crew, Gate, Pieces};
 use mq_base::{List, OutOfMemory};
 use std::alloc::Global;
 use std::thread::Threads;
@@ -46,24 +46,18 @@ impl<'a, P: Pieces> Pieces for Parts<'a, P> {
     }
 }
 
-/// Returns the pieces of each part, in a list of its own. All are made as one list by 1 to 64 workers:
-/// the indices of the first part come first, then those of the others. There must be fewer than 2^32
-/// indices. The only error is that memory runs out.
-pub fn run_parts<P: Pieces, G: Gate, R: Threads + Sync>(
-    rt: &R,
-    alloc: Global,
-    workers: u32,
-    parts: &[P],
-    gate: &G,
-) -> Result<List<List<P::Piece>>, OutOfMemory>
-    requires fit { AllByRecursion P.fit parts.now }
-    requires few { total_size P.size parts.now < 2 ^ 32 }
-    requires some { 1 ≤ workers }
-    requires most { workers ≤ 64 }
-    ensures { IfOk result (λ groups. AreGroups P.size P.is_piece parts.now groups) }
-{
-    let made = made(rt, alloc, workers, &Parts { parts }, gate)?;
-    grouped(alloc, parts, made)
+impl<'a, R: Threads + Sync, G: Gate> Crew<'a, R, G> {
+    /// Returns the pieces of each part, in a list of its own. All are made as one list: the indices of the
+    /// first part come first, then those of the others. There must be fewer than 2^32 indices. The only
+    /// error is that memory runs out.
+    pub fn parts<P: Pieces>(&self, parts: &[P]) -> Result<List<List<P::Piece>>, OutOfMemory>
+        requires fit { AllByRecursion P.fit parts.now }
+        requires few { total_size P.size parts.now < 2 ^ 32 }
+        ensures { IfOk result (λ groups. AreGroups P.size P.is_piece parts.now groups) }
+    {
+        let made = self.made(&Parts { parts })?;
+        grouped(self.alloc, parts, made)
+    }
 }
 
 // The pieces of each part, in a list of its own.

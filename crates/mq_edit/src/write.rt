@@ -14,7 +14,7 @@ use crate::files::WORKERS;
 use crate::outcome::EditOutcome;
 use mq_core::{Plan, Rows};
 use mq_counts::{Counts, counts_of_run};
-use mq_crew::Open;
+use mq_crew::{Crew, Open};
 use mq_kept::{Kept, Redone};
 use mq_outside::{Gather, Piece, Sink, SinkFault, add_pieces, flush};
 use mq_report::report;
@@ -85,7 +85,8 @@ pub fn write_kept<R: Threads + Sync, O: Sink>(
     runs_have_few_visits();
     let rows = kept.rows();
     let run = kept.run();
-    let Ok(counts) = counts_of_run(rt, alloc, WORKERS, plan, rows, run, 2, &Open) else {
+    let crew = Crew::new(rt, alloc, WORKERS, &Open);
+    let Ok(counts) = counts_of_run(&crew, plan, rows, run, 2) else {
         return EditOutcome::Memory;
     };
     let written = put_report(plan, rows, &counts, redone, out);

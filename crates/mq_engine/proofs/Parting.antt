@@ -48,12 +48,12 @@ long-ready long others ready is v h = Contains-permutation (long ++ others) read
 pub other-ready : (long others ready : List ℕ) → IsPermutation (long ++ others) ready → (v : ℕ) → Contains others v → Contains ready v
 other-ready long others ready is v h = Contains-permutation (long ++ others) ready v is (Contains-append_right long others v h)
 
--- so many of the nodes of a wave, worked out by so many workers
-abbrev pub side_of_wave : Arriving → Bor (List ℕ) → ℕ → Arriving
-side_of_wave s ready workers = record { plan = s.plan; rows = s.rows; outputs = s.outputs; ready = ready; workers = workers; block = s.block }
+-- these nodes of a wave
+abbrev pub side_of_wave : Arriving → Bor (List ℕ) → Arriving
+side_of_wave s ready = record { plan = s.plan; rows = s.rows; outputs = s.outputs; ready = ready; block = s.block }
 
-pub is-side : (s : Arriving) (ready : Bor (List ℕ)) (workers : ℕ) → IsWave s → ((v : ℕ) → Contains ready.now v → Contains s.ready.now v) → length ready.now ≤ 64 → 1 ≤ workers → workers ≤ 64 → IsSide (side_of_wave s ready workers)
-is-side s ready workers wave among few some most =
+pub is-side : (s : Arriving) (ready : Bor (List ℕ)) → IsWave s → ((v : ℕ) → Contains ready.now v → Contains s.ready.now v) → length ready.now ≤ 64 → IsSide (side_of_wave s ready)
+is-side s ready wave among few =
     record {
       wave =
           record {
@@ -65,14 +65,12 @@ is-side s ready workers wave among few some most =
             block = wave.block;
           };
       few = few;
-      some = some;
-      most = most;
     }
 
 -- what both sides give
-pub both-given : (s : Arriving) (long others : Bor (List ℕ)) (few many : ℕ) (a b : List Given) → IsPermutation (long.now ++ others.now) s.ready.now →
-    AreGiven (side_of_wave s long few) a → AreGiven (side_of_wave s others many) b → AreGiven s (a ++ b)
-both-given s long others few many a b is first second =
+pub both-given : (s : Arriving) (long others : Bor (List ℕ)) (a b : List Given) → IsPermutation (long.now ++ others.now) s.ready.now →
+    AreGiven (side_of_wave s long) a → AreGiven (side_of_wave s others) b → AreGiven s (a ++ b)
+both-given s long others a b is first second =
     let is_given = IsGiven s.plan.now s.rows.now s.ready.now in
     record {
       len =
@@ -87,9 +85,9 @@ both-given s long others few many a b is first second =
           (given-among s.plan.now s.rows.now others.now s.ready.now b (other-ready long.now others.now s.ready.now is) second.known);
     }
 
-pub appended-given : (s : Arriving) (long others : Bor (List ℕ)) (few many : ℕ) {E : Type 0} (first second all : Result (List Given) E) → IsPermutation (long.now ++ others.now) s.ready.now →
-    IfOk first (AreGiven (side_of_wave s long few)) → IfOk second (AreGiven (side_of_wave s others many)) → IfOk all (λ l. IsOkAnd first (λ a. IsOkAnd second (λ b. l ≡ a ++ b))) → IfOk all (AreGiven s)
-appended-given s long others few many first second (Err e) is a b put = tt
-appended-given s long others few many (Err e) second (Ok l) is a b put = absurd put
-appended-given s long others few many (Ok x) (Err e) (Ok l) is a b put = absurd put
-appended-given s long others few many (Ok x) (Ok y) (Ok l) is a b put = subst (AreGiven s) (sym put) (both-given s long others few many x y is a b)
+pub appended-given : (s : Arriving) (long others : Bor (List ℕ)) {E : Type 0} (first second all : Result (List Given) E) → IsPermutation (long.now ++ others.now) s.ready.now →
+    IfOk first (AreGiven (side_of_wave s long)) → IfOk second (AreGiven (side_of_wave s others)) → IfOk all (λ l. IsOkAnd first (λ a. IsOkAnd second (λ b. l ≡ a ++ b))) → IfOk all (AreGiven s)
+appended-given s long others first second (Err e) is a b put = tt
+appended-given s long others (Err e) second (Ok l) is a b put = absurd put
+appended-given s long others (Ok x) (Err e) (Ok l) is a b put = absurd put
+appended-given s long others (Ok x) (Ok y) (Ok l) is a b put = subst (AreGiven s) (sym put) (both-given s long others x y is a b)

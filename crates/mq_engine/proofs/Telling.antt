@@ -228,15 +228,13 @@ can-all s stations all k v e = go stations all k e
     go (w ∷ ws) h zero g = subst (CanWork s.plan.now s.rows.now s.outputs.now) (some_inj w v g) h.0.1
     go (w ∷ ws) h (suc i) g = go ws h.1 i g
 
-pub serves : (s : Arriving) → IsReadFor s.plan.now.net s.rows.now → AreEarly s.outputs.now → CanWorkAll s.plan.now s.rows.now s.outputs.now s.ready.now → length s.ready.now ≤ 64 → 1 ≤ s.workers → s.workers ≤ 64 → 1 ≤ s.block → IsArriving s
-serves s read early can few some most block =
+pub serves : (s : Arriving) → IsReadFor s.plan.now.net s.rows.now → AreEarly s.outputs.now → CanWorkAll s.plan.now s.rows.now s.outputs.now s.ready.now → length s.ready.now ≤ 64 → 1 ≤ s.block → IsArriving s
+serves s read early can few block =
     record {
       read = read;
       ordered = λ u out streams stream a b. (early u out streams stream a b).ordered;
       can = λ k v e. can-come s v (can k v e);
       nodes = few;
-      some = some;
-      most = most;
       block = block;
     }
 

@@ -22,12 +22,10 @@ pub record IsWave (s : Arriving) : Type 0 where
   pub all : HaveAll s.plan.now s.rows.now s.outputs.now s.ready.now
   pub block : 1 ≤ s.block
 
--- the nodes of one side of a wave, or of all of it, and who works them out
+-- the nodes of one side of a wave, or of all of it
 pub record IsSide (s : Arriving) : Type 0 where
   pub wave : IsWave s
   pub few : length s.ready.now ≤ 64
-  pub some : 1 ≤ s.workers
-  pub most : s.workers ≤ 64
 
 -- as many as these nodes, and each is what one of them gives
 pub record AreGiven (s : Arriving) (given : List Given) : Type 0 where

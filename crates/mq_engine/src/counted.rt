@@ -21,7 +21,7 @@ use mq_arrivals::Arriving;
 use mq_base::{List, OutOfMemory};
 use mq_core::{Plan, Rows};
 use mq_counts::{Counts, counted};
-use mq_crew::Gate;
+use mq_crew::{Crew, Gate};
 use std::alloc::Global;
 use std::thread::Threads;
 
@@ -52,10 +52,10 @@ pub fn run_counted<R: Threads + Sync, G: Gate>(
     ensures cause { IfErr result (λ fault. IsCause plan.now rows.now fault) }
 {
     core_laws();
+    let crew = Crew::new(rt, alloc, workers, gate);
     let mut counting = beginning_counts(alloc, plan.net.nodes.len())?;
     'waves: loop {
-        let Ok(told) = told_next(rt, alloc, plan, rows, &counting, workers, block, form, gate)
-        else {
+        let Ok(told) = told_next(&crew, plan, rows, &counting, block, form) else {
             drop(counting);
             return Err(RunFault::Memory);
         };
@@ -70,82 +70,68 @@ pub fn run_counted<R: Threads + Sync, G: Gate>(
 
 // What is told of the nodes that are ready: of none, where none is.
 fn told_next<R: Threads + Sync, G: Gate>(
-    rt: &R,
-    alloc: Global,
+    crew: &Crew<R, G>,
     plan: &Plan,
     rows: &Rows,
     counting: &Counting,
-    workers: u32,
     block: u32,
     form: u8,
-    gate: &G,
 ) -> Result<List<ToldNode>, OutOfMemory>
     requires read { IsReadFor plan.now.net rows.now }
     requires laws { CoreLaws }
     requires counting { IsCounting plan.now rows.now form counting.now.counts.items counting.now.outputs.items counting.now.stands.items }
-    requires some { 1 ≤ workers }
-    requires most { workers ≤ 64 }
     requires block { 1 ≤ block }
     ensures stuck { IfOk result (λ told. length told ≡ 0 → filter (is_ready plan.now.net.nodes counting.now.stands.items) plan.now.order ≡ []) }
     ensures told { IfOk result (AllByRecursion (IsToldAmong plan.now rows.now form (filter (is_ready plan.now.net.nodes counting.now.stands.items) plan.now.order))) }
 {
-    let ready = ready_nodes(alloc, plan, &counting.stands)?;
+    let ready = ready_nodes(crew.alloc, plan, &counting.stands)?;
     if ready.is_empty() {
-        return Ok(List::new(alloc));
+        return Ok(List::new(crew.alloc));
     }
     let arriving = Arriving {
         plan,
         rows,
         outputs: &counting.outputs,
         ready: &ready,
-        workers,
         block,
     };
-    told_ready(rt, alloc, &arriving, form, gate)
+    told_ready(crew, &arriving, form)
 }
 
 // What is told of these nodes: of the sources among them alone, where there are some.
 fn told_ready<R: Threads + Sync, G: Gate>(
-    rt: &R,
-    alloc: Global,
+    crew: &Crew<R, G>,
     arriving: &Arriving,
     form: u8,
-    gate: &G,
 ) -> Result<List<ToldNode>, OutOfMemory>
     requires wave { IsWave arriving.now }
     requires few { length arriving.now.ready.now ≤ 64 }
-    requires some { 1 ≤ arriving.now.workers }
-    requires most { arriving.now.workers ≤ 64 }
     ensures some { IfOk result (λ told. 1 ≤ length arriving.now.ready.now → 1 ≤ length told) }
     ensures told { IfOk result (AllByRecursion (IsToldAmong arriving.now.plan.now arriving.now.rows.now form arriving.now.ready.now)) }
 {
-    let sent = sources_sent(rt, alloc, arriving, gate)?;
+    let sent = sources_sent(crew, arriving)?;
     if sent.is_empty() {
         drop(sent);
-        return told_wave(rt, alloc, arriving, form, gate);
+        return told_wave(crew, arriving, form);
     }
     Ok(sent)
 }
 
 // What is told of all of these nodes, worked out in one wave.
 fn told_wave<R: Threads + Sync, G: Gate>(
-    rt: &R,
-    alloc: Global,
+    crew: &Crew<R, G>,
     arriving: &Arriving,
     form: u8,
-    gate: &G,
 ) -> Result<List<ToldNode>, OutOfMemory>
     requires wave { IsWave arriving.now }
     requires few { length arriving.now.ready.now ≤ 64 }
-    requires some { 1 ≤ arriving.now.workers }
-    requires most { arriving.now.workers ≤ 64 }
     ensures len { IfOk result (λ told. length told ≡ length arriving.now.ready.now) }
     ensures told { IfOk result (AllByRecursion (IsToldAmong arriving.now.plan.now arriving.now.rows.now form arriving.now.ready.now)) }
 {
-    let given = wave_of(rt, alloc, arriving, gate)?;
-    let (plan, rows, workers) = (arriving.plan, arriving.rows, arriving.workers);
-    match counts_of_wave(rt, alloc, workers, plan, rows, &given, form, gate) {
-        Ok(counts) => told_nodes(alloc, plan.net.nodes.as_slice(), given, counts),
+    let given = wave_of(crew, arriving)?;
+    let (plan, rows) = (arriving.plan, arriving.rows);
+    match counts_of_wave(crew, plan, rows, &given, form) {
+        Ok(counts) => told_nodes(crew.alloc, plan.net.nodes.as_slice(), given, counts),
         Err(fault) => {
             drop(given);
             Err(fault)

@@ -18,7 +18,7 @@ use crate::laws::core_laws;
 use mq_arrivals::{Arriving, stream_of};
 use mq_base::{List, OutOfMemory};
 use mq_core::{Fate, Fates, Kind, PastFault, Stream, Visits, sequences_are_blind};
-use mq_crew::{Gate, Pieces, made};
+use mq_crew::{Crew, Gate, Pieces};
 use mq_exits::{Ending, NodeResult, nobody};
 use mq_join::{Gathered, Joined, fork_copies, join_visits};
 use mq_stations::only;
@@ -197,20 +197,16 @@ fn result_at(alloc: Global, arriving: &Arriving, number: u32) -> Result<NodeResu
 
 /// What these forks and joins give, one piece a node.
 pub fn apart_results<R: Threads + Sync, G: Gate>(
-    rt: &R,
-    alloc: Global,
+    crew: &Crew<R, G>,
     arriving: &Arriving,
-    gate: &G,
 ) -> Result<List<NodeResult>, OutOfMemory>
     requires gathering { IsGathering arriving.now }
     requires few { length arriving.now.ready.now ≤ 64 }
-    requires some { 1 ≤ arriving.now.workers }
-    requires most { arriving.now.workers ≤ 64 }
     ensures len { IfOk result (λ results. length results ≡ length arriving.now.ready.now) }
     ensures known { IfOk result (λ results. AllByRecursion (IsResultOf arriving.now.plan.now arriving.now.rows.now arriving.now.ready.now) results) }
 {
     let apart = Apart {
         arriving: *arriving,
     };
-    made(rt, alloc, arriving.workers, &apart, gate)
+    crew.made(&apart)
 }

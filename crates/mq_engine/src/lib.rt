@@ -36,7 +36,7 @@ use mq_arrivals::Arriving;
 use mq_base::{List, OutOfMemory};
 pub use mq_core::{OverFault, PastFault};
 use mq_core::{Plan, Rows, Run};
-use mq_crew::Gate;
+use mq_crew::{Crew, Gate};
 use mq_exits::{NodeResult, finished};
 pub use mq_pass::chain_departures;
 use std::alloc::Global;
@@ -80,10 +80,10 @@ pub fn run<R: Threads + Sync, G: Gate>(
     ensures cause { IfErr result (λ fault. IsCause plan.now rows.now fault) }
 {
     core_laws();
+    let crew = Crew::new(rt, alloc, workers, gate);
     let mut progress = beginning(alloc, plan.net.nodes.len())?;
     'waves: loop {
-        let Ok(results) = results_next(rt, alloc, plan, rows, &progress, workers, block, gate)
-        else {
+        let Ok(results) = results_next(&crew, plan, rows, &progress, block) else {
             drop(progress);
             return Err(RunFault::Memory);
         };
@@ -97,38 +97,32 @@ pub fn run<R: Threads + Sync, G: Gate>(
 
 // How the nodes end that are ready: none, where none is.
 fn results_next<R: Threads + Sync, G: Gate>(
-    rt: &R,
-    alloc: Global,
+    crew: &Crew<R, G>,
     plan: &Plan,
     rows: &Rows,
     progress: &Progress,
-    workers: u32,
     block: u32,
-    gate: &G,
 ) -> Result<List<NodeResult>, OutOfMemory>
     requires read { IsReadFor plan.now.net rows.now }
     requires laws { CoreLaws }
     requires reached { IsReached plan.now rows.now progress.now.visits.items progress.now.outputs.items progress.now.stands.items }
-    requires some { 1 ≤ workers }
-    requires most { workers ≤ 64 }
     requires block { 1 ≤ block }
     ensures stuck { IfOk result (λ results. length results ≡ 0 → filter (is_ready plan.now.net.nodes progress.now.stands.items) plan.now.order ≡ []) }
     ensures known { IfOk result (AllByRecursion (IsResultOf plan.now rows.now (filter (is_ready plan.now.net.nodes progress.now.stands.items) plan.now.order))) }
 {
-    let ready = ready_nodes(alloc, plan, &progress.stands)?;
+    let ready = ready_nodes(crew.alloc, plan, &progress.stands)?;
     if ready.is_empty() {
-        return Ok(List::new(alloc));
+        return Ok(List::new(crew.alloc));
     }
     let arriving = Arriving {
         plan,
         rows,
         outputs: &progress.outputs,
         ready: &ready,
-        workers,
         block,
     };
-    let given = wave_of(rt, alloc, &arriving, gate)?;
-    finished(rt, alloc, workers, given, gate)
+    let given = wave_of(crew, &arriving)?;
+    finished(crew, given)
 }
 
 // The run, where no node is ready any more: all nodes are done, or the first by rank that is not

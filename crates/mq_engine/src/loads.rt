@@ -13,7 +13,7 @@ use mq_arrivals::{Arrived, Arriving, arrivals_of};
 use mq_asked::{Asked, asked_of};
 use mq_base::{List, OutOfMemory};
 use mq_core::{Kind, Plan, Rows, Stream};
-use mq_crew::{Gate, Pieces, made};
+use mq_crew::{Crew, Gate, Pieces};
 use mq_exits::Held;
 use mq_scan::Blocks;
 use mq_stations::{ForkJoinScan, TandemScan, forkjoin_scan, split_blocks, tandem_scan};
@@ -90,10 +90,8 @@ impl<'a, 's> Pieces for Scanning<'a, 's> {
 /// What comes to the nodes that are ready, and how their stations are worked out: behind the lists in
 /// which it is put in order, one of what the jobs ask for at the stations that are scanned, where no column is that.
 pub fn loads_of<'a, R: Threads + Sync, G: Gate>(
-    rt: &R,
-    alloc: Global,
+    crew: &Crew<R, G>,
     arriving: &Arriving<'a, '_>,
-    gate: &G,
 ) -> Result<List<Scanned<'a>>, OutOfMemory>
     requires arriving { IsArriving arriving.now }
     requires early { AreEarly arriving.now.outputs.now }
@@ -103,19 +101,19 @@ pub fn loads_of<'a, R: Threads + Sync, G: Gate>(
     ensures of { IfOk result (λ loads. AllByRecursion (λ s. IsLoadOf arriving.now.plan.now arriving.now.rows.now arriving.now.ready.now s.held) loads) }
 {
     core_laws();
-    let arrived = arrivals_of(rt, alloc, arriving, gate)?;
+    let arrived = arrivals_of(crew, arriving)?;
     let scanning = Scanning {
         plan: arriving.plan,
         rows: arriving.rows,
         arrived: arrived.as_slice(),
-        workers: arriving.workers,
+        workers: crew.workers,
         block: arriving.block,
     };
-    let Ok(scans) = made(rt, alloc, arriving.workers, &scanning, gate) else {
+    let Ok(scans) = crew.made(&scanning) else {
         drop(arrived);
         return Err(OutOfMemory);
     };
-    all_scanned(alloc, arriving, arrived, scans)
+    all_scanned(crew.alloc, arriving, arrived, scans)
 }
 
 // The loads, with how the stations are worked out.

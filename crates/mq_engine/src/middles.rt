@@ -13,7 +13,7 @@ use crate::loads::{Scan, Scanned};
 use mq_base::{List, OutOfMemory};
 use mq_branches::forkjoin_departures;
 use mq_core::Stream;
-use mq_crew::{Gate, Pieces};
+use mq_crew::{Crew, Gate, Pieces};
 use mq_exits::{Completion, Load, Worked, left_by};
 use mq_pass::chain_departures;
 use mq_scan::block_size;
@@ -83,70 +83,60 @@ fn latest_of(interim: &Interim) -> &List<Latest>
 
 // When the jobs of a server depart, in a single pass over blocks of at least so many jobs.
 fn server_departures<R: Threads + Sync, G: Gate>(
-    rt: &R,
-    alloc: Global,
-    workers: u32,
+    crew: &Crew<R, G>,
     block: u32,
     arrivals: &Stream,
     demands: &List<u64>,
-    gate: &G,
 ) -> Result<List<u64>, OutOfMemory>
     requires load { IsSoundLoad arrivals.now.time demands.now }
-    requires some { 1 ≤ workers }
-    requires most { workers ≤ 64 }
     requires block { 1 ≤ block }
     ensures { IfOk result (λ departs. departs ≡ lindley 0 arrivals.now.time demands.now) }
 {
     let jobs = arrivals.time.len() as u32;
     let block = block_size(jobs, block);
-    chain_departures(rt, alloc, workers, block, arrivals, demands, gate)
+    chain_departures(
+        crew.rt,
+        crew.alloc,
+        crew.workers,
+        block,
+        arrivals,
+        demands,
+        crew.gate,
+    )
 }
 
 // What is known of a station when all its jobs have left: of its applied blocks, where it has some. The
 // single pass of a server is made here, the branches of a fork-join are scanned here, and the jobs of a
 // delay are put in order.
 pub fn completion_of<R: Threads + Sync, G: Gate>(
-    rt: &R,
-    alloc: Global,
-    workers: u32,
+    crew: &Crew<R, G>,
     load: &Load,
     scan: &Scan,
     interim: Interim,
     group: &List<List<u64>>,
-    gate: &G,
 ) -> Result<Completion, OutOfMemory>
     requires scanned { IsScanned load.now.plan.now load.now.rows.now load.now.number load.now.arrivals.now scan.now }
     requires interim { IsInterim load.now.plan.now load.now.rows.now load.now.number load.now.arrivals.now scan.now interim }
     requires group { AreAll (IsApplied load.now.arrivals.now scan.now) (applied_of scan.now) group.now }
-    requires some { 1 ≤ workers }
-    requires most { workers ≤ 64 }
     requires block { 1 ≤ load.now.block }
     ensures { IfOk result (λ completion. IsCompletion load.now.plan.now load.now.rows.now load.now.number load.now.arrivals.now completion) }
 {
     match scan {
-        Scan::Unscanned => left_by(rt, alloc, workers, load, the_end(interim)),
+        Scan::Unscanned => left_by(crew, load, the_end(interim)),
         // Here and below what is known so far goes first: beside what departs, it would take five times as long to prove.
         Scan::OfServer(asked) => {
             drop(interim);
-            let departs = server_departures(
-                rt,
-                alloc,
-                workers,
-                load.block,
-                load.arrivals,
-                asked.list(),
-                gate,
-            )?;
+            let departs = server_departures(crew, load.block, load.arrivals, asked.list())?;
             Ok(Completion::Served(departs))
         }
         Scan::OfTandem(scan) => {
             drop(interim);
-            let departs = tandem_joined(alloc, load.arrivals, scan, group)?;
+            let departs = tandem_joined(crew.alloc, load.arrivals, scan, group)?;
             Ok(Completion::Served(departs))
         }
         Scan::OfForkJoin(scan) => {
             drop(interim);
-            let departs = forkjoin_departures(rt, alloc, workers, load.arrivals, scan, gate)?;
+            let departs = forkjoin_departures(crew, load.arrivals, scan)?;
             Ok(Completion::Served(departs))
         }
         Scan::OfSplit(_) => Ok(Completion::Passed(the_parts(interim))),

@@ -1,5 +1,5 @@
 // The nodes that are ready, worked out by the crew.
-ghost use Rattle.std.specs.Prelude.{◌≡◌, ◌≤◌, ℕ, List as Items, length, IfOk};
+ghost use Rattle.std.specs.Prelude.{◌≡◌, ℕ, List as Items, length, IfOk};
 ghost use Rattle.std.specs.List.{AllByRecursion};
 ghost use Rattle.mq_crew.specs.Crew.{AreAll, AreGroups};
 ghost use Rattle.mq_core.specs.declared.model.Plan.{Plan as ThePlan};
@@ -17,7 +17,7 @@ use crate::loads::{Scanned, loads_of};
 use crate::middles::{Middle, completion_of};
 use mq_arrivals::Arriving;
 use mq_base::{List, OutOfMemory};
-use mq_crew::{Gate, run_parts};
+use mq_crew::{Crew, Gate};
 use mq_exits::{Emptied, Given, Held, given_of};
 use std::alloc::Global;
 use std::thread::Threads;
@@ -27,10 +27,8 @@ use std::thread::Threads;
 // of each whose jobs don't leave in turn. Before these each server has its single pass, one after another, each fork-join lists of its own,
 // and the jobs of a delay are put in order.
 pub fn given_by<'a, R: Threads + Sync, G: Gate>(
-    rt: &R,
-    alloc: Global,
+    crew: &Crew<R, G>,
     arriving: &Arriving<'a, '_>,
-    gate: &G,
 ) -> Result<List<Given<'a>>, OutOfMemory>
     requires arriving { IsArriving arriving.now }
     requires early { AreEarly arriving.now.outputs.now }
@@ -38,12 +36,11 @@ pub fn given_by<'a, R: Threads + Sync, G: Gate>(
     ensures len { IfOk result (λ given. length given ≡ length arriving.now.ready.now) }
     ensures known { IfOk result (λ given. AllByRecursion (IsGiven arriving.now.plan.now arriving.now.rows.now arriving.now.ready.now) given) }
 {
-    let workers = arriving.workers;
-    let middles = begun(rt, alloc, arriving, gate)?;
-    match run_parts(rt, alloc, workers, middles.as_slice(), gate) {
+    let middles = begun(crew, arriving)?;
+    match crew.parts(middles.as_slice()) {
         Ok(groups) => {
-            let those_emptied = all_emptied(rt, alloc, workers, middles, groups, gate)?;
-            given_of(rt, alloc, workers, those_emptied, gate)
+            let those_emptied = all_emptied(crew, middles, groups)?;
+            given_of(crew, those_emptied)
         }
         Err(fault) => {
             drop(middles);
@@ -54,10 +51,8 @@ pub fn given_by<'a, R: Threads + Sync, G: Gate>(
 
 // What comes to the nodes that are ready, and what is known of their stations after their first pieces.
 fn begun<'a, R: Threads + Sync, G: Gate>(
-    rt: &R,
-    alloc: Global,
+    crew: &Crew<R, G>,
     arriving: &Arriving<'a, '_>,
-    gate: &G,
 ) -> Result<List<Middle<'a>>, OutOfMemory>
     requires arriving { IsArriving arriving.now }
     requires early { AreEarly arriving.now.outputs.now }
@@ -66,9 +61,9 @@ fn begun<'a, R: Threads + Sync, G: Gate>(
     ensures ready { IfOk result (λ middles. AllByRecursion IsReadyMiddle middles) }
     ensures of { IfOk result (λ middles. AllByRecursion (λ m. IsLoadOf arriving.now.plan.now arriving.now.rows.now arriving.now.ready.now m.scanned.held) middles) }
 {
-    let loads = loads_of(rt, alloc, arriving, gate)?;
-    match run_parts(rt, alloc, arriving.workers, loads.as_slice(), gate) {
-        Ok(groups) => middles_of(alloc, loads, groups),
+    let loads = loads_of(crew, arriving)?;
+    match crew.parts(loads.as_slice()) {
+        Ok(groups) => middles_of(crew.alloc, loads, groups),
         Err(fault) => {
             drop(loads);
             Err(fault)
@@ -115,22 +110,17 @@ fn middles_of<'a>(
 
 // The stations whose departures are known, of their applied blocks where they are scanned.
 fn all_emptied<'a, R: Threads + Sync, G: Gate>(
-    rt: &R,
-    alloc: Global,
-    workers: u32,
+    crew: &Crew<R, G>,
     middles: List<Middle<'a>>,
     groups: List<List<List<u64>>>,
-    gate: &G,
 ) -> Result<List<Emptied<'a>>, OutOfMemory>
     requires ready { AllByRecursion IsReadyMiddle middles }
     requires groups { AreGroups (λ m. applied_of m.scanned.scan) (λ m b times. IsApplied (stream_in m.scanned.held.arrivals) m.scanned.scan b times) middles groups }
-    requires some { 1 ≤ workers }
-    requires most { workers ≤ 64 }
     ensures len { IfOk result (λ those_emptied. length those_emptied ≡ length middles.entry) }
     ensures ready { IfOk result (λ those_emptied. AllByRecursion IsReadyCompletion those_emptied) }
     ensures of { IfOk result (λ those_emptied. (plan : ThePlan) (rows : TheRows) (ready : Items ℕ) → AllByRecursion (λ m. IsLoadOf plan rows ready m.scanned.held) middles.entry → AllByRecursion (λ l. IsLoadOf plan rows ready l.held) those_emptied) }
 {
-    let Ok(mut those_emptied) = Vec::with_capacity(alloc, middles.len()) else {
+    let Ok(mut those_emptied) = Vec::with_capacity(crew.alloc, middles.len()) else {
         drop(middles);
         drop(groups);
         return Err(OutOfMemory);
@@ -141,7 +131,7 @@ fn all_emptied<'a, R: Threads + Sync, G: Gate>(
         let Some(group) = groups.pop() else {
             unreachable!()
         };
-        match emptied_of(rt, alloc, workers, middle, group, gate) {
+        match emptied_of(crew, middle, group) {
             Ok(emptied) => those_emptied.push_reserved(emptied),
             Err(fault) => {
                 drop(middles);
@@ -156,23 +146,18 @@ fn all_emptied<'a, R: Threads + Sync, G: Gate>(
 
 // A station whose departures are known, of its applied blocks where it is scanned.
 fn emptied_of<'a, R: Threads + Sync, G: Gate>(
-    rt: &R,
-    alloc: Global,
-    workers: u32,
+    crew: &Crew<R, G>,
     middle: Middle<'a>,
     group: List<List<u64>>,
-    gate: &G,
 ) -> Result<Emptied<'a>, OutOfMemory>
     requires ready { IsReadyMiddle middle }
     requires group { AreAll (IsApplied (stream_in middle.scanned.held.arrivals) middle.scanned.scan) (applied_of middle.scanned.scan) group }
-    requires some { 1 ≤ workers }
-    requires most { workers ≤ 64 }
     ensures ready { IfOk result IsReadyCompletion }
     ensures same { IfOk result (λ emptied. emptied.held ≡ middle.entry.scanned.held) }
 {
     let Middle { scanned, interim } = middle;
     let (load, scan) = (scanned.held.load(), &scanned.scan);
-    match completion_of(rt, alloc, workers, &load, scan, interim, &group, gate) {
+    match completion_of(crew, &load, scan, interim, &group) {
         Ok(completion) => {
             drop(group);
             let held = held_alone(scanned);

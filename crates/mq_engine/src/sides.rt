@@ -8,7 +8,7 @@ use crate::wave::{coming_by_ports, side_of};
 use mq_arrivals::Arriving;
 use mq_base::{List, OutOfMemory};
 use mq_core::Kind;
-use mq_crew::Gate;
+use mq_crew::{Crew, Gate};
 use mq_exits::Given;
 use std::alloc::Global;
 use std::marker::Sync;
@@ -37,15 +37,15 @@ fn coming_to_all(arriving: &Arriving) -> u64
 // Whether a node is a station of one long piece: its rounds depend on one another, so none of its blocks can be settled alone, and
 // more jobs come to it than the even share of a worker in what comes to all. The wave ends no sooner than that piece.
 // A further kind that is settled in rounds adds its case here.
-fn is_long(arriving: &Arriving, number: u32, all: u64) -> bool
+fn is_long(arriving: &Arriving, workers: u32, number: u32, all: u64) -> bool
     requires wave { IsWave arriving.now }
     requires ready { Contains arriving.now.ready.now number }
-    requires most { arriving.now.workers ≤ 64 }
+    requires most { workers ≤ 64 }
 {
     match &arriving.plan.net.nodes.get(number as usize).kind {
         Kind::Loss { .. } | Kind::Trunk { .. } => {
             let count = coming_by_ports(arriving, number) as u64;
-            count * arriving.workers as u64 > all
+            count * workers as u64 > all
         }
         Kind::Source
         | Kind::Server(_)
@@ -59,10 +59,10 @@ fn is_long(arriving: &Arriving, number: u32, all: u64) -> bool
 }
 
 // The nodes that are ready, parted: each is on one side.
-pub fn sides_of(alloc: Global, arriving: &Arriving) -> Result<Sides, OutOfMemory>
+pub fn sides_of(alloc: Global, arriving: &Arriving, workers: u32) -> Result<Sides, OutOfMemory>
     requires wave { IsWave arriving.now }
     requires few { length arriving.now.ready.now ≤ 64 }
-    requires most { arriving.now.workers ≤ 64 }
+    requires most { workers ≤ 64 }
     ensures { IfOk result (λ sides. IsPermutation (sides.long.items ++ sides.others.items) arriving.now.ready.now) }
 {
     let all = coming_to_all(arriving);
@@ -72,7 +72,7 @@ pub fn sides_of(alloc: Global, arriving: &Arriving) -> Result<Sides, OutOfMemory
     };
     for at in 0..arriving.ready.len() {
         let number = arriving.ready[at];
-        if is_long(arriving, number, all) {
+        if is_long(arriving, workers, number, all) {
             sides.long.push(number)?;
         } else {
             sides.others.push(number)?;
@@ -95,11 +95,10 @@ pub fn shares(workers: u32, long: u32) -> (u32, u32)
 
 // What the nodes of both sides give, each worked out by its own workers.
 pub fn side_by_side<'a, R: Threads + Sync, G: Gate>(
-    rt: &R,
-    alloc: Global,
+    few: &Crew<R, G>,
     long: &Arriving<'a, '_>,
+    many: &Crew<R, G>,
     others: &Arriving<'a, '_>,
-    gate: &G,
 ) -> (
     Result<List<Given<'a>>, OutOfMemory>,
     Result<List<Given<'a>>, OutOfMemory>,
@@ -112,12 +111,12 @@ pub fn side_by_side<'a, R: Threads + Sync, G: Gate>(
     let front = move || -> Result<List<Given>, OutOfMemory>
         requires { IsSync R.row × IsSync G.row × IsSide long.now }
         ensures { IfOk result (AreGiven long.entry.now) }
-    { side_of(rt, alloc, long, gate) };
+    { side_of(few, long) };
     let back = move || -> Result<List<Given>, OutOfMemory>
         requires { IsSync R.row × IsSync G.row × IsSide others.now }
         ensures { IfOk result (AreGiven others.entry.now) }
-    { side_of(rt, alloc, others, gate) };
-    join(rt, front, back)
+    { side_of(many, others) };
+    join(few.rt, front, back)
 }
 
 // What both give, one behind the other, or the refusal of either.

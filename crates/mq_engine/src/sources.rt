@@ -29,7 +29,7 @@ use mq_core::{
     sequences_go_by_fates,
 };
 use mq_counts::{NodeCount, is_read};
-use mq_crew::Gate;
+use mq_crew::{Crew, Gate};
 use mq_join::fork_copies;
 use mq_merge::Arrivals;
 use mq_stations::{first_late_in_turn, only};
@@ -210,10 +210,8 @@ fn all_sent(
 
 // What these sources let out.
 fn sent_by<R: Threads + Sync, G: Gate>(
-    rt: &R,
-    alloc: Global,
+    crew: &Crew<R, G>,
     arriving: &Arriving,
-    gate: &G,
 ) -> Result<List<ToldNode>, OutOfMemory>
     requires arriving { IsArriving arriving.now }
     requires early { AreEarly arriving.now.outputs.now }
@@ -223,30 +221,26 @@ fn sent_by<R: Threads + Sync, G: Gate>(
     ensures known { IfOk result (λ sent. (form : ℕ) → AllByRecursion (IsToldAmong arriving.now.plan.now arriving.now.rows.now form arriving.now.ready.now) sent) }
 {
     core_laws();
-    let arrived = arrivals_of(rt, alloc, arriving, gate)?;
-    all_sent(alloc, arriving, arrived)
+    let arrived = arrivals_of(crew, arriving)?;
+    all_sent(crew.alloc, arriving, arrived)
 }
 
 /// What those of the nodes that are ready let out that are sources: none, where none is one.
 pub fn sources_sent<R: Threads + Sync, G: Gate>(
-    rt: &R,
-    alloc: Global,
+    crew: &Crew<R, G>,
     arriving: &Arriving,
-    gate: &G,
 ) -> Result<List<ToldNode>, OutOfMemory>
     requires wave { IsWave arriving.now }
     requires few { length arriving.now.ready.now ≤ 64 }
-    requires some { 1 ≤ arriving.now.workers }
-    requires most { arriving.now.workers ≤ 64 }
     ensures { IfOk result (λ sent. (form : ℕ) → AllByRecursion (IsToldAmong arriving.now.plan.now arriving.now.rows.now form arriving.now.ready.now) sent) }
 {
-    let sources = sources_among(alloc, arriving.plan, arriving.ready)?;
+    let sources = sources_among(crew.alloc, arriving.plan, arriving.ready)?;
     if sources.is_empty() {
-        return Ok(List::new(alloc));
+        return Ok(List::new(crew.alloc));
     }
     let sending = Arriving {
         ready: &sources,
         ..*arriving
     };
-    sent_by(rt, alloc, &sending, gate)
+    sent_by(crew, &sending)
 }

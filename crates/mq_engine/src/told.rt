@@ -17,7 +17,7 @@ use crate::progress::no_visits;
 use mq_base::{List, OutOfMemory};
 use mq_core::{Node, OverFault, PastFault, Plan, Rows, Stream, Visits};
 use mq_counts::{NodeCount, NodeSequences, SeenStreams, SeenVisits, counts_of};
-use mq_crew::Gate;
+use mq_crew::{Crew, Gate};
 use mq_exits::{Ending, Given, Held, InTurn, NodeResult};
 use mq_merge::Arrivals;
 use mq_stations::only;
@@ -147,19 +147,14 @@ fn all_sequences<'a>(
 
 // What is told of the nodes of a wave, where nobody has come to those that are refused.
 fn counts_beside<R: Threads + Sync, G: Gate>(
-    rt: &R,
-    alloc: Global,
-    workers: u32,
+    crew: &Crew<R, G>,
     plan: &Plan,
     rows: &Rows,
     given: &List<Given>,
     form: u8,
     nobody: &Visits,
     nothing: &List<Stream>,
-    gate: &G,
 ) -> Result<List<NodeCount>, OutOfMemory>
-    requires some { 1 ≤ workers }
-    requires most { workers ≤ 64 }
     requires few { length given.now ≤ 64 }
     requires read { IsReadFor plan.now.net rows.now }
     requires known { AreWorkedOut plan.now rows.now (map result_given given.now) }
@@ -168,9 +163,9 @@ fn counts_beside<R: Threads + Sync, G: Gate>(
     requires nothing { nothing.now ≡ [] }
     ensures { IfOk result (AreTold plan.now rows.now form (map result_given given.now)) }
 {
-    let all = all_sequences(alloc, plan, rows, given, nobody, nothing)?;
+    let all = all_sequences(crew.alloc, plan, rows, given, nobody, nothing)?;
     let nodes = plan.net.nodes.as_slice();
-    let counts = counts_of(rt, alloc, workers, nodes, rows, &all, form, gate);
+    let counts = counts_of(crew, nodes, rows, &all, form);
     drop(all);
     counts
 }
@@ -178,27 +173,20 @@ fn counts_beside<R: Threads + Sync, G: Gate>(
 /// What is told of the nodes of a wave that give this, at most 64, in a report of this form, by 1 to 64 workers.
 /// It refuses for want of memory alone.
 pub fn counts_of_wave<R: Threads + Sync, G: Gate>(
-    rt: &R,
-    alloc: Global,
-    workers: u32,
+    crew: &Crew<R, G>,
     plan: &Plan,
     rows: &Rows,
     given: &List<Given>,
     form: u8,
-    gate: &G,
 ) -> Result<List<NodeCount>, OutOfMemory>
-    requires some { 1 ≤ workers }
-    requires most { workers ≤ 64 }
     requires few { length given.now ≤ 64 }
     requires read { IsReadFor plan.now.net rows.now }
     requires known { AreWorkedOut plan.now rows.now (map result_given given.now) }
     requires turn { AllByRecursion IsKeepingTurn given.now }
     ensures { IfOk result (AreTold plan.now rows.now form (map result_given given.now)) }
 {
-    let (nobody, nothing) = (no_visits(alloc), List::new(alloc));
-    let counts = counts_beside(
-        rt, alloc, workers, plan, rows, given, form, &nobody, &nothing, gate,
-    );
+    let (nobody, nothing) = (no_visits(crew.alloc), List::new(crew.alloc));
+    let counts = counts_beside(crew, plan, rows, given, form, &nobody, &nothing);
     drop(nobody);
     drop(nothing);
     counts

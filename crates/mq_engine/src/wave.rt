@@ -19,7 +19,7 @@ use crate::sides::{appended, shares, side_by_side, sides_of};
 use mq_arrivals::{Arriving, stream_of};
 use mq_base::{List, OutOfMemory};
 use mq_core::{Kind, OverFault, is_source};
-use mq_crew::Gate;
+use mq_crew::{Crew, Gate};
 use mq_exits::{Ending, Given, NodeResult, with_ended};
 use std::alloc::Global;
 use std::thread::Threads;
@@ -158,20 +158,18 @@ fn all_given<'a>(
 
 // What these nodes give, by all workers together.
 pub fn side_of<'a, R: Threads + Sync, G: Gate>(
-    rt: &R,
-    alloc: Global,
+    crew: &Crew<R, G>,
     arriving: &Arriving<'a, '_>,
-    gate: &G,
 ) -> Result<List<Given<'a>>, OutOfMemory>
     requires { IsSide arriving.now }
     ensures { IfOk result (AreGiven arriving.now) }
 {
-    let wave = sorted_out(alloc, arriving)?;
+    let wave = sorted_out(crew.alloc, arriving)?;
     let gathering = Arriving {
         ready: &wave.apart,
         ..*arriving
     };
-    let Ok(gathered) = apart_results(rt, alloc, &gathering, gate) else {
+    let Ok(gathered) = apart_results(crew, &gathering) else {
         drop(wave);
         return Err(OutOfMemory);
     };
@@ -179,7 +177,7 @@ pub fn side_of<'a, R: Threads + Sync, G: Gate>(
         ready: &wave.stations,
         ..*arriving
     };
-    let Ok(served) = given_by(rt, alloc, &serving, gate) else {
+    let Ok(served) = given_by(crew, &serving) else {
         drop(wave);
         drop(gathered);
         return Err(OutOfMemory);
@@ -190,35 +188,29 @@ pub fn side_of<'a, R: Threads + Sync, G: Gate>(
 /// What the nodes that are ready give: stations of one long piece beside all others, where there are both. It refuses for
 /// want of memory alone.
 pub fn wave_of<'a, R: Threads + Sync, G: Gate>(
-    rt: &R,
-    alloc: Global,
+    crew: &Crew<R, G>,
     arriving: &Arriving<'a, '_>,
-    gate: &G,
 ) -> Result<List<Given<'a>>, OutOfMemory>
     requires wave { IsWave arriving.now }
     requires few { length arriving.now.ready.now ≤ 64 }
-    requires some { 1 ≤ arriving.now.workers }
-    requires most { arriving.now.workers ≤ 64 }
     ensures len { IfOk result (λ given. length given ≡ length arriving.now.ready.now) }
     ensures known { IfOk result (λ given. AllByRecursion (IsGiven arriving.now.plan.now arriving.now.rows.now arriving.now.ready.now) given) }
 {
-    let sides = sides_of(alloc, arriving)?;
-    if arriving.workers == 1 || sides.long.is_empty() || sides.others.is_empty() {
+    let sides = sides_of(crew.alloc, arriving, crew.workers)?;
+    if crew.workers == 1 || sides.long.is_empty() || sides.others.is_empty() {
         drop(sides);
-        return side_of(rt, alloc, arriving, gate);
+        return side_of(crew, arriving);
     }
-    let (few, many) = shares(arriving.workers, sides.long.len() as u32);
+    let (few, many) = shares(crew.workers, sides.long.len() as u32);
     let long = Arriving {
         ready: &sides.long,
-        workers: few,
         ..*arriving
     };
     let others = Arriving {
         ready: &sides.others,
-        workers: many,
         ..*arriving
     };
-    let (first, second) = side_by_side(rt, alloc, &long, &others, gate);
+    let (first, second) = side_by_side(&crew.with(few), &long, &crew.with(many), &others);
     drop(sides);
     appended(first, second)
 }

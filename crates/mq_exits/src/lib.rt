@@ -29,7 +29,7 @@ use crate::exits::result_of;
 pub use exits::{Closed, Completion, Emptied};
 pub use load::{Held, Load};
 use mq_base::{List, OutOfMemory};
-use mq_crew::{Gate, run_parts};
+use mq_crew::{Crew, Gate};
 pub use overtaking::{Overtaken, left_by};
 pub use settling::Faring;
 pub use splitting::{parted, routed};
@@ -47,21 +47,16 @@ pub use working::{After, Ending, NodeResult, Worked, nobody, station_whole};
 /// found; of a loss station or a trunk group how the arrivals fared, and what leaves. Behind these come, where what
 /// came was only read, the jobs and when they came, which the visits keep. It refuses for want of memory alone.
 pub fn station_results<R: Threads + Sync, G: Gate>(
-    rt: &R,
-    alloc: Global,
-    workers: u32,
+    crew: &Crew<R, G>,
     those_emptied: List<Emptied>,
-    gate: &G,
 ) -> Result<List<NodeResult>, OutOfMemory>
     requires ready { AllByRecursion IsReadyCompletion those_emptied }
     requires few { length those_emptied ≤ 64 }
-    requires some { 1 ≤ workers }
-    requires most { workers ≤ 64 }
     ensures len { IfOk result (λ results. length results ≡ length those_emptied.entry) }
     ensures known { IfOk result (λ results. (plan : ThePlan) (rows : TheRows) (ready : Items ℕ) → AllByRecursion (λ l. IsLoadOf plan rows ready l.held) those_emptied.entry → AllByRecursion (IsResultOf plan rows ready) results) }
 {
-    match run_parts(rt, alloc, workers, those_emptied.as_slice(), gate) {
-        Ok(groups) => ended(alloc, those_emptied, groups),
+    match crew.parts(those_emptied.as_slice()) {
+        Ok(groups) => ended(crew.alloc, those_emptied, groups),
         Err(fault) => {
             drop(those_emptied);
             Err(fault)

@@ -15,12 +15,12 @@ use crate::load::Load;
 use crate::working::{After, Worked};
 use mq_base::{List, OutOfMemory};
 use mq_core::{Kind, Stream, fates_are_in_time, sequences_go_by_fates};
+use mq_crew::{Crew, Gate};
 use mq_delay::delay_leaving;
 use mq_merge::by_time;
 use mq_scan::{Blocks, block_size, cut};
 use mq_stations::first_late_overtaken;
 use mq_stats::{AheadTable, ahead_of_departures};
-use std::alloc::Global;
 use std::thread::Threads;
 
 /// A delay whose jobs were put in the order in which they leave, none of them late.
@@ -39,10 +39,8 @@ pub struct Overtaken {
 /// What is known of a station of which one piece told so much, when all its jobs have left. Those of a
 /// delay are put in the order in which they leave, here, where threads can be had. It refuses for want of
 /// memory alone.
-pub fn left_by<R: Threads + Sync>(
-    rt: &R,
-    alloc: Global,
-    workers: u32,
+pub fn left_by<R: Threads + Sync, G: Gate>(
+    crew: &Crew<R, G>,
     load: &Load,
     worked: Worked,
 ) -> Result<Completion, OutOfMemory>
@@ -55,16 +53,14 @@ pub fn left_by<R: Threads + Sync>(
         Worked::Finished(after) => Ok(Completion::Known(after)),
         Worked::Settled(settled) => Ok(Completion::Settled(settled)),
         Worked::Sent => Ok(Completion::Sent),
-        Worked::Departed(departs) => completion_by_departures(rt, alloc, workers, load, departs),
+        Worked::Departed(departs) => completion_by_departures(crew, load, departs),
     }
 }
 
 // What is known of a station whose jobs depart at these times, by position. Where they can't overtake one
 // another they leave in their order.
-fn completion_by_departures<R: Threads + Sync>(
-    rt: &R,
-    alloc: Global,
-    workers: u32,
+fn completion_by_departures<R: Threads + Sync, G: Gate>(
+    crew: &Crew<R, G>,
     load: &Load,
     departs: List<u64>,
 ) -> Result<Completion, OutOfMemory>
@@ -75,7 +71,7 @@ fn completion_by_departures<R: Threads + Sync>(
 {
     let kind = &load.plan.net.nodes.get(load.number as usize).kind;
     if may_overtake(kind) {
-        overtaken_at(rt, alloc, workers, load, departs)
+        overtaken_at(crew, load, departs)
     } else {
         Ok(Completion::Served(departs))
     }
@@ -101,10 +97,8 @@ fn may_overtake(kind: &Kind) -> bool
 
 // What is known of a delay whose jobs depart at these times, by position. Where no time is below one before it no job overtakes another: they
 // leave in their order, and nothing is sorted.
-fn overtaken_at<R: Threads + Sync>(
-    rt: &R,
-    alloc: Global,
-    workers: u32,
+fn overtaken_at<R: Threads + Sync, G: Gate>(
+    crew: &Crew<R, G>,
     load: &Load,
     departs: List<u64>,
 ) -> Result<Completion, OutOfMemory>
@@ -119,7 +113,7 @@ fn overtaken_at<R: Threads + Sync>(
     if never_fall(&departs) {
         return Ok(Completion::Served(departs));
     }
-    let leaving = by_departure(rt, alloc, workers, &load.arrivals.job, &departs)?;
+    let leaving = by_departure(crew, &load.arrivals.job, &departs)?;
     match first_late_overtaken(load.plan.net.bound, load.number, &departs, &leaving.time) {
         Some(past) => {
             drop(departs);
@@ -128,12 +122,12 @@ fn overtaken_at<R: Threads + Sync>(
         }
         None => {
             let Stream { job, time } = leaving;
-            match ahead_of_departures(alloc, &load.arrivals.time, &departs, time) {
+            match ahead_of_departures(crew.alloc, &load.arrivals.time, &departs, time) {
                 Ok(ahead) => Ok(Completion::Sorted(Overtaken {
                     departs,
                     job,
                     ahead,
-                    blocks: visit_blocks(workers, load),
+                    blocks: visit_blocks(crew.workers, load),
                 })),
                 Err(fault) => {
                     drop(departs);
@@ -166,10 +160,8 @@ fn visit_blocks(workers: u32, load: &Load) -> Blocks
 }
 
 // The jobs by departure. One worker makes no thread.
-fn by_departure<R: Threads + Sync>(
-    rt: &R,
-    alloc: Global,
-    workers: u32,
+fn by_departure<R: Threads + Sync, G: Gate>(
+    crew: &Crew<R, G>,
     jobs: &List<u32>,
     departs: &List<u64>,
 ) -> Result<Stream, OutOfMemory>
@@ -178,9 +170,9 @@ fn by_departure<R: Threads + Sync>(
     ensures items { IfOk result (λ leaving. pairs_of leaving ≡ by_first (zip departs.now jobs.now)) }
     ensures times { IfOk result (λ leaving. leaving.time ≡ in_order_of (λ time. time) departs.now) }
 {
-    if workers == 1 {
-        let leaving = by_time(alloc, jobs, departs)?;
+    if crew.workers == 1 {
+        let leaving = by_time(crew.alloc, jobs, departs)?;
         return Ok(leaving);
     }
-    delay_leaving(rt, alloc, jobs, departs)
+    delay_leaving(crew.rt, crew.alloc, jobs, departs)
 }

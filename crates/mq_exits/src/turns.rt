@@ -18,7 +18,7 @@ use crate::station_results;
 use crate::working::{Ending, NodeResult};
 use mq_base::{List, OutOfMemory};
 use mq_core::fates_are_in_time;
-use mq_crew::Gate;
+use mq_crew::{Crew, Gate};
 use mq_stations::first_late_in_turn;
 use std::alloc::Global;
 use std::thread::Threads;
@@ -150,21 +150,16 @@ pub fn with_ended<'a>(
 ///
 /// 1 to 64 workers make the last pieces of the others as one list. It refuses for want of memory alone.
 pub fn given_of<'a, R: Threads + Sync, G: Gate>(
-    rt: &R,
-    alloc: Global,
-    workers: u32,
+    crew: &Crew<R, G>,
     those_emptied: List<Emptied<'a>>,
-    gate: &G,
 ) -> Result<List<Given<'a>>, OutOfMemory>
     requires ready { AllByRecursion IsReadyCompletion those_emptied }
     requires few { length those_emptied ≤ 64 }
-    requires some { 1 ≤ workers }
-    requires most { workers ≤ 64 }
     ensures len { IfOk result (λ given. length given ≡ length those_emptied.entry) }
     ensures given { IfOk result (λ given. (plan : ThePlan) (rows : TheRows) (ready : Items ℕ) → AllByRecursion (λ l. IsLoadOf plan rows ready l.held) those_emptied.entry → AllByRecursion (IsGiven plan rows ready) given) }
 {
-    let Parted { given, others } = parted_of(alloc, those_emptied)?;
-    match station_results(rt, alloc, workers, others, gate) {
+    let Parted { given, others } = parted_of(crew.alloc, those_emptied)?;
+    match station_results(crew, others) {
         Ok(results) => with_ended(given, results),
         Err(fault) => {
             drop(given);
@@ -222,21 +217,16 @@ fn all_ended(
 ///
 /// 1 to 64 workers make the lists of the stations whose jobs leave in their order as one list. It refuses for want of memory alone.
 pub fn finished<R: Threads + Sync, G: Gate>(
-    rt: &R,
-    alloc: Global,
-    workers: u32,
+    crew: &Crew<R, G>,
     given: List<Given>,
-    gate: &G,
 ) -> Result<List<NodeResult>, OutOfMemory>
     requires finishable { (plan : ThePlan) × (rows : TheRows) × (ready : Items ℕ) × AllByRecursion (IsFinishable plan rows ready) given }
     requires few { length given ≤ 64 }
-    requires some { 1 ≤ workers }
-    requires most { workers ≤ 64 }
     ensures len { IfOk result (λ results. length results ≡ length given.entry) }
     ensures known { IfOk result (λ results. (plan : ThePlan) (rows : TheRows) (ready : Items ℕ) → AllByRecursion (IsFinishable plan rows ready) given.entry → AllByRecursion (IsResultOf plan rows ready) results) }
 {
-    let Unfinished { ended, others } = unfinished_of(alloc, given)?;
-    match station_results(rt, alloc, workers, others, gate) {
+    let Unfinished { ended, others } = unfinished_of(crew.alloc, given)?;
+    match station_results(crew, others) {
         Ok(results) => all_ended(ended, results),
         Err(fault) => {
             drop(ended);

@@ -98,13 +98,13 @@ can-one s v one can = subst (CanWorkAll s.plan.now s.rows.now s.outputs.now) (sy
     here (suc k) w e = absurd cc
 
 -- what came to it, and that it can be worked on
-pub held-one : (laws : CoreLaws) (s : Arriving) (v : ℕ) (all rest : List Arrived) (arrived : Arrived) → IsWave s → s.ready.now ≡ v ∷ [] → 1 ≤ s.workers → s.workers ≤ 64 → CanWork s.plan.now s.rows.now s.outputs.now v → Each (HasArrived s) all → all ≡ rest ++ arrived ∷ [] →
+pub held-one : (laws : CoreLaws) (s : Arriving) (v : ℕ) (all rest : List Arrived) (arrived : Arrived) → IsWave s → s.ready.now ≡ v ∷ [] → CanWork s.plan.now s.rows.now s.outputs.now v → Each (HasArrived s) all → all ≡ rest ++ arrived ∷ [] →
     IsLoaded s.plan.now s.rows.now arrived.number (stream_in arrived.arrivals) × (arrived.number ≡ v)
-held-one laws s v all rest arrived wave one some most can each e =
+held-one laws s v all rest arrived wave one can each e =
     let ready = ap length one in
     let can' = can-one s v one can in
     let here = (Each-back (HasArrived s) rest (arrived ∷ []) (subst (Each (HasArrived s)) e each)).0 in
-    let arriving = serves s wave.read wave.early can' (omega arith) some most wave.block in (
+    let arriving = serves s wave.read wave.early can' (omega arith) wave.block in (
       (has-loaded laws s arrived arriving wave.early can' here).0,
       contains-one v arrived.number (subst (λ (l : List ℕ). Contains l arrived.number) one here.ready),
     )

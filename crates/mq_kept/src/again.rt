@@ -15,6 +15,7 @@ use crate::nodes::{FormerRun, NodeRun, node_run};
 use mq_arrivals::Arriving;
 use mq_base::{List, Steps};
 use mq_core::{Plan, Rows, Run, runs_are_of_networks};
+use mq_crew::{Crew, Open};
 use mq_edits::FormerRows;
 use mq_engine::{RunFault, core_laws};
 use std::alloc::Global;
@@ -50,20 +51,16 @@ pub struct RunRefusal {
 /// Returns the run of a plan over these rows, in place of the kept one: node after node by rank, each after the blocks
 /// that stay. If the run is refused, all nodes are restored to what they had.
 pub fn run_again<R: Threads + Sync, L: Ledger>(
-    rt: &R,
-    alloc: Global,
+    crew: &Crew<R, Open>,
     plan: &Plan,
     rows: &Rows,
     earlier: Option<&FormerRows>,
     nodes: Nodes,
     formers: Vec<Former>,
-    workers: u32,
     block: u32,
     steps: &mut Steps<L>,
 ) -> Result<NewRun, RunRefusal>
     requires read { IsReadFor plan.now.net rows.now }
-    requires some { 1 ≤ workers }
-    requires most { workers ≤ 64 }
     requires block { 64 ≤ block }
     requires large { block ≤ 65536 }
     requires fit { RowsFit rows.now earlier }
@@ -87,25 +84,24 @@ pub fn run_again<R: Threads + Sync, L: Ledger>(
     };
     for rank in 0..plan.order.len() {
         let number = *plan.order.get(rank);
-        let lists = put_at(&mut worked.nodes, number as usize, no_lists(alloc));
+        let lists = put_at(&mut worked.nodes, number as usize, no_lists(crew.alloc));
         let ready = [number];
         let arriving = Arriving {
             plan,
             rows,
             outputs: worked.nodes.outputs.as_slice(),
             ready: &ready,
-            workers,
             block,
         };
         let past = FormerRun {
             earlier,
             formers: worked.formers.as_slice(),
         };
-        match node_run(rt, alloc, &arriving, &past, lists, steps) {
+        match node_run(crew, &arriving, &past, lists, steps) {
             Ok(gives) => put(&mut worked, number, gives),
             Err(refusal) => {
                 drop(put_at(&mut worked.nodes, number as usize, refusal.lists));
-                return Err(undone(alloc, worked, refusal.fault));
+                return Err(undone(crew.alloc, worked, refusal.fault));
             }
         }
     }

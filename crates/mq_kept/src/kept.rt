@@ -13,6 +13,7 @@ use crate::former::{Nodes, all_same, no_nodes};
 use mq_alike::again_is_bounded;
 use mq_base::{List, Steps};
 use mq_core::{Plan, Rows, Run, runs_have_sequences};
+use mq_crew::{Crew, Open};
 use mq_edits::{Edit, edit_rows};
 use mq_engine::{RunFault, core_laws};
 use std::alloc::Global;
@@ -64,7 +65,8 @@ impl<'p> Kept<'p> {
         ensures kept { IfOk result IsKeptRun }
         ensures cause { IfErr result (λ fault. IsCause plan.now rows fault) }
     {
-        let whole = begun::<R, Brand>(rt, alloc, plan, &rows, workers, block, Blank::new(1))?;
+        let crew = Crew::new(rt, alloc, workers, &Open);
+        let whole = begun::<R, Brand>(&crew, plan, &rows, block, Blank::new(1))?;
         Ok(Kept {
             plan,
             rows,
@@ -114,15 +116,14 @@ impl<'p> Kept<'p> {
             return Err(RunFault::Memory);
         };
         let nodes = taken(alloc, &mut self.run, &mut self.checkpoints);
+        let crew = Crew::new(rt, alloc, self.workers, &Open);
         let result = run_again(
-            rt,
-            alloc,
+            &crew,
             self.plan,
             &self.rows,
             Some(&former),
             nodes,
             formers,
-            self.workers,
             self.block,
             steps,
         );
@@ -184,17 +185,13 @@ fn put(run: &mut Run, checkpoints: &mut List<Checkpoints>, nodes: Nodes)
 
 // Returns a first run, of which nothing is kept yet, with a new counter.
 fn begun<R: Threads + Sync, L: Ledger>(
-    rt: &R,
-    alloc: Global,
+    crew: &Crew<R, Open>,
     plan: &Plan,
     rows: &Rows,
-    workers: u32,
     block: u32,
     blank: Blank,
 ) -> Result<NewRun, RunFault>
     requires read { IsReadFor plan.now.net rows.now }
-    requires some { 1 ≤ workers }
-    requires most { workers ≤ 64 }
     requires block { 64 ≤ block }
     requires large { block ≤ 65536 }
     requires name { blank.name ≡ L.name }
@@ -204,15 +201,13 @@ fn begun<R: Threads + Sync, L: Ledger>(
     ensures cause { IfErr result (λ fault. IsCause plan.now rows.now fault) }
 {
     let count = plan.net.nodes.len();
-    let formers = all_same(alloc, count)?;
-    let Ok(nodes) = no_nodes(alloc, count) else {
+    let formers = all_same(crew.alloc, count)?;
+    let Ok(nodes) = no_nodes(crew.alloc, count) else {
         drop(formers);
         return Err(RunFault::Memory);
     };
     let mut steps = Steps::<L>::new(blank);
-    match run_again(
-        rt, alloc, plan, rows, None, nodes, formers, workers, block, &mut steps,
-    ) {
+    match run_again(crew, plan, rows, None, nodes, formers, block, &mut steps) {
         Ok(whole) => Ok(whole),
         Err(refusal) => Err(refusal.fault),
     }

@@ -32,13 +32,12 @@ use mq_alike::{alike, alike_is_first, sequences_stay};
 use mq_arrivals::{Arrived, Arriving, arrivals_of};
 use mq_base::{List, OutOfMemory, Steps};
 use mq_core::{Kind, Node, OverFault, Rows, Stream};
-use mq_crew::Open;
+use mq_crew::{Crew, Open};
 use mq_edits::FormerRows;
 use mq_engine::{RunFault, Way, core_laws, wave_of, way_of};
 use mq_exits::{Completion, Emptied, Ending, Held, NodeResult, finished, station_results};
 use mq_redo::counted;
 use mq_scan::cut;
-use std::alloc::Global;
 use std::sync::ledger::Ledger;
 use std::thread::Threads;
 
@@ -72,8 +71,7 @@ pub struct NodeRefusal {
 
 /// Returns what the one ready node gives, of which `lists` was kept.
 pub fn node_run<R: Threads + Sync, L: Ledger>(
-    rt: &R,
-    alloc: Global,
+    crew: &Crew<R, Open>,
     arriving: &Arriving,
     past: &FormerRun,
     lists: NodeLists,
@@ -81,8 +79,6 @@ pub fn node_run<R: Threads + Sync, L: Ledger>(
 ) -> Result<NodeRun, NodeRefusal>
     requires wave { IsWave arriving.now }
     requires one { length arriving.now.ready.now ≡ 1 }
-    requires some { 1 ≤ arriving.now.workers }
-    requires most { arriving.now.workers ≤ 64 }
     requires block { 64 ≤ arriving.now.block }
     requires large { arriving.now.block ≤ 65536 }
     requires fit { RowsFit arriving.now.rows.now past.now.earlier }
@@ -105,15 +101,14 @@ pub fn node_run<R: Threads + Sync, L: Ledger>(
             }),
             lists,
         }),
-        Way::Apart => apart_run(rt, alloc, arriving, past, number, lists),
-        Way::Station => station_run(rt, alloc, arriving, past, number, lists, steps),
+        Way::Apart => apart_run(crew, arriving, past, number, lists),
+        Way::Station => station_run(crew, arriving, past, number, lists, steps),
     }
 }
 
 // Returns what a fork or a join gives: what it gave before, if every node that it reads has stayed as it was.
 fn apart_run<R: Threads + Sync>(
-    rt: &R,
-    alloc: Global,
+    crew: &Crew<R, Open>,
     arriving: &Arriving,
     past: &FormerRun,
     number: u32,
@@ -121,8 +116,6 @@ fn apart_run<R: Threads + Sync>(
 ) -> Result<NodeRun, NodeRefusal>
     requires wave { IsWave arriving.now }
     requires one { arriving.now.ready.now ≡ number ∷ [] }
-    requires some { 1 ≤ arriving.now.workers }
-    requires most { arriving.now.workers ≤ 64 }
     requires block { 64 ≤ arriving.now.block }
     requires large { arriving.now.block ≤ 65536 }
     requires before { IsNodeBefore arriving.now.plan.now (earlier_rows arriving.now.rows.now past.now.earlier) arriving.now.block number lists }
@@ -138,7 +131,7 @@ fn apart_run<R: Threads + Sync>(
     if reads_the_same(past, node) {
         return Ok(unchanged_run(&node.kind, lists, arriving.block));
     }
-    let now = apart_lists(rt, alloc, arriving, number);
+    let now = apart_lists(crew, arriving, number);
     changed_run(now, lists, 0, 0)
 }
 
@@ -203,30 +196,26 @@ fn changed_run(
 
 // Computes the lists of a fork or a join.
 fn apart_lists<R: Threads + Sync>(
-    rt: &R,
-    alloc: Global,
+    crew: &Crew<R, Open>,
     arriving: &Arriving,
     number: u32,
 ) -> Result<NodeLists, RunFault>
     requires wave { IsWave arriving.now }
     requires one { arriving.now.ready.now ≡ number ∷ [] }
-    requires some { 1 ≤ arriving.now.workers }
-    requires most { arriving.now.workers ≤ 64 }
     requires can { CanGather arriving.now.plan.now arriving.now.rows.now arriving.now.outputs.now number }
     ensures kept { IfOk result (IsNodeKept arriving.now.plan.now arriving.now.rows.now arriving.now.block number) }
     ensures cause { IfErr result (IsFaultAt arriving.now.plan.now arriving.now.rows.now number) }
 {
     core_laws();
-    let given = wave_of(rt, alloc, arriving, &Open)?;
-    let results = finished(rt, alloc, arriving.workers, given, &Open)?;
+    let given = wave_of(crew, arriving)?;
+    let results = finished(crew, given)?;
     lists_by(the_only(results), Checkpoints::Nothing)
 }
 
 // Returns what a station gives. The lists of a source are edited in place if a run is kept; they are computed whole if
 // few visits would stay or fewer come.
 fn station_run<R: Threads + Sync, L: Ledger>(
-    rt: &R,
-    alloc: Global,
+    crew: &Crew<R, Open>,
     arriving: &Arriving,
     past: &FormerRun,
     number: u32,
@@ -235,8 +224,6 @@ fn station_run<R: Threads + Sync, L: Ledger>(
 ) -> Result<NodeRun, NodeRefusal>
     requires wave { IsWave arriving.now }
     requires one { arriving.now.ready.now ≡ number ∷ [] }
-    requires some { 1 ≤ arriving.now.workers }
-    requires most { arriving.now.workers ≤ 64 }
     requires block { 64 ≤ arriving.now.block }
     requires large { arriving.now.block ≤ 65536 }
     requires fit { RowsFit arriving.now.rows.now past.now.earlier }
@@ -251,11 +238,11 @@ fn station_run<R: Threads + Sync, L: Ledger>(
 {
     let kind = &arriving.plan.net.nodes.get(number as usize).kind;
     let Some(former) = edits_of_source(past, kind) else {
-        return whole_run(rt, alloc, arriving, past, number, lists, steps);
+        return whole_run(crew, arriving, past, number, lists, steps);
     };
-    match source_run(alloc, arriving, former, number, lists) {
+    match source_run(crew.alloc, arriving, former, number, lists) {
         Ok(Edited::Done(gives)) => Ok(gives),
-        Ok(Edited::AsBefore(same)) => whole_run(rt, alloc, arriving, past, number, same, steps),
+        Ok(Edited::AsBefore(same)) => whole_run(crew, arriving, past, number, same, steps),
         Err(refusal) => Err(refusal),
     }
 }
@@ -281,8 +268,7 @@ fn edits_of_source<'a>(past: &FormerRun<'a>, kind: &Kind) -> Option<&'a FormerRo
 // Returns what a station gives. If it has a difference, its lists are edited in place, or replaced if that isn't
 // possible.
 fn whole_run<R: Threads + Sync, L: Ledger>(
-    rt: &R,
-    alloc: Global,
+    crew: &Crew<R, Open>,
     arriving: &Arriving,
     past: &FormerRun,
     number: u32,
@@ -291,8 +277,6 @@ fn whole_run<R: Threads + Sync, L: Ledger>(
 ) -> Result<NodeRun, NodeRefusal>
     requires wave { IsWave arriving.now }
     requires one { arriving.now.ready.now ≡ number ∷ [] }
-    requires some { 1 ≤ arriving.now.workers }
-    requires most { arriving.now.workers ≤ 64 }
     requires block { 64 ≤ arriving.now.block }
     requires large { arriving.now.block ≤ 65536 }
     requires before { IsNodeBefore arriving.now.plan.now (earlier_rows arriving.now.rows.now past.now.earlier) arriving.now.block number lists }
@@ -308,7 +292,7 @@ fn whole_run<R: Threads + Sync, L: Ledger>(
     alike_is_first();
     sequences_stay();
     let kind = &arriving.plan.net.nodes.get(number as usize).kind;
-    let Ok(held) = held_at(rt, alloc, arriving, number) else {
+    let Ok(held) = held_at(crew, arriving, number) else {
         return Err(NodeRefusal {
             fault: RunFault::Memory,
             lists,
@@ -327,7 +311,7 @@ fn whole_run<R: Threads + Sync, L: Ledger>(
     if can_redo_tail(past, kind, same, visits, count) {
         let load = held.load();
         let gives = tail_run(
-            alloc,
+            crew.alloc,
             &load,
             lists,
             same / arriving.block,
@@ -343,21 +327,18 @@ fn whole_run<R: Threads + Sync, L: Ledger>(
         checkpoints: &lists.checkpoints,
         blocks: same / arriving.block,
     };
-    let now = worked_lists(rt, alloc, arriving.workers, held, &stays, steps);
+    let now = worked_lists(crew, held, &stays, steps);
     changed_run(now, lists, again, all)
 }
 
 // Returns what came to the one ready station.
 fn held_at<'a, R: Threads + Sync>(
-    rt: &R,
-    alloc: Global,
+    crew: &Crew<R, Open>,
     arriving: &Arriving<'a, '_>,
     number: u32,
 ) -> Result<Held<'a>, OutOfMemory>
     requires wave { IsWave arriving.now }
     requires one { arriving.now.ready.now ≡ number ∷ [] }
-    requires some { 1 ≤ arriving.now.workers }
-    requires most { arriving.now.workers ≤ 64 }
     requires can { CanWork arriving.now.plan.now arriving.now.rows.now arriving.now.outputs.now number }
     ensures ready { IfOk result IsReadyLoad }
     ensures number { IfOk result (λ held. held.number ≡ number) }
@@ -366,7 +347,7 @@ fn held_at<'a, R: Threads + Sync>(
     ensures block { IfOk result (λ held. held.block ≡ arriving.now.block) }
 {
     core_laws();
-    let all = arrivals_of(rt, alloc, arriving, &Open)?;
+    let all = arrivals_of(crew, arriving)?;
     let mut all = all.into_vec();
     let Some(arrived) = all.pop() else {
         unreachable!()
@@ -416,17 +397,13 @@ fn can_redo_tail(past: &FormerRun, kind: &Kind, same: u32, visits: u32, count: u
 
 // Returns the lists of a station that is redone.
 fn worked_lists<R: Threads + Sync, L: Ledger>(
-    rt: &R,
-    alloc: Global,
-    workers: u32,
+    crew: &Crew<R, Open>,
     held: Held,
     stays: &Stays,
     steps: &mut Steps<L>,
 ) -> Result<NodeLists, RunFault>
     requires ready { IsReadyLoad held }
     requires large { held.block ≤ 65536 }
-    requires some { 1 ≤ workers }
-    requires most { workers ≤ 64 }
     requires stays { IsStayingAt held stays.now }
     ensures known { IfOk result (λ lists. IsWorkedOut held.entry.plan.now held.entry.rows.now (record { number = held.entry.number; ending = OnTime lists.visits lists.streams })) }
     ensures checkpoints { IfOk result (λ lists. (node : TheNode) → slice_get held.entry.plan.now.net.nodes held.entry.number ≡ Some node → IsKeptNode node.kind (coming_of held.entry.rows.now lists.visits) held.entry.block lists.visits.fate lists.checkpoints) }
@@ -436,24 +413,20 @@ fn worked_lists<R: Threads + Sync, L: Ledger>(
     ensures counted { OnOk result ((node : TheNode) → slice_get held.entry.plan.now.net.nodes held.entry.number ≡ Some node → steps.new ≡ steps.old + blocks_behind held.entry.block node.kind (length (stream_in held.entry.arrivals).job) stays.now.blocks) }
 {
     let load = held.load();
-    let Ok(reworked) = work_again(rt, alloc, workers, &load, stays, steps) else {
+    let Ok(reworked) = work_again(crew, &load, stays, steps) else {
         drop(held);
         return Err(RunFault::Memory);
     };
-    left_lists(rt, alloc, workers, held, reworked)
+    left_lists(crew, held, reworked)
 }
 
 // Returns the lists of a station once all its jobs have left.
 fn left_lists<R: Threads + Sync>(
-    rt: &R,
-    alloc: Global,
-    workers: u32,
+    crew: &Crew<R, Open>,
     held: Held,
     reworked: Reworked,
 ) -> Result<NodeLists, RunFault>
     requires ready { IsReadyLoad held }
-    requires some { 1 ≤ workers }
-    requires most { workers ≤ 64 }
     requires completion { IsCompletion held.plan.now held.rows.now held.number (stream_in held.arrivals) reworked.completion }
     requires checkpoints { (node : TheNode) → slice_get held.plan.now.net.nodes held.number ≡ Some node → IsKeptNode node.kind (coming_as held.rows.now (stream_in held.arrivals)) held.block (sequence_fates held.rows.now node.kind (came_in (stream_in held.arrivals))) reworked.checkpoints }
     ensures known { IfOk result (λ lists. IsWorkedOut held.entry.plan.now held.entry.rows.now (record { number = held.entry.number; ending = OnTime lists.visits lists.streams })) }
@@ -465,7 +438,7 @@ fn left_lists<R: Threads + Sync>(
         completion,
         checkpoints,
     } = reworked;
-    let Ok(node_result) = result_of(rt, alloc, workers, held, completion) else {
+    let Ok(node_result) = result_of(crew, held, completion) else {
         drop(checkpoints);
         return Err(RunFault::Memory);
     };
@@ -474,24 +447,20 @@ fn left_lists<R: Threads + Sync>(
 
 // Returns how a station ended once all its jobs have left.
 fn result_of<R: Threads + Sync>(
-    rt: &R,
-    alloc: Global,
-    workers: u32,
+    crew: &Crew<R, Open>,
     held: Held,
     completion: Completion,
 ) -> Result<NodeResult, OutOfMemory>
     requires ready { IsReadyLoad held }
-    requires some { 1 ≤ workers }
-    requires most { workers ≤ 64 }
     requires completion { IsCompletion held.plan.now held.rows.now held.number (stream_in held.arrivals) completion }
     ensures { IfOk result (λ r. IsWorkedOut held.entry.plan.now held.entry.rows.now (record { number = held.entry.number; ending = r.ending })) }
 {
-    let mut emptied = List::new(alloc);
+    let mut emptied = List::new(crew.alloc);
     let Ok(()) = emptied.push(Emptied { held, completion }) else {
         drop(emptied);
         return Err(OutOfMemory);
     };
-    let results = station_results(rt, alloc, workers, emptied, &Open)?;
+    let results = station_results(crew, emptied)?;
     Ok(the_only(results))
 }
 

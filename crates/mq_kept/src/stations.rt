@@ -19,6 +19,7 @@ use crate::in_turn::{Behind, behind_first};
 use mq_alike::alike_is_first;
 use mq_base::{List, OutOfMemory, Steps};
 use mq_core::{Demand, Fates, Kind, Route};
+use mq_crew::{Crew, Open};
 use mq_exits::{Completion, Load, Worked, left_by, station_whole};
 use mq_redo::{all_departures, blocks_hold, delayed_again, routed_again};
 use mq_scan::cut;
@@ -47,9 +48,7 @@ pub struct Reworked {
 /// Returns what is known of a station that is redone after the blocks that stay. A loss station and a trunk group are
 /// computed whole, and the jobs of a source depart as they come. Fails only if memory runs out.
 pub fn work_again<R: Threads + Sync, L: Ledger>(
-    rt: &R,
-    alloc: Global,
-    workers: u32,
+    crew: &Crew<R, Open>,
     load: &Load,
     stays: &Stays,
     steps: &mut Steps<L>,
@@ -66,21 +65,19 @@ pub fn work_again<R: Threads + Sync, L: Ledger>(
 {
     match &load.plan.net.nodes.get(load.number as usize).kind {
         Kind::Server(_) | Kind::Tandem(_) | Kind::ForkJoin(_) => {
-            in_turn_again(rt, alloc, workers, load, stays, steps)
+            in_turn_again(crew, load, stays, steps)
         }
-        Kind::Delay(demand) => delay_again(rt, alloc, workers, load, demand, stays, steps),
-        Kind::Split(route) => split_again(alloc, load, route, stays, steps),
+        Kind::Delay(demand) => delay_again(crew, load, demand, stays, steps),
+        Kind::Split(route) => split_again(crew.alloc, load, route, stays, steps),
         Kind::Source | Kind::Loss { .. } | Kind::Trunk { .. } | Kind::Fork { .. } | Kind::Join => {
-            worked_anew(rt, alloc, workers, load)
+            worked_anew(crew, load)
         }
     }
 }
 
 // Redoes a server, a tandem or a fork-join.
 fn in_turn_again<R: Threads + Sync, L: Ledger>(
-    rt: &R,
-    alloc: Global,
-    workers: u32,
+    crew: &Crew<R, Open>,
     load: &Load,
     stays: &Stays,
     steps: &mut Steps<L>,
@@ -97,9 +94,9 @@ fn in_turn_again<R: Threads + Sync, L: Ledger>(
     ensures counted { OnOk result (steps.new + stays.now.blocks ≡ steps.old + blocks_in load.now.block (length load.now.arrivals.now.job)) }
 {
     alike_is_first();
-    let Behind { times, checkpoints } = behind_first(alloc, load, stays, steps)?;
-    match all_departures(alloc, stays.fates, stays.blocks * load.block, times) {
-        Ok(times) => departed(rt, alloc, workers, load, times, checkpoints),
+    let Behind { times, checkpoints } = behind_first(crew.alloc, load, stays, steps)?;
+    match all_departures(crew.alloc, stays.fates, stays.blocks * load.block, times) {
+        Ok(times) => departed(crew, load, times, checkpoints),
         Err(fault) => {
             drop(checkpoints);
             Err(fault)
@@ -109,9 +106,7 @@ fn in_turn_again<R: Threads + Sync, L: Ledger>(
 
 // Redoes a delay.
 fn delay_again<R: Threads + Sync, L: Ledger>(
-    rt: &R,
-    alloc: Global,
-    workers: u32,
+    crew: &Crew<R, Open>,
     load: &Load,
     demand: &Demand,
     stays: &Stays,
@@ -133,7 +128,7 @@ fn delay_again<R: Threads + Sync, L: Ledger>(
     blocks_hold(&blocks);
     let (carries, first) = (stays.checkpoints.delay(), stays.blocks);
     let done = delayed_again(
-        alloc,
+        crew.alloc,
         load.rows,
         demand,
         load.arrivals,
@@ -144,14 +139,12 @@ fn delay_again<R: Threads + Sync, L: Ledger>(
         steps,
     )?;
     let checkpoints = Checkpoints::Delay(List::from_vec(done.carries));
-    departed(rt, alloc, workers, load, done.times, checkpoints)
+    departed(crew, load, done.times, checkpoints)
 }
 
 // Returns what is known of a station whose jobs depart at these times, in ticks, with its checkpoints.
 fn departed<R: Threads + Sync>(
-    rt: &R,
-    alloc: Global,
-    workers: u32,
+    crew: &Crew<R, Open>,
     load: &Load,
     times: Vec<u64>,
     checkpoints: Checkpoints,
@@ -162,13 +155,7 @@ fn departed<R: Threads + Sync>(
     ensures completion { IfOk result (λ r. IsCompletion load.now.plan.now load.now.rows.now load.now.number load.now.arrivals.now r.completion) }
     ensures checkpoints { IfOk result (λ r. r.checkpoints ≡ checkpoints) }
 {
-    match left_by(
-        rt,
-        alloc,
-        workers,
-        load,
-        Worked::Departed(List::from_vec(times)),
-    ) {
+    match left_by(crew, load, Worked::Departed(List::from_vec(times))) {
         Ok(completion) => Ok(Reworked {
             completion,
             checkpoints,
@@ -225,17 +212,15 @@ fn split_again<L: Ledger>(
 
 // Computes a station of whose blocks nothing is kept.
 fn worked_anew<R: Threads + Sync>(
-    rt: &R,
-    alloc: Global,
-    workers: u32,
+    crew: &Crew<R, Open>,
     load: &Load,
 ) -> Result<Reworked, OutOfMemory>
     requires loaded { IsLoaded load.now.plan.now load.now.rows.now load.now.number load.now.arrivals.now }
     requires some { 1 ≤ load.now.block }
     ensures completion { IfOk result (λ r. IsCompletion load.now.plan.now load.now.rows.now load.now.number load.now.arrivals.now r.completion) }
 {
-    let worked = station_whole(alloc, load)?;
-    let completion = left_by(rt, alloc, workers, load, worked)?;
+    let worked = station_whole(crew.alloc, load)?;
+    let completion = left_by(crew, load, worked)?;
     Ok(Reworked {
         completion,
         checkpoints: Checkpoints::Nothing,

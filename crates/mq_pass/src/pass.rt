@@ -9,7 +9,7 @@ use crate::rest::ended;
 use mq_base::{List, OutOfMemory};
 use mq_chain::Chain;
 use mq_core::Stream;
-use mq_crew::{Gate, placed};
+use mq_crew::{Crew, Gate, placed};
 use mq_scan::cut;
 use mq_server::departures;
 use std::alloc::Global;
@@ -65,7 +65,8 @@ pub fn chain_departures<R: Threads + Sync, G: Gate>(
     match placed(alloc, blocks.blocks, pieces) {
         Ok(passed) => {
             let jobs = jobs_of(stream, demands, &blocks);
-            let departs = ended(rt, alloc, workers, &jobs, &carries, &passed, gate);
+            let crew = Crew::new(rt, alloc, workers, gate);
+            let departs = ended(&crew, &jobs, &carries, &passed);
             drop(carries);
             drop(passed);
             departs

@@ -1,5 +1,5 @@
 // The blocks that were left, computed by the crew, and the departures of all blocks.
-ghost use Rattle.std.specs.Prelude.{◌≡◌, ℕ, ◌^◌, ◌<◌, ◌≤◌, All, IfOk, length, slice_index_or};
+ghost use Rattle.std.specs.Prelude.{◌≡◌, ℕ, ◌^◌, ◌<◌, All, IfOk, length, slice_index_or};
 ghost use Rattle.mq_core.specs.Recurrences.{lindley};
 ghost use Rattle.mq_maxplus.specs.declared.mp.Mp.TheVariants.{Void};
 ghost use Rattle.mq_pass.specs.Blocks.{IsKnown};
@@ -10,7 +10,7 @@ use crate::block::Passed;
 use crate::jobs::{Jobs, served};
 use crate::left::{Left, left_of};
 use mq_base::{List, OutOfMemory};
-use mq_crew::{Gate, Pieces, made};
+use mq_crew::{Crew, Gate, Pieces};
 use mq_maxplus::Mp;
 use std::alloc::Global;
 use std::thread::Threads;
@@ -71,30 +71,25 @@ fn together(
 /// Returns the departures of all jobs, from the blocks that the workers passed over and the carries
 /// that they published. The crew computes the blocks that were left.
 pub(crate) fn ended<G: Gate, R: Threads + Sync>(
-    rt: &R,
-    alloc: Global,
-    workers: u32,
+    crew: &Crew<R, G>,
     jobs: &Jobs<'_>,
     carries: &List<Mp>,
     passed: &List<Passed>,
-    gate: &G,
 ) -> Result<List<u64>, OutOfMemory>
-    requires some { 1 ≤ workers }
-    requires most { workers ≤ 64 }
     requires each { length passed.now ≡ jobs.now.blocks.blocks }
     requires all { length carries.now ≡ jobs.now.blocks.blocks }
     requires right { (b : ℕ) (d : Part) → b < jobs.now.blocks.blocks → IsRight jobs.now.step.arrive.now jobs.now.step.demands.now jobs.now.blocks.block b (slice_index_or passed.now b d) }
     requires known { (b : ℕ) → b < jobs.now.blocks.blocks → IsKnown jobs.now.step.arrive.now jobs.now.step.demands.now jobs.now.blocks.block b (slice_index_or carries.now b Void) }
     ensures { IfOk result (λ departs. departs ≡ lindley 0 jobs.now.step.arrive.now jobs.now.step.demands.now) }
 {
-    let left = left_of(alloc, jobs, carries, passed)?;
+    let left = left_of(crew.alloc, jobs, carries, passed)?;
     let rest = Rest {
         jobs: *jobs,
         left: left.as_slice(),
     };
-    match made(rt, alloc, workers, &rest, gate) {
+    match crew.made(&rest) {
         Ok(applied) => {
-            let departs = together(alloc, jobs, passed, &applied);
+            let departs = together(crew.alloc, jobs, passed, &applied);
             drop(applied);
             drop(left);
             departs

@@ -21,7 +21,7 @@ ghost use Rattle.mq_words.specs.Words.{Asks, Makes, Names, refuses_words, usage_
 
 use mq_core::{Plan, Rows, Run, runs_are_of_networks};
 use mq_counts::{Counts, counts_of_run};
-use mq_crew::{Gate, Open};
+use mq_crew::{Crew, Gate, Open};
 use mq_engine::{RunFault, run, run_counted};
 use mq_gen::{made, made_inputs_are_accepted};
 use mq_model::{ModelFault, read_model};
@@ -58,16 +58,12 @@ fn accept_words<'a>(alloc: Global, words: &'a [&'a str]) -> Result<Settings<'a>,
     }
 }
 
-// What reads a trace and computes runs: this many workers, which work by blocks of this many jobs and enter this gate.
+// What reads a trace and computes runs: a crew, which works by blocks of this many jobs.
 #[derive(Drop)]
-struct Crew<'a, R, G> {
-    rt: &'a R,
-    workers: u32,
+struct Runner<'c, 'a, R, G> {
+    crew: &'c Crew<'a, R, G>,
     block: u32,
-    gate: &'a G,
-    ghost some: { 1 ≤ workers },
-    ghost most: { workers ≤ 64 },
-    ghost block_some: { 1 ≤ block },
+    ghost some: { 1 ≤ block },
 }
 
 // What the report contains.
@@ -94,7 +90,6 @@ fn judge_model(alloc: Global, bytes: &[u8]) -> Result<Plan, Outcome>
 
 // Reads the bytes of a trace for the network of a plan, and returns its rows or how the run ends.
 fn judge_trace<R: Threads + Sync, G: Gate>(
-    alloc: Global,
     crew: &Crew<R, G>,
     plan: &Plan,
     bytes: &[u8],
@@ -104,7 +99,7 @@ fn judge_trace<R: Threads + Sync, G: Gate>(
     ensures refused { IfErr result (λ outcome. RefusesTrace plan.now.net outcome (Some bytes.now)) }
     ensures unread { stops_unread result ≡ false }
 {
-    match read_trace(crew.rt, alloc, crew.workers, bytes, &plan.net) {
+    match read_trace(crew.rt, crew.alloc, crew.workers, bytes, &plan.net) {
         Ok(rows) => Ok(rows),
         Err(TraceFault::Memory) => Err(Outcome::Memory),
         Err(fault) => Err(Outcome::Trace(fault)),
@@ -113,7 +108,6 @@ fn judge_trace<R: Threads + Sync, G: Gate>(
 
 // Does the same with bytes that it owns. If it reads them in pieces, it drops them before it joins the rows of the pieces.
 fn judge_own_trace<R: Threads + Sync, G: Gate>(
-    alloc: Global,
     crew: &Crew<R, G>,
     plan: &Plan,
     bytes: Vec<u8>,
@@ -123,7 +117,7 @@ fn judge_own_trace<R: Threads + Sync, G: Gate>(
     ensures refused { IfErr result (λ outcome. RefusesTrace plan.now.net outcome (Some bytes.items)) }
     ensures unread { stops_unread result ≡ false }
 {
-    match take_trace(crew.rt, alloc, crew.workers, bytes, &plan.net) {
+    match take_trace(crew.rt, crew.alloc, crew.workers, bytes, &plan.net) {
         Ok(rows) => Ok(rows),
         Err(TraceFault::Memory) => Err(Outcome::Memory),
         Err(fault) => Err(Outcome::Trace(fault)),
@@ -148,7 +142,6 @@ fn accept_model<F: Files>(alloc: Global, name: &str, files: &mut F) -> Result<Pl
 
 // Reads the trace from the file of this name for the network of a plan, and returns its rows or how the run ends.
 fn accept_trace<R: Threads + Sync, G: Gate, F: Files>(
-    alloc: Global,
     crew: &Crew<R, G>,
     plan: &Plan,
     name: &str,
@@ -159,14 +152,14 @@ fn accept_trace<R: Threads + Sync, G: Gate, F: Files>(
     ensures accepted { IfOk result (λ rows. IfSome (F.told files.old name.now) (λ bytes. (trace_fault plan.now.net bytes ≡ None) × (rows ≡ rows_in plan.now.net bytes))) }
     ensures refused { IfErr result (λ outcome. RefusesTrace plan.now.net outcome (F.told files.old name.now)) }
 {
-    let mut bytes = Vec::new(alloc);
+    let mut bytes = Vec::new(crew.alloc);
     match files.read(name, TRACE_LIMIT, &mut bytes) {
         Ok(()) => {}
         Err(FileFault::Failed) => return Err(Outcome::ReadFault { second: true }),
         Err(FileFault::TooLong) => return Err(Outcome::Trace(TraceFault::TooLong)),
         Err(FileFault::Memory) => return Err(Outcome::Memory),
     }
-    judge_own_trace(alloc, crew, plan, bytes)
+    judge_own_trace(crew, plan, bytes)
 }
 
 // Returns how many of these workers compute a run over these rows.
@@ -208,7 +201,6 @@ fn report_told<O: Sink>(
 
 // Writes the report of a run that is kept, with its job lines.
 fn report_kept<R: Threads + Sync, G: Gate, O: Sink>(
-    alloc: Global,
     crew: &Crew<R, G>,
     plan: &Plan,
     rows: &Rows,
@@ -224,16 +216,7 @@ fn report_kept<R: Threads + Sync, G: Gate, O: Sink>(
     ensures unread { (second : Bool) → result ≢ Outcome.ReadFault second }
     ensures writes { Writes O.taken O.sure O.faults out.old out.new (writing_of result) (λ text. text ≡ report_in plan.now.net rows.now wanted.form wanted.jobs) }
 {
-    let Ok(counts) = counts_of_run(
-        crew.rt,
-        alloc,
-        crew.workers,
-        plan,
-        rows,
-        run,
-        wanted.form,
-        crew.gate,
-    ) else {
+    let Ok(counts) = counts_of_run(crew, plan, rows, run, wanted.form) else {
         return Outcome::Memory;
     };
     let outcome = report_told(plan, rows, &counts, Some(run), wanted, out);
@@ -243,8 +226,7 @@ fn report_kept<R: Threads + Sync, G: Gate, O: Sink>(
 
 // Runs a plan over its rows, keeps the run, and writes the report with the job lines.
 fn report_jobs<R: Threads + Sync, G: Gate, O: Sink>(
-    alloc: Global,
-    crew: &Crew<R, G>,
+    runner: &Runner<R, G>,
     plan: &Plan,
     rows: &Rows,
     wanted: Wanted,
@@ -258,13 +240,14 @@ fn report_jobs<R: Threads + Sync, G: Gate, O: Sink>(
 {
     runs_are_of_networks();
     runs_have_few_visits();
+    let crew = runner.crew;
     let run = match run(
         crew.rt,
-        alloc,
+        crew.alloc,
         plan,
         rows,
         crew.workers,
-        crew.block,
+        runner.block,
         crew.gate,
     ) {
         Ok(run) => run,
@@ -272,15 +255,14 @@ fn report_jobs<R: Threads + Sync, G: Gate, O: Sink>(
         Err(RunFault::Past(fault)) => return Outcome::Past(fault),
         Err(RunFault::Memory) => return Outcome::Memory,
     };
-    let outcome = report_kept(alloc, crew, plan, rows, &run, wanted, out);
+    let outcome = report_kept(crew, plan, rows, &run, wanted, out);
     drop(run);
     outcome
 }
 
 // Runs a plan over its rows, counts as it goes, and writes the report without job lines.
 fn report_counts<R: Threads + Sync, G: Gate, O: Sink>(
-    alloc: Global,
-    crew: &Crew<R, G>,
+    runner: &Runner<R, G>,
     plan: &Plan,
     rows: &Rows,
     wanted: Wanted,
@@ -294,13 +276,14 @@ fn report_counts<R: Threads + Sync, G: Gate, O: Sink>(
 {
     runs_are_of_networks();
     runs_have_few_visits();
+    let crew = runner.crew;
     let counts = match run_counted(
         crew.rt,
-        alloc,
+        crew.alloc,
         plan,
         rows,
         crew.workers,
-        crew.block,
+        runner.block,
         wanted.form,
         crew.gate,
     ) {
@@ -316,8 +299,7 @@ fn report_counts<R: Threads + Sync, G: Gate, O: Sink>(
 
 // Runs a plan over its rows, and writes the report that is wanted.
 fn report_run<R: Threads + Sync, G: Gate, O: Sink>(
-    alloc: Global,
-    crew: &Crew<R, G>,
+    runner: &Runner<R, G>,
     plan: &Plan,
     rows: &Rows,
     wanted: Wanted,
@@ -328,22 +310,22 @@ fn report_run<R: Threads + Sync, G: Gate, O: Sink>(
     ensures unread { (second : Bool) → result ≢ Outcome.ReadFault second }
     ensures writes { Writes O.taken O.sure O.faults out.old out.new (writing_of result) (λ text. text ≡ report_in plan.now.net rows.now wanted.form wanted.jobs) }
 {
-    let crew = &Crew {
-        rt: crew.rt,
-        workers: workers_for(rows, crew.workers, crew.block),
-        block: crew.block,
-        gate: crew.gate,
+    let crew = runner
+        .crew
+        .with(workers_for(rows, runner.crew.workers, runner.block));
+    let runner = &Runner {
+        crew: &crew,
+        block: runner.block,
     };
     if wanted.jobs {
-        return report_jobs(alloc, crew, plan, rows, wanted, out);
+        return report_jobs(runner, plan, rows, wanted, out);
     }
-    report_counts(alloc, crew, plan, rows, wanted, out)
+    report_counts(runner, plan, rows, wanted, out)
 }
 
 // Reads the trace from the file of this name for a plan, runs the plan, and writes the report.
 fn run_trace<R: Threads + Sync, G: Gate, F: Files, O: Sink>(
-    alloc: Global,
-    crew: &Crew<R, G>,
+    runner: &Runner<R, G>,
     plan: &Plan,
     name: &str,
     wanted: Wanted,
@@ -355,9 +337,9 @@ fn run_trace<R: Threads + Sync, G: Gate, F: Files, O: Sink>(
     ensures reads { ReadsNames F.told F.is_sure F.reads F.faults files.old files.new (name.now ∷ []) (is_unread (reading_of result)) }
     ensures writes { Writes O.taken O.sure O.faults out.old out.new (writing_of result) (λ text. IfSome (F.told files.old name.now) (λ trace. IsText text (answer_over plan.now.net trace wanted))) }
 {
-    match accept_trace(alloc, crew, plan, name, files) {
+    match accept_trace(runner.crew, plan, name, files) {
         Ok(rows) => {
-            let outcome = report_run(alloc, crew, plan, &rows, wanted, out);
+            let outcome = report_run(runner, plan, &rows, wanted, out);
             drop(rows);
             outcome
         }
@@ -367,8 +349,7 @@ fn run_trace<R: Threads + Sync, G: Gate, F: Files, O: Sink>(
 
 // Reads the bytes of a trace for a plan, runs the plan over them, and writes the report.
 fn run_text<R: Threads + Sync, G: Gate, O: Sink>(
-    alloc: Global,
-    crew: &Crew<R, G>,
+    runner: &Runner<R, G>,
     plan: &Plan,
     trace: &[u8],
     wanted: Wanted,
@@ -379,9 +360,9 @@ fn run_text<R: Threads + Sync, G: Gate, O: Sink>(
     ensures unread { result ≢ Outcome.ReadFault true }
     ensures writes { Writes O.taken O.sure O.faults out.old out.new (writing_of result) (λ text. IsText text (answer_over plan.now.net trace.now wanted)) }
 {
-    match judge_trace(alloc, crew, plan, trace) {
+    match judge_trace(runner.crew, plan, trace) {
         Ok(rows) => {
-            let outcome = report_run(alloc, crew, plan, &rows, wanted, out);
+            let outcome = report_run(runner, plan, &rows, wanted, out);
             drop(rows);
             outcome
         }
@@ -391,8 +372,7 @@ fn run_text<R: Threads + Sync, G: Gate, O: Sink>(
 
 // Runs the texts of a model and a trace, writes the report, and writes the line of the outcome.
 fn run_bytes<R: Threads + Sync, G: Gate, O: Sink, E: Sink>(
-    alloc: Global,
-    crew: &Crew<R, G>,
+    runner: &Runner<R, G>,
     model: &[u8],
     trace: &[u8],
     wanted: Wanted,
@@ -408,9 +388,9 @@ fn run_bytes<R: Threads + Sync, G: Gate, O: Sink, E: Sink>(
     ensures writes { Writes O.taken O.sure O.faults out.old out.new (writing_of result) (λ text. IsText text (answer model.now trace.now wanted)) }
     ensures line { PutsLine E.taken E.sure E.faults err.old err.new (line_text (name_of_outcome (network_in model.now) result) result) }
 {
-    match judge_model(alloc, model) {
+    match judge_model(runner.crew.alloc, model) {
         Ok(plan) => {
-            let outcome = run_text(alloc, crew, &plan, trace, wanted, out);
+            let outcome = run_text(runner, &plan, trace, wanted, out);
             put_line(err, name_of(&plan.net, &outcome), &outcome);
             drop(plan);
             outcome
@@ -424,8 +404,7 @@ fn run_bytes<R: Threads + Sync, G: Gate, O: Sink, E: Sink>(
 
 // Runs the made input of this number, writes the report, and writes the line of the outcome.
 fn run_made<R: Threads + Sync, G: Gate, O: Sink, E: Sink>(
-    alloc: Global,
-    crew: &Crew<R, G>,
+    runner: &Runner<R, G>,
     number: u64,
     wanted: Wanted,
     out: &mut O,
@@ -437,10 +416,9 @@ fn run_made<R: Threads + Sync, G: Gate, O: Sink, E: Sink>(
     ensures line { PutsLine E.taken E.sure E.faults err.old err.new (line_text [] result) }
 {
     made_inputs_are_accepted();
-    match made(alloc, number) {
+    match made(runner.crew.alloc, number) {
         Ok(input) => run_bytes(
-            alloc,
-            crew,
+            runner,
             input.model.as_slice(),
             input.trace.as_slice(),
             wanted,
@@ -485,13 +463,9 @@ pub fn simulate_bytes<R: Threads + Sync, O: Sink, E: Sink>(
     ensures writes { Writes O.taken O.sure O.faults out.old out.new (writing_of result) (λ text. IsText text (answer model.now trace.now (record { form = form; jobs = jobs }))) }
     ensures line { PutsLine E.taken E.sure E.faults err.old err.new (line_text (name_of_outcome (network_in model.now) result) result) }
 {
-    let crew = &Crew {
-        rt,
-        workers,
-        block,
-        gate: &Open,
-    };
-    run_bytes(alloc, crew, model, trace, Wanted { form, jobs }, out, err)
+    let crew = Crew::new(rt, alloc, workers, &Open);
+    let runner = &Runner { crew: &crew, block };
+    run_bytes(runner, model, trace, Wanted { form, jobs }, out, err)
 }
 
 /// Reads the model and the trace that the arguments name, or makes those of a number, runs the network over the rows, and writes the report,
@@ -541,11 +515,10 @@ pub fn simulate_gated<R: Threads + Sync, F: Files, O: Sink, E: Sink, G: Gate>(
             return outcome;
         }
     };
-    let crew = &Crew {
-        rt,
-        workers: settings.workers as u32,
+    let crew = Crew::new(rt, alloc, settings.workers as u32, gate);
+    let runner = &Runner {
+        crew: &crew,
         block: settings.block as u32,
-        gate,
     };
     let wanted = Wanted {
         form: settings.form as u8,
@@ -553,11 +526,11 @@ pub fn simulate_gated<R: Threads + Sync, F: Files, O: Sink, E: Sink, G: Gate>(
     };
     let (model, trace) = match settings.subject {
         Subject::Named { model, trace } => (model, trace),
-        Subject::Made(number) => return run_made(alloc, crew, number, wanted, out, err),
+        Subject::Made(number) => return run_made(runner, number, wanted, out, err),
     };
     match accept_model(alloc, model, files) {
         Ok(plan) => {
-            let outcome = run_trace(alloc, crew, &plan, trace, wanted, files, out);
+            let outcome = run_trace(runner, &plan, trace, wanted, files, out);
             put_line(err, name_of(&plan.net, &outcome), &outcome);
             drop(plan);
             outcome

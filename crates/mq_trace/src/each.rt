@@ -11,7 +11,7 @@ use crate::header::Header;
 use crate::piece::read_piece;
 use mq_base::{List, OutOfMemory};
 use mq_core::{Network, Rows};
-use mq_crew::{Open, Pieces, made};
+use mq_crew::{Crew, Open, Pieces};
 use std::alloc::Global;
 use std::thread::Threads;
 
@@ -48,15 +48,11 @@ impl<'a> Pieces for TracePieces<'a> {
 
 /// Reads each piece separately, by `workers` workers, and returns its rows or its first error.
 pub fn read_each<R: Threads + Sync>(
-    rt: &R,
-    alloc: Global,
-    workers: u32,
+    crew: &Crew<R, Open>,
     pieces: &[&[u8]],
     net: &Network,
     header: &Header,
 ) -> Result<List<Result<Rows, TraceFault>>, OutOfMemory>
-    requires some { 1 ≤ workers }
-    requires most { workers ≤ 64 }
     requires few { length pieces.now < 2 ^ 32 }
     requires header { IsHeaderOf net.now header.now }
     requires nodes { length net.now.nodes < 2 ^ 32 }
@@ -69,5 +65,5 @@ pub fn read_each<R: Threads + Sync>(
         net,
         header,
     };
-    made(rt, alloc, workers, &all, &Open)
+    crew.made(&all)
 }

@@ -1,11 +1,11 @@
 // Finds the ends of pieces, by workers.
 
-ghost use Rattle.std.specs.Prelude.{◌≡◌, ◌^◌, ◌<◌, ◌≤◌, ℕ, [], true, false, length, map, get_or, IfOk};
+ghost use Rattle.std.specs.Prelude.{◌≡◌, ◌^◌, ◌<◌, ℕ, [], true, false, length, map, get_or, IfOk};
 ghost use Rattle.mq_trace.specs.Quotes.{is_closed};
 
 use crate::quotes::ends_outside;
 use mq_base::{List, OutOfMemory};
-use mq_crew::{Open, Pieces, made};
+use mq_crew::{Crew, Open, Pieces};
 use std::alloc::Global;
 use std::thread::Threads;
 
@@ -36,16 +36,12 @@ impl<'a> Pieces for Ends<'a> {
 
 /// Returns for each piece whether it ends outside quotes if it begins outside them.
 pub fn find_ends<R: Threads + Sync>(
-    rt: &R,
-    alloc: Global,
-    workers: u32,
+    crew: &Crew<R, Open>,
     pieces: &[&[u8]],
 ) -> Result<List<bool>, OutOfMemory>
-    requires some { 1 ≤ workers }
-    requires most { workers ≤ 64 }
     requires few { length pieces.now < 2 ^ 32 }
     ensures len { IfOk result (λ l. length l ≡ length pieces.now) }
     ensures each { IfOk result (λ l. (i : ℕ) → i < length pieces.now → get_or l i false ≡ is_closed true (get_or (map (λ s. s.now) pieces.now) i [])) }
 {
-    made(rt, alloc, workers, &Ends { pieces }, &Open)
+    crew.made(&Ends { pieces })
 }

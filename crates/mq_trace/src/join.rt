@@ -10,7 +10,7 @@ use crate::fault::TraceFault;
 use crate::lists::{Lists, joined};
 use crate::rows::MOST_ROWS;
 use mq_core::{Network, Rows};
-use std::alloc::Global;
+use mq_crew::{Crew, Open};
 use std::thread::Threads;
 
 // The error of a piece that follows `before` data records.
@@ -60,14 +60,10 @@ fn judge(read: &[Result<Rows, TraceFault>], net: &Network) -> Result<u32, TraceF
 /// Joins what was read from each piece of a text, by `workers` workers. Errors are found before anything is joined.
 /// The text itself isn't needed any more.
 pub fn join_rows<R: Threads + Sync>(
-    rt: &R,
-    alloc: Global,
-    workers: u32,
+    crew: &Crew<R, Open>,
     read: &[Result<Rows, TraceFault>],
     net: &Network,
 ) -> Result<Rows, TraceFault>
-    requires some { 1 ≤ workers }
-    requires most { workers ≤ 64 }
     requires columns { length net.now.columns ≤ 16 }
     requires read { (text : List ℕ) × AreReadApart net.now text read.now }
     ensures { (text : List ℕ) → AreReadApart net.now text read.now → Answers result (records_fault net.now (text_records text)) (rows_in net.now text) }
@@ -78,6 +74,6 @@ pub fn join_rows<R: Threads + Sync>(
         count,
         columns: net.columns.len() as u32,
     };
-    let rows = joined(rt, alloc, workers, &lists)?;
+    let rows = joined(crew, &lists)?;
     Ok(rows)
 }

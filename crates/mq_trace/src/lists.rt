@@ -6,7 +6,7 @@ ghost use Rattle.mq_trace.specs.Joined.{AreJoined, HaveColumns, IsListAt, all_nu
 use crate::fault::TraceFault;
 use mq_base::{List, OutOfMemory};
 use mq_core::Rows;
-use mq_crew::{Open, Pieces, made};
+use mq_crew::{Crew, Open, Pieces};
 use std::alloc::Global;
 use std::thread::Threads;
 
@@ -101,20 +101,13 @@ fn numbers(alloc: Global, lists: &Lists, place: usize) -> Result<List<u64>, OutO
 }
 
 /// Returns the rows of pieces, one piece after another, joined by `workers` workers.
-pub fn joined<R: Threads + Sync>(
-    rt: &R,
-    alloc: Global,
-    workers: u32,
-    lists: &Lists,
-) -> Result<Rows, OutOfMemory>
-    requires some { 1 ≤ workers }
-    requires most { workers ≤ 64 }
+pub fn joined<R: Threads + Sync>(crew: &Crew<R, Open>, lists: &Lists) -> Result<Rows, OutOfMemory>
     requires few { lists.now.columns ≤ 16 }
     requires columns { HaveColumns lists.now.columns lists.now.read.now }
     ensures { IfOk result (AreJoined lists.now.columns lists.now.read.now) }
 {
-    let mut demands = Vec::with_capacity(alloc, lists.columns as usize)?;
-    let mut left = made(rt, alloc, workers, lists, &Open)?.into_vec();
+    let mut demands = Vec::with_capacity(crew.alloc, lists.columns as usize)?;
+    let mut left = crew.made(lists)?.into_vec();
     let source = match left.pop() {
         Some(RowList::Sources(source)) => source,
         _ => unreachable!(),

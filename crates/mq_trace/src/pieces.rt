@@ -9,6 +9,7 @@ use crate::ends::find_ends;
 use crate::quotes::ends_outside;
 use memchr::memchr;
 use mq_base::OutOfMemory;
+use mq_crew::{Crew, Open};
 use std::alloc::Global;
 use std::thread::Threads;
 
@@ -96,20 +97,16 @@ fn merge_quoted<'a>(
 ///
 /// Each piece but the first is empty or begins with a line feed, so only the first can begin with a byte order mark.
 pub fn pieces_of<'a, R: Threads + Sync>(
-    rt: &R,
-    alloc: Global,
-    workers: u32,
+    crew: &Crew<R, Open>,
     text: &'a [u8],
     count: u32,
 ) -> Result<Vec<&'a [u8]>, OutOfMemory>
-    requires one { 1 ≤ workers }
-    requires sixty_four { workers ≤ 64 }
     requires count { 1 ≤ count }
     ensures some { IfOk result (λ v. 1 ≤ vec_len v) }
     ensures most { IfOk result (λ v. vec_len v ≤ count) }
     ensures same { IfOk result (λ v. ArePieces text.now (map (λ s. s.now) v.items)) }
 {
-    let lines = cut_lines(alloc, text, count)?;
-    let ends = find_ends(rt, alloc, workers, &lines.as_slice()[..lines.len() - 1])?;
-    merge_quoted(alloc, text, lines.as_slice(), ends.as_slice())
+    let lines = cut_lines(crew.alloc, text, count)?;
+    let ends = find_ends(crew, &lines.as_slice()[..lines.len() - 1])?;
+    merge_quoted(crew.alloc, text, lines.as_slice(), ends.as_slice())
 }

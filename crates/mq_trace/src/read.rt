@@ -19,6 +19,7 @@ use crate::records::{next_record, text_reader};
 use csv::ByteRecord;
 use mq_base::List;
 use mq_core::{Network, Rows};
+use mq_crew::{Crew, Open};
 use std::alloc::Global;
 use std::thread::Threads;
 
@@ -64,15 +65,11 @@ fn read_whole(alloc: Global, text: &[u8], net: &Network) -> Result<Rows, TraceFa
 
 // What is read from each piece of a text; nothing if the first piece has no record, since the header is then in a later one.
 fn read_apart<R: Threads + Sync>(
-    rt: &R,
-    alloc: Global,
-    workers: u32,
+    crew: &Crew<R, Open>,
     text: &[u8],
     pieces: &[&[u8]],
     net: &Network,
 ) -> Result<Option<List<Result<Rows, TraceFault>>>, TraceFault>
-    requires one { 1 ≤ workers }
-    requires most { workers ≤ 64 }
     requires some { 1 ≤ length pieces.now }
     requires few { length pieces.now < 2 ^ 32 }
     requires pieces { ArePieces text.now (map (λ s. s.now) pieces.now) }
@@ -81,11 +78,11 @@ fn read_apart<R: Threads + Sync>(
     ensures read { IfOk result (λ found. IfSome found (λ read. AreReadApart net.now text.now read)) }
     ensures fault { IfErr result (λ e. Tells e (records_fault net.now (text_records text.now))) }
 {
-    let mut names = ByteRecord::new(alloc);
-    match first_record(alloc, pieces[0], &mut names) {
+    let mut names = ByteRecord::new(crew.alloc);
+    match first_record(crew.alloc, pieces[0], &mut names) {
         Ok(true) => {
-            let header = read_header(alloc, names, net)?;
-            let read = read_each(rt, alloc, workers, pieces, net, &header)?;
+            let header = read_header(crew.alloc, names, net)?;
+            let read = read_each(crew, pieces, net, &header)?;
             drop(header);
             Ok(Some(read))
         }
@@ -102,69 +99,57 @@ fn read_apart<R: Threads + Sync>(
 
 // What is read from each piece, if a text is cut into `count` pieces; nothing if it isn't cut.
 fn read_pieces<R: Threads + Sync>(
-    rt: &R,
-    alloc: Global,
-    workers: u32,
+    crew: &Crew<R, Open>,
     count: u32,
     text: &[u8],
     net: &Network,
 ) -> Result<Option<List<Result<Rows, TraceFault>>>, TraceFault>
-    requires one { 1 ≤ workers }
-    requires most { workers ≤ 64 }
     requires nodes { length net.now.nodes < 2 ^ 32 }
     requires columns { length net.now.columns ≤ 16 }
     ensures read { IfOk result (λ found. IfSome found (λ read. AreReadApart net.now text.now read)) }
     ensures fault { IfErr result (λ e. Tells e (records_fault net.now (text_records text.now))) }
 {
     if count > 1 {
-        let pieces = pieces_of(rt, alloc, workers, text, count)?;
-        return read_apart(rt, alloc, workers, text, &pieces, net);
+        let pieces = pieces_of(crew, text, count)?;
+        return read_apart(crew, text, &pieces, net);
     }
     Ok(None)
 }
 
 // Reads a text by `workers` workers, cut into `count` pieces.
 fn read_text<R: Threads + Sync>(
-    rt: &R,
-    alloc: Global,
-    workers: u32,
+    crew: &Crew<R, Open>,
     count: u32,
     text: &[u8],
     net: &Network,
 ) -> Result<Rows, TraceFault>
-    requires one { 1 ≤ workers }
-    requires most { workers ≤ 64 }
     requires nodes { length net.now.nodes < 2 ^ 32 }
     requires columns { length net.now.columns ≤ 16 }
     ensures { Answers result (records_fault net.now (text_records text.now)) (rows_in net.now text.now) }
 {
-    match read_pieces(rt, alloc, workers, count, text, net)? {
-        Some(read) => join_rows(rt, alloc, workers, read.as_slice(), net),
-        None => read_whole(alloc, text, net),
+    match read_pieces(crew, count, text, net)? {
+        Some(read) => join_rows(crew, read.as_slice(), net),
+        None => read_whole(crew.alloc, text, net),
     }
 }
 
 // Reads a text that it owns. If the text is cut, it is freed before the rows of its pieces are joined.
 fn take_text<R: Threads + Sync>(
-    rt: &R,
-    alloc: Global,
-    workers: u32,
+    crew: &Crew<R, Open>,
     count: u32,
     text: Vec<u8>,
     net: &Network,
 ) -> Result<Rows, TraceFault>
-    requires one { 1 ≤ workers }
-    requires most { workers ≤ 64 }
     requires nodes { length net.now.nodes < 2 ^ 32 }
     requires columns { length net.now.columns ≤ 16 }
     ensures { Answers result (records_fault net.now (text_records text.items)) (rows_in net.now text.items) }
 {
-    match read_pieces(rt, alloc, workers, count, &text, net)? {
+    match read_pieces(crew, count, &text, net)? {
         Some(read) => {
             drop(text);
-            join_rows(rt, alloc, workers, read.as_slice(), net)
+            join_rows(crew, read.as_slice(), net)
         }
-        None => read_whole(alloc, &text, net),
+        None => read_whole(crew.alloc, &text, net),
     }
 }
 
@@ -220,7 +205,7 @@ pub fn read_trace<R: Threads + Sync>(
         Some(fault) => Err(fault),
         None => {
             let count = pieces_for(workers, bytes.len());
-            read_text(rt, alloc, workers, count, bytes, net)
+            read_text(&Crew::new(rt, alloc, workers, &Open), count, bytes, net)
         }
     }
 }
@@ -245,7 +230,7 @@ pub fn take_trace<R: Threads + Sync>(
         Some(fault) => Err(fault),
         None => {
             let count = pieces_for(workers, bytes.len());
-            take_text(rt, alloc, workers, count, bytes, net)
+            take_text(&Crew::new(rt, alloc, workers, &Open), count, bytes, net)
         }
     }
 }

@@ -5,7 +5,7 @@ use super::meeting::Meeting;
 use mq_base::{List, OutOfMemory};
 use mq_chain::ChainSeat;
 use mq_claims::ClaimSeat;
-use mq_crew::{Gate, Open, Pieces, made, merged, placed, run_parts, run_pieces};
+use mq_crew::{Crew, Gate, Open, Pieces, merged, placed};
 use std::alloc::Global;
 use std::sync::atomic::AtomicU64;
 use std::sync::atomic::Ordering::SeqCst;
@@ -49,7 +49,7 @@ fn squares_are<R: Threads + Sync>(
     let squares = Squares {
         count: wanted.len() as u32,
     };
-    let found = run_pieces(rt, alloc, workers, &squares, &Open)?;
+    let found = Crew::new(rt, alloc, workers, &Open).run_pieces(&squares)?;
     Ok(found.as_slice() == wanted)
 }
 
@@ -133,7 +133,7 @@ fn made_are<R: Threads + Sync>(
     let gate = Counter {
         entries: AtomicU64::new(0),
     };
-    let found = made(rt, alloc, 2, &squares, &gate)?;
+    let found = Crew::new(rt, alloc, 2, &gate).made(&squares)?;
     Ok(found.as_slice() == wanted && gate.entries.load(SeqCst) == entries)
 }
 
@@ -152,7 +152,7 @@ fn parts_are_apart<R: Threads + Sync>(rt: &R, alloc: Global) -> Result<bool, Out
         Squares { count: 0 },
         Squares { count: 2 },
     ];
-    let groups = run_parts(rt, alloc, 3, parts.as_slice(), &Open)?;
+    let groups = Crew::new(rt, alloc, 3, &Open).parts(parts.as_slice())?;
     Ok(
         groups.len() == 3
             && groups.get(0).as_slice() == [0, 1, 4].as_slice()
@@ -181,7 +181,7 @@ impl Gate for AtPieces {
     fn enter_block(&self, _seat: &ChainSeat, _worker: u32, _block: u32) {}
 }
 
-// Returns whether this many workers make this many squares, and five of them meet.
+// Returns whether this many workers, in place of the one that a crew had, make this many squares, and five of them meet.
 fn five_meet<R: Threads + Sync>(
     rt: &R,
     alloc: Global,
@@ -195,7 +195,8 @@ fn five_meet<R: Threads + Sync>(
     let gate = AtPieces {
         meeting: Meeting::of_nobody(),
     };
-    let squares = run_pieces(rt, alloc, workers, &Squares { count }, &gate)?;
+    let crew = Crew::new(rt, alloc, 1, &gate).with(workers);
+    let squares = crew.run_pieces(&Squares { count })?;
     let wanted: &[u64] = &[0, 1, 4, 9, 16, 25];
     Ok(squares.as_slice() == &wanted[..count as usize] && gate.meeting.is_whole())
 }

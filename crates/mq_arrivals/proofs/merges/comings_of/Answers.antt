@@ -7,13 +7,13 @@ use Rattle.mq_arrivals.specs.declared.merges.Coming.{Coming}
 use Rattle.mq_arrivals.proofs.Comings.{coming_piece, coming_size, comings-few}
 use Rattle.mq_arrivals.proofs.merges.comings_of.Goals as goal
 
-pub run_parts-requires-clause-fit : goal.run_parts-requires-clause-fit
-run_parts-requires-clause-fit g c κs inside =
+pub parts-requires-clause-fit : goal.parts-requires-clause-fit
+parts-requires-clause-fit g c κs inside =
     let s = c.args.arriving.now in
     subst (AllByRecursion (λ (z : Coming). IsReadyOrigin z.origin)) (sym c.as_slice.ensures) (Each-weaker (IsComing s c.loop-port.port) _ (λ z h. h.origin) c.loop-port.comings c.loop-port.invariant.each)
 
-pub run_parts-requires-clause-few : goal.run_parts-requires-clause-few
-run_parts-requires-clause-few g c κs inside =
+pub parts-requires-clause-few : goal.parts-requires-clause-few
+parts-requires-clause-few g c κs inside =
     let s = c.args.arriving.now in
     let len = c.loop-port.invariant.len in
     let few = c.requires.nodes in

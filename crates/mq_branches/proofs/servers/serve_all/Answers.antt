@@ -8,11 +8,11 @@ use Rattle.mq_branches.specs.declared.servers.Task.{Task}
 use Rattle.mq_branches.proofs.Serving.{begun-few, begun_size, task_of, task_size, tasks-few, tasks-map}
 use Rattle.mq_branches.proofs.servers.serve_all.Goals as goal
 
-pub run_parts-requires-clause-few : goal.run_parts-requires-clause-few
-run_parts-requires-clause-few g c κs inside = subst (λ (l : List Task). total_size task_size l < 2 ^ 32) (sym c.as_slice.ensures) (tasks-few c.args.tasks.now c.requires.few c.requires.tasks)
+pub parts-requires-clause-few : goal.parts-requires-clause-few
+parts-requires-clause-few g c κs inside = subst (λ (l : List Task). total_size task_size l < 2 ^ 32) (sym c.as_slice.ensures) (tasks-few c.args.tasks.now c.requires.few c.requires.tasks)
 
-pub run_parts-requires-2-clause-few : goal.run_parts-requires-2-clause-few
-run_parts-requires-2-clause-few g c κs inside =
+pub parts-requires-2-clause-few : goal.parts-requires-2-clause-few
+parts-requires-2-clause-few g c κs inside =
     let same = ap length c.in_ok-begun.ensures.tasks in
     let count = length-map c.in_ok-begun.begun task_of in
     let few = c.requires.few in

@@ -5,6 +5,6 @@ use Rattle.mq_counts.specs.Totals.{pieces_of}
 use Rattle.mq_counts.specs.declared.totals.NodeVisits.{NodeVisits}
 use Rattle.mq_counts.proofs.totals.sums_by_node.Goals as goal
 
-pub run_parts-requires-clause-few : goal.run_parts-requires-clause-few
-run_parts-requires-clause-few g c κs within =
+pub parts-requires-clause-few : goal.parts-requires-clause-few
+parts-requires-clause-few g c κs within =
     subst (λ (all : List NodeVisits). total_size pieces_of all < 2 ^ 32) (sym c.as_slice.ensures) (all-few c.args.nodes.now c.requires.visited c.requires.few)

@@ -10,8 +10,8 @@ use Rattle.mq_engine.specs.Loads.{IsArrivedAt, IsScanFor}
 use Rattle.mq_engine.proofs.Waves.{has-loaded}
 use Rattle.mq_engine.proofs.loads.loads_of.Goals as goal
 
-pub made-requires-clause-fit : goal.made-requires-clause-fit
-made-requires-clause-fit g c κs inside =
+pub made-requires-after_bounds : goal.made-requires-after_bounds
+made-requires-after_bounds g c κs inside =
     let s = c.args.arriving.now in
     let all = c.in_ok-arrived.arrived in
     let len = c.in_ok-arrived.ensures.len in

@@ -7,14 +7,14 @@ use Rattle.mq_engine.specs.declared.middles.Middle.{Middle}
 use Rattle.mq_engine.proofs.Groups.{middle_piece, middle_size, middles-few}
 use Rattle.mq_engine.proofs.ready.given_by.Goals as goal
 
-pub run_parts-requires-clause-few : goal.run_parts-requires-clause-few
-run_parts-requires-clause-few g c κs inside =
+pub parts-requires-clause-few : goal.parts-requires-clause-few
+parts-requires-clause-few g c κs inside =
     let len = c.in_ok-middles.ensures.len in
     let few = c.requires.arriving.nodes in
     subst (λ (l : List Middle). total_size middle_size l < 2 ^ 32) (sym c.as_slice.ensures) (middles-few c.in_ok-middles.middles (omega arith) c.in_ok-middles.ensures.ready)
 
-pub run_parts-requires-clause-fit : goal.run_parts-requires-clause-fit
-run_parts-requires-clause-fit g c κs inside = subst (AllByRecursion IsReadyMiddle) (sym c.as_slice.ensures) c.in_ok-middles.ensures.ready
+pub parts-requires-clause-fit : goal.parts-requires-clause-fit
+parts-requires-clause-fit g c κs inside = subst (AllByRecursion IsReadyMiddle) (sym c.as_slice.ensures) c.in_ok-middles.ensures.ready
 
 pub all_emptied-requires-clause-groups : goal.all_emptied-requires-clause-groups
 all_emptied-requires-clause-groups g c κs inside = subst (λ (l : List Middle). AreGroups middle_size middle_piece l c.in-Ok.groups) c.as_slice.ensures c.in-Ok.ensures

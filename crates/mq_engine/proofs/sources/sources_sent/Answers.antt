@@ -26,8 +26,8 @@ sent_by-requires-clause-arriving g c κs inside =
     let same = ap length c.deref.ensures.value in
     let less = c.in_ok-sources.ensures.few in
     let few = c.requires.few in
-    serves (record { plan = s.plan; rows = s.rows; outputs = s.outputs; ready = c.deref.result; workers = s.workers; block = s.block }) c.requires.wave.read c.requires.wave.early
-    (subst (CanWorkAll s.plan.now s.rows.now s.outputs.now) (sym c.deref.ensures.value) (can-all s c.in_ok-sources.sources.items all)) (omega arith) c.requires.some c.requires.most c.requires.wave.block
+    serves (record { plan = s.plan; rows = s.rows; outputs = s.outputs; ready = c.deref.result; block = s.block }) c.requires.wave.read c.requires.wave.early
+    (subst (CanWorkAll s.plan.now s.rows.now s.outputs.now) (sym c.deref.ensures.value) (can-all s c.in_ok-sources.sources.items all)) (omega arith) c.requires.wave.block
 
 pub sent_by-requires-clause-early : goal.sent_by-requires-clause-early
 sent_by-requires-clause-early g c κs inside = c.requires.wave.early

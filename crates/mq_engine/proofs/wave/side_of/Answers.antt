@@ -34,8 +34,8 @@ given_by-requires-clause-arriving g c κs inside =
     let same = ap length c.deref-2.ensures.value in
     let len = c.in_ok-wave.ensures.len in
     let few = c.requires.few in
-    serves (record { plan = s.plan; rows = s.rows; outputs = s.outputs; ready = c.deref-2.result; workers = s.workers; block = s.block }) c.requires.wave.read c.requires.wave.early
-    (subst (CanWorkAll s.plan.now s.rows.now s.outputs.now) (sym c.deref-2.ensures.value) (can-all s c.in_ok-wave.wave.stations.items c.in_ok-wave.ensures.sorted.stations)) (omega arith) c.requires.some c.requires.most c.requires.wave.block
+    serves (record { plan = s.plan; rows = s.rows; outputs = s.outputs; ready = c.deref-2.result; block = s.block }) c.requires.wave.read c.requires.wave.early
+    (subst (CanWorkAll s.plan.now s.rows.now s.outputs.now) (sym c.deref-2.ensures.value) (can-all s c.in_ok-wave.wave.stations.items c.in_ok-wave.ensures.sorted.stations)) (omega arith) c.requires.wave.block
 
 pub given_by-requires-clause-early : goal.given_by-requires-clause-early
 given_by-requires-clause-early g c κs inside = c.requires.wave.early

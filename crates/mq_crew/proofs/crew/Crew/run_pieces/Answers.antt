@@ -3,7 +3,7 @@ use Rattle.std.proofs.lemmas.Result.{IfOk-at_ok, IfOk-weaker}
 use Rattle.mq_crew.specs.Crew.{AreWorked, IsMadeOf}
 use Rattle.mq_crew.proofs.Working.{all-made, made-within, all-placed}
 use Rattle.mq_crew.proofs.Schedules.{all-recorded}
-use Rattle.mq_crew.proofs.crew.run_pieces.Goals as goal
+use Rattle.mq_crew.proofs.crew.Crew.run_pieces.Goals as goal
 
 pub placed-requires-clause-each : goal.placed-requires-clause-each
 placed-requires-clause-each g c =

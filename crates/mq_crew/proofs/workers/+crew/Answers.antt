@@ -3,7 +3,7 @@ use Rattle.mq_claims.specs.Seats.{Seated}
 use Rattle.mq_crew.specs.Crew.{AreWorked}
 use Rattle.mq_crew.proofs.Working.{both-made, both-ok}
 use Rattle.mq_crew.proofs.Schedules.{both-worked}
-use Rattle.mq_crew.proofs.crew.+crew.Goals as goal
+use Rattle.mq_crew.proofs.workers.+crew.Goals as goal
 
 pub returns-clause-made : goal.returns-clause-made
 returns-clause-made g t c =

@@ -3,7 +3,7 @@ use Rattle.mq_claims.specs.Seats.{Seated}
 use Rattle.mq_crew.specs.Crew.{AreWorked, IsMadeOf, Rise}
 use Rattle.mq_crew.proofs.Schedules.{one-worked, rise-more}
 use Rattle.mq_crew.proofs.Working.{IsWorking, works-ended, works-more}
-use Rattle.mq_crew.proofs.crew.work.Goals as goal
+use Rattle.mq_crew.proofs.workers.work.Goals as goal
 
 pub returns-then-number-count-clause-made : goal.returns-then-number-count-clause-made
 returns-then-number-count-clause-made g c =
