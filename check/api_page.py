@@ -16,7 +16,7 @@ SOURCES = ROOT / "python" / "src" / "mpsim"
 PAGES = {
     "API": ("Python API: runs, models and traces", ["runs", "exports.prepare", "inputs", "builder", "model", "errors"], ["traces.trace"]),
     "API_REPORTS": ("Python API: reports and sweeps", ["report", "node_visits", "lines", "sweeps.results"], ["report"]),
-    "API_AGENTS": ("Python API: agents", [], ["agents.groups", "agents.rosters", "agents.staffing", "agents.queues", "agents.pools"]),
+    "API_AGENTS": ("Python API: agents", [], ["agents.groups", "agents.rosters", "agents.staffing", "agents.plans", "agents.queues", "agents.pools"]),
 }
 HEAD = (
     "`check/api_page.py` writes this page from the docstrings of the package. [PYTHON.md](PYTHON.md) is the guide; the other pages are {others}. "

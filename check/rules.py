@@ -47,22 +47,33 @@ def simulated(jobs, servers=1, urgent_first=False, places=None):
     return ends
 
 
-def blocked(jobs, places):
-    """Simulates tick by tick, and returns when each job leaves the second of two machines, whose service time is `back` and which has this many
-    places, including the one in work. A job finished at the first stays there until the second has a place."""
-    line, first, second, ends, now = collections.deque(jobs), [], [], {}, 0
-    while len(ends) < len(jobs):
-        before = None
-        while before != (len(line), len(first), len(second), len(ends)):
-            before = len(line), len(first), len(second), len(ends)
-            if second and second[0][1] <= now:
-                ends[second.pop(0)[0].number] = now
-                second[:1] = [(job, now + job.back) for job, _ in second[:1]]
-            if first and first[0][1] <= now and len(second) < places:
-                job, _ = first.pop()
-                second.append((job, now + job.back if not second else float("inf")))
-            if line and line[0].time <= now and not first:
-                job = line.popleft()
-                first.append((job, now + job.demand))
+def in_line(parts, places):
+    """Simulates machines in a row tick by tick, and returns when each part leaves each machine: a dict of lists by number.
+
+    `parts` are pairs of a time of arrival and the service times, one per machine, in order of arrival; they are numbered from 1. Machine k + 2 has
+    room for `places[k]` parts, including the one in work; the first has unlimited room. A finished part stays at its machine until the next has a
+    place, and no other part begins there.
+    """
+    comes, last = collections.deque(enumerate(parts, 1)), len(places)
+    rooms, ends, now = [[] for _ in range(last + 1)], {number: [] for number, _ in enumerate(parts, 1)}, 0
+    while any(len(ends[number]) <= last for number in ends):
+        moves = True
+        while moves:
+            moves = False
+            # The first in a room is at the machine; what is left of its work is 0 if it is finished.
+            for k, room in enumerate(rooms):
+                if room and room[0][1][0] == 0 and (k == last or len(rooms[k + 1]) < places[k]):
+                    number, (_, *further) = room.pop(0)
+                    ends[number].append(now)
+                    if k < last:
+                        rooms[k + 1].append((number, further))
+                    moves = True
+            if comes and comes[0][1][0] <= now and not rooms[0]:
+                number, (_, services) = comes.popleft()
+                rooms[0].append((number, list(services)))
+                moves = True
+        for room in rooms:
+            if room and room[0][1][0]:
+                room[0][1][0] -= 1
         now += 1
     return ends

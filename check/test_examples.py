@@ -11,7 +11,7 @@ from programs import CASES, EXAMPLES, Check, executable, form_of, run
 # Numbers of workers and of jobs per block.
 SETTINGS = [("1", "5"), ("4", "1"), ("4", "4096"), ("64", "1")]
 # These contain examples of mpsweep, of mpedit, of mpplan and of the Python package, and the cases.
-OTHERS = ["cases", "edits", "python", "recipes", "staffing", "sweep"]
+OTHERS = ["cases", "edits", "plant", "python", "recipes", "staffing", "sweep"]
 FOLDERS = [it for it in sorted(EXAMPLES.iterdir()) if it.is_dir() and it.name not in OTHERS] + [it for it in sorted(CASES.iterdir()) if it.is_dir()]
 
 

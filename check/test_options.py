@@ -165,7 +165,7 @@ class Planner(Check):
             (["scale", "--shift", "5", "--source", "web", "--s"], ["--source", "--start"]),
             (["hours", "--by", ""], ["day", "each", "hour", "weekday"]),
             (["scale", "--by", ""], []),
-            (["sojourns", "--by", "s"], ["source"]),
+            (["service", "--by", "s"], ["source"]),
             (["nothing", "-"], []),
         ):
             self.same(f"bash after {before}", self.completed(*before), wanted)

@@ -3,11 +3,13 @@
 The output shown on the page must be in the output of the command. If a recipe is called exact, or the truth is said to lie between two runs, random
 traces are compared with a simulation of the real rule (rules.py).
 """
+import re
 import shutil
+from itertools import product
 
 from pages import sections
 from programs import EXAMPLES, PROGRAMS, ROOT, Check, executable, run
-from rules import blocked, drawn, queued, simulated
+from rules import drawn, in_line, queued, simulated
 
 TRACES = 20
 MODEL = sections("docs/MODEL.md")
@@ -184,18 +186,48 @@ class Recipes(Check):
                 free = time + wait + 4 if wait <= 8 else free
             self.same("patience", visits(self.report(model, table("source,time", rows)), "desk"), wanted)
 
+    def tandems(self, lines, rows):
+        """Returns the report of several tandems with these words, each of which gets all of these rows; and when each job leaves each of them."""
+        model = "model 1\n" + "".join(f"source p{at}\ntandem line{at} {line} from p{at}\n" for at, line in enumerate(lines))
+        text = self.report(model, table("source,time,a,b,c,d", [(f"p{at}", *row[1:]) for at in range(len(lines)) for row in rows]))
+        found = [visits(text, f"line{at}") for at in range(len(lines))]
+        return text, [{job - at * len(rows): end[1] for job, end in ends.items()} for at, ends in enumerate(found)]
+
     def test_buffers_of_more_than_4(self):
-        two, head = lambda line: f"model 1\nsource parts\ntandem line {line} from parts\n", "source,time,a,b"
+        """Every tandem, with every choice of the stages that work: stages of demand 0 add their places to those of the next machine."""
+        line, command, made = MODEL["Buffers of more than 4"]
+        self.same("the tandem of the page", self.output_of(command), made)
+        self.shows("the tandem by hand", made, line)
+        every = [it for n in (1, 2, 3) for it in product(product(range(1, 5), repeat=n), product([False, True], repeat=n - 1))]
+        forms = [(places, (*works, True)) for places, works in every]
+        lines, rooms = [], []
+        for places, works in forms:
+            names, own = iter("bcd"), [0]
+            lines.append("a" + "".join(f" / {room} {next(names) if work else '=0'}" for room, work in zip(places, works)))
+            for room, work in zip(places, works):
+                own[-1] += room
+                own += [0] * work
+            rooms.append(own[:-1])
+        self.same("tandems", (len(lines), {len(own): max(own) for own in rooms}), (292, {1: 12, 2: 8, 3: 4}))
+        for first in range(0, len(forms), 20):
+            rows, some = drawn(first, ["p"], (0, 5), (0, 9), (0, 6), (0, 9)), slice(first, first + 20)
+            text, found = self.tandems(lines[some], rows)
+            span = int(text.split()[6])
+            for at, (line, own, ends) in enumerate(zip(lines[some], rooms[some], found)):
+                parts = [(row[1], row[2 : 3 + len(own)]) for row in rows]
+                self.same(f"{line}: departures", ends, {job: gone[-1] for job, gone in in_line(parts, own).items()})
+                # `util` counts the stages of demand 0 too.
+                busy, node = sum(sum(services) for _, services in parts), re.search(rf"node line{at} tandem .* busy (\d+) .* util (.*)", text)
+                util = 10**4 * busy // ((line.count("/") + 1) * span) / 10**4
+                self.same(f"{line}: util", node.groups(), (str(busy), f"{util:.4f}"))
+        # With 20 places the truth is between servers in series and 12 places.
         for seed in range(TRACES):
-            rows = drawn(seed, ["parts"], (0, 5), (0, 9))
-            jobs, trace = queued(rows, ["parts"], back=lambda row: row[3]), table(head, rows)
-            departs = lambda text, node="line": {job: end[1] for job, end in visits(text, node).items()}
-            for places, line in (5, "a / 1 =0 / 4 b"), (8, "a / 4 =0 / 4 b"), (12, "a / 4 =0 / 4 =0 / 4 b"):
-                self.same(f"{places} places", departs(self.report(two(line), trace)), blocked(jobs, places))
-            # With 20 places the truth is between servers in series and 12 places.
-            late, truth = departs(self.report(two("a / 4 =0 / 4 =0 / 4 b"), trace)), blocked(jobs, 20)
-            soon = departs(self.report("model 1\nsource parts\nserver one a from parts\nserver two b from one\n", trace), "two")
-            self.holds(f"20 places: {rows}", all(soon[job] <= truth[job] <= late[job] for job in truth))
+            rows = drawn(seed, ["p"], (0, 5), (0, 9), (0, 0), (0, 0))
+            _, (late,) = self.tandems(["a / 4 =0 / 4 =0 / 4 b"], rows)
+            truth = in_line([(row[1], row[2:4]) for row in rows], [20])
+            two = "model 1\nsource p\nserver one a from p\nserver two b from one\n"
+            soon = visits(self.report(two, table("source,time,a,b", [row[:4] for row in rows])), "two")
+            self.holds(f"20 places: {rows}", all(soon[job][1] <= truth[job][-1] <= late[job] for job in truth))
 
     def test_trace_from_a_log(self):
         log, model, by_awk, trace, by_python, commands = MODEL["A trace from a log"]

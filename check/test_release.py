@@ -17,6 +17,7 @@ SOURCES = [
     *("README.md", "CHANGELOG.md", "CITATION.cff", "CONTRIBUTING.md", "VERSION", "build.py", "crates.txt"),
     *("completions", "docs", "examples", "mpplan", "python", "tools"),
 ]
+LEFT_OUT = "the wheel and the source distribution are left out: hatchling is missing"
 # Nothing of this process, and no toolchain.
 NOTHING = ["env", "-i", "PATH=/usr/bin:/bin"]
 
@@ -52,7 +53,7 @@ class Release(Check):
         words = ["sh", "-c", 'umask "$1"; exec "$2" "$3"', "sh", f"{mask:03o}", top / "tools" / "release", top / "to"]
         ran = run(*words, folder=self.folder, settings=settings)
         files = ran.out.decode().splitlines()
-        missing = [] if any(file.endswith(".whl") for file in files) else ["release: the wheel is left out: hatchling is missing"]
+        missing = [] if any(file.endswith(".whl") for file in files) else [f"release: {LEFT_OUT}"]
         missing = ["release: the Debian package is left out: dpkg-deb is missing"] * (not debian()) + missing
         self.did(ran._replace(out=b""), 0, "", "".join(f"{item}\n" for item in missing))
         self.same("the files that are told", sorted(files), sorted(str(path) for path in (top / "to").iterdir()))
@@ -78,6 +79,21 @@ class Release(Check):
         with tarfile.open(one / ARCHIVE) as archive:
             self.same("owners", {(item.uid, item.gid, item.uname) for item in archive}, {(0, 0, "root")})
             self.same("modes", {oct(item.mode) for item in archive if not item.issym()}, {"0o755", "0o644"})
+
+    def test_the_source_distribution(self):
+        """It has the package as it is here; python/tests/test_wheel.py installs one."""
+        made = self.made()
+        if not list(made.glob("*.whl")):
+            self.skipTest("hatchling isn't there")
+        top, sources = f"mpsim-{VERSION}", ROOT / "python" / "src"
+        with tarfile.open(made / f"{top}.tar.gz") as archive:
+            files = {item.name: archive.extractfile(item).read() for item in archive}
+            self.same("owners", {(item.uid, item.gid, item.uname) for item in archive}, {(0, 0, "")})
+        self.same("the version", files[f"{top}/VERSION"].decode(), f"{VERSION}\n")
+        found = [file for file in sources.rglob("*") if file.is_file() and file.suffix != ".pyc"]
+        package = {f"{top}/src/{file.relative_to(sources)}": file.read_bytes() for file in found}
+        self.same("the package", {name for name in files if name.startswith(f"{top}/src/")}, set(package))
+        self.holds("its bytes", all(files[name] == text for name, text in package.items()))
 
     def runs(self, *words, out="", status=0, line="", settings=()):
         self.did(run(*NOTHING, *settings, *words, folder="/"), status, out, line)

@@ -129,7 +129,7 @@ class Browser:
         self._one(selector, at).click()
 
     def press(self, selector, key, at=0):
-        self._one(selector, at).send_keys({"ArrowLeft": Keys.ARROW_LEFT, "ArrowRight": Keys.ARROW_RIGHT}.get(key) or getattr(Keys, key.upper(), key))
+        self._one(selector, at).send_keys(getattr(Keys, key.replace("Arrow", "Arrow_").upper(), key))
 
     def pick(self, selector, index, at=0):
         Select(self._one(selector, at)).select_by_index(index)

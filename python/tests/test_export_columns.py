@@ -81,6 +81,12 @@ class Sums(Test):
         for bad in "x", "x=", "x=y", "x=a+", "x=a+y", "X=a+b", "x=a*b", "x=+a":
             self.assertIsNone(terms(bad, export))
 
+    def test_empty_terms(self):
+        """A value that is given for empty fields has the sign of its term."""
+        rows = table("2026-03-02 08:00,100,5,7", "2026-03-02 08:01,100,,7", "2026-03-02 08:02,,5,", header="when,talk,hold,wrap")
+        made = prepare(rows, "when", demand=["d=talk-hold+wrap"], empty="30s")
+        self.assertEqual((made.values[0].tolist(), made.left), ([102, 77, 55], {}))
+
     def test_what_is_wrong(self):
         for demand, says in (
             ("x=End-Nothing", "no column 'x'; it has 'Begin'"),

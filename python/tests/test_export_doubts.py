@@ -199,6 +199,12 @@ class HoursThatOccurTwice(Test):
         made = self.made(*rows, twice="order", tick="1min")
         self.assertEqual((list(made.times), made.values[0].tolist()), ([110, 140, 145, 175, 181, 210], [15, 30, 5, 10, 2, 31]))
 
+    def test_rows_in_order_of_both(self):
+        """Then the arrivals say which hour it is: they don't go back, so it is the first."""
+        made = self.made("@1:50,@1:55", "@2:30,@3:05", twice="order", tick="1min")
+        self.assertEqual((list(made.times), made.values[0].tolist()), ([110, 150], [5, 95]))
+        self.assertNotIn("rows are in order of 'end'", made.told)
+
 
 class Nanoseconds(Test):
     def test_packets(self):

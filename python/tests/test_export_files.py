@@ -57,7 +57,6 @@ class Packed(InFolder):
     def test_what_is_no_table(self):
         for data, says in (
             (b"\xd0\xcf\x11\xe0\xa1\xb1\x1a\xe1", r"this is an old spreadsheet \(.xls\): save it as CSV UTF-8"),
-            (b"PAR1\x15\x04", "this is a Parquet file: convert it to CSV"),
             (b'{"when": 1}\n', "this is JSON: convert it to CSV"),
             (b"%PDF-1.7", "this is a PDF document"),
             (b"\xd4\xc3\xb2\xa1\x02\x00\x04\x00", "this is a packet capture: convert it with tshark"),

@@ -3,6 +3,7 @@
 import csv
 import io
 import json
+import random
 import re
 import unittest
 from fractions import Fraction
@@ -48,6 +49,32 @@ class Grid(InFolder):
                 found = [{key: it for key, it in row.items() if key != "load"} for row in rows[3 * at : 3 * at + 3]]
                 self.assertEqual(list(csv.DictReader(io.StringIO(text))), found)
 
+    def test_each_source_and_weekday(self):
+        """The rows of a source or weekday are what `service` and `hours` report of the pool; those of all are the ones without --by."""
+        draw = random.Random(2)
+        calls = sorted((draw.randrange(9 * 86400), draw.choice(["phone", "mail"]), draw.randrange(6000)) for _ in range(300))
+        first = "model 1\n# a tick is 1s, time 0 is 2026-03-27T00:00:00+01:00 in Europe/Berlin\n"
+        model = f"{first}source phone\nsource mail\nserver desk d from phone mail\n"
+        model, pooled = self.file("m.txt", model), self.folder / "p.txt"
+        trace, out = self.file("t.csv", "source,time,d\n" + "".join(f"{it},{time},{d}\n" for time, it, d in calls)), self.folder / "o.csv"
+        words = model, trace, "--node", "desk", "--agents", "1..2", "--load", "100%"
+        plain, said = self.rows(*words)
+        self.assertIn("mpplan: figures of several sources together (mail, phone) at desk; --by source gives each\n", said)
+        for by, report in ("source", ["service", "--by", "source"]), ("weekday", ["hours", "--by", "weekday"]):
+            rows, said = self.rows(*words, "--by", by)
+            self.assertEqual("together" in said, by == "weekday")
+            self.assertEqual([{key: it for key, it in row.items() if key != by} for row in rows if row[by] == "all"], plain)
+            for agents in "12":
+                planner("pool", model, trace, "--node", "desk", "--agents", agents, "--out", out, "--out-model", pooled)
+                command, *more = report
+                wanted = csv.DictReader(io.StringIO(planner(command, pooled, out, "--node", "desk", *more)[1]))
+                wanted = [{key: it for key, it in row.items() if key != "node"} for row in wanted if row[by] != "all"]
+                found = [row for row in rows if row["agents"] == agents and row[by] != "all"]
+                self.assertEqual([{key: it for key, it in row.items() if key not in ("load", "agents", "util")} for row in found], wanted)
+                self.assertEqual({row["util"] for row in found}, {""})
+        text = text_of(model).replace(", time 0 is 2026-03-27T00:00:00+01:00 in Europe/Berlin", "")
+        self.refuses("--by weekday needs the date of time 0: give --start", "grid", self.file("n.txt", text), *words[1:], "--by", "weekday")
+
     def test_shorter_calls_and_times(self):
         """Down to 0; and the same calls closer together."""
         rows, _ = self.rows(*WEEK, "--node", "desk", "--agents", 1, "--load", "100%", "--add", "handling=-9999s")
@@ -82,18 +109,45 @@ class Grid(InFolder):
         self.assertEqual(said, "mpplan: load 100%: more than 1 agents for 80/20\n")
 
     def test_calls_without_work(self):
-        """Those of the trace as it is, which --add makes longer like the others."""
+        """Those of the trace as it is; --add doesn't make them longer, and says how many there are. Nor do they get work by a second --add."""
         trace = EXAMPLES / "week" / "recorded.csv"
-        for more in [], ["--add", "handling=20s"]:
-            said = self.rows(WEEK[0], trace, "--node", "desk", "--agents", 3, "--load", "100%", *more)[1]
-            self.assertEqual(said, f"{idle(24, 713)}mpplan: load 100%: 3 agents for 80/20\n")
+        lines, made = text_of(trace).splitlines(), self.folder / "made.csv"
+        rows = [line.split(",") for line in lines[1:]]
+        shortest = sorted(int(row[2]) for row in rows if row[2] != "0")[:9][-1]
+        few = sum(0 < int(row[2]) <= shortest for row in rows)
+        stay, become = "24 of 713 calls need 0 ticks and stay so", f"{few} of 713 calls become ones of 0 ticks"
+        both = f"{24 + few} of 713 calls need 0 ticks and stay so"
+        for more, change, says in (
+            ([], lambda talk: talk, []),
+            (["handling=20s"], lambda talk: talk + 20, [f"handling=20s: {stay}"]),
+            (
+                [f"handling=-{shortest}s"],
+                lambda talk: max(0, talk - shortest),
+                [f"handling=-{shortest}s: {stay}", f"handling=-{shortest}s: {become}"],
+            ),
+            (
+                [f"talk=-{shortest}s", "talk=+20s"],
+                lambda talk: talk - shortest + 20 if talk > shortest else 0,
+                [f"talk=-{shortest}s: {stay}", f"talk=-{shortest}s: {become}", f"talk=+20s: {both}"],
+            ),
+        ):
+            words = WEEK[0], trace, "--node", "desk", "--load", "100%", *(word for it in more for word in ("--add", it))
+            (found,), said = self.rows(*words, "--agents", 3)
+            lines_said = "".join(f"mpplan: --add {line}\n" for line in says)
+            self.assertEqual(said, f"{lines_said}{idle(24, 713)}mpplan: load 100%: 3 agents for 80/20\n")
+            changed = [[*row[:2], str(change(int(row[2])) if int(row[2]) else 0), *row[3:]] for row in rows]
+            made.write_text("".join(f"{','.join(row)}\n" for row in [lines[0].split(","), *changed]))
+            (want,) = csv.DictReader(io.StringIO(planner("pool", WEEK[0], made, "--node", "desk", "--agents", 3)[1]))
+            self.assertEqual(found, {"load": "100%", **want})
 
     def test_forms(self):
         words = *WEEK, "--node", "desk", "--agents", "2..3", "--load", "100%"
         rows, _ = self.rows(*words)
         objects = json.loads(planner("grid", *words, "--format", "json")[1])
-        self.assertEqual([{key: str(it) for key, it in row.items() if key != "util"} for row in objects],
-                         [{key: it for key, it in row.items() if key != "util"} for row in rows])
+        self.assertEqual(
+            [{key: str(it) for key, it in row.items() if key != "util"} for row in objects],
+            [{key: it for key, it in row.items() if key != "util"} for row in rows],
+        )
 
     def test_what_is_rejected(self):
         words = "grid", *WEEK, "--node", "desk", "--agents", "1..2"
@@ -112,9 +166,19 @@ class Grid(InFolder):
 
 
 class Looking:
-    CELLS = [Cell(load, agents, 100 + at, share, wait, 3 * wait, util) for at, (load, agents, share, wait, util) in enumerate([
-        ("90 %", 2, 0.79, 31.0, 0.5), ("90 %", 3, 0.8, 5.0, 0.4), ("90 %", 4, 0.95, 0.0, 0.3),
-        ("100 %", 2, 0.4, 90.0, 0.6), ("100 %", 3, 0.65, 45.0, 0.45), ("100 %", 4, 0.91, 4.0, 0.35)])]
+    CELLS = [
+        Cell(load, agents, 100 + at, share, wait, 3 * wait, util)
+        for at, (load, agents, share, wait, util) in enumerate(
+            [
+                ("90 %", 2, 0.79, 31.0, 0.5),
+                ("90 %", 3, 0.8, 5.0, 0.4),
+                ("90 %", 4, 0.95, 0.0, 0.3),
+                ("100 %", 2, 0.4, 90.0, 0.6),
+                ("100 %", 3, 0.65, 45.0, 0.45),
+                ("100 %", 4, 0.91, 4.0, 0.35),
+            ]
+        )
+    ]
 
     def setUp(self):
         super().setUp()
@@ -153,8 +217,11 @@ class Looking:
     def test_by_keys(self):
         self.looker.press("#grid", "ArrowRight")
         self.assertIn("marked", self.cells()[1][1])
-        self.assertEqual(self.told(), "Load 90 %, 3 agents: 101 calls, 80.0 % served within 20 s, mean wait 5 s, 90 of 100 waited at most 15 s, "
-                                      "agents work 40.0 % of the whole time")
+        self.assertEqual(
+            self.told(),
+            "Load 90 %, 3 agents: 101 calls, 80.0 % served within 20 s, mean wait 5 s, 90 of 100 waited at most 15 s, "
+            "agents work 40.0 % of the whole time",
+        )
         for key, at in ("End", 2), ("ArrowRight", 2), ("Home", 0), ("ArrowLeft", 0):
             self.looker.press("#grid", key)
             self.assertEqual(["marked" in kind for _, kind in self.cells()].index(True), at, key)

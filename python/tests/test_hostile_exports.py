@@ -1,11 +1,14 @@
 """Large, damaged and hostile exports and models: no more memory than their records take, one short line for each error, and nothing that is run."""
 
+import contextlib
+import gzip
 import io
 import os
 import subprocess
 import sys
 import unittest
 import unittest.mock
+import zipfile
 
 from commands import InFolder, planner
 from ground import ROOT
@@ -59,6 +62,50 @@ class Large(InFolder):
         status, peak, line = measured("prepare", "/dev/zero", "--time", "when")
         self.assertEqual((status, line[:44]), (1, "mpplan: /dev/zero: it has NUL bytes: is it U"))
         self.assertLess(peak, 60)
+
+    def test_a_line_without_end_through_a_pipe(self):
+        """It isn't read for long. A packed file or a spreadsheet has no lines."""
+        endless = [sys.executable, "-c", "while True: print('x' * 999999, end='')"]
+        writer = subprocess.Popen(endless, stdout=subprocess.PIPE, stderr=subprocess.DEVNULL)
+        self.addCleanup(writer.wait)
+        self.addCleanup(writer.kill)
+        status, peak, line = measured("prepare", f"/proc/{os.getpid()}/fd/{writer.stdout.fileno()}", "--time", "when")
+        writer.stdout.close()
+        self.assertEqual((status, line.partition(": a ")[2]), (1, "line is longer than 16,777,216 bytes"))
+        self.assertLess(peak, 60)
+        packed = gzip.compress(table("8:00,a,1"), 0) + os.urandom(1 << 12).replace(b"\n", b"").replace(b"\r", b"") * (1 << 10)
+        with unittest.mock.patch("mpsim.exports.streams.LINE", 1 << 20), self.assertRaisesRegex(ValueError, "can't be unpacked"):
+            self.piped(packed)
+
+    def test_a_pipe_without_end(self):
+        with unittest.mock.patch("mpsim.exports.streams.PIPE", 1 << 22):
+            with self.assertRaisesRegex(ValueError, "more than 4,194,304 bytes through a pipe: give a file"):
+                self.piped(table(*["2026-03-02T08:00:00,a,1"] * 500000))
+
+    def test_a_zip_of_zeros(self):
+        """It isn't unpacked to its end: with NUL bytes, and with one long line."""
+        for data, says in (bytes(1 << 20), "it has NUL bytes: is it UTF-16"), (b"x" * (1 << 20), "line 1 is longer than 16,777,216 bytes"):
+            path = self.folder / "zeros.zip"
+            with zipfile.ZipFile(path, "w", zipfile.ZIP_DEFLATED) as archive, archive.open("zeros.csv", "w") as file:
+                for _ in range(100):
+                    file.write(data)
+            status, peak, line = measured("prepare", path, "--time", "when")
+            self.assertEqual((status, says in line), (1, True), line)
+            self.assertLess(peak, 60)
+
+    def piped(self, data):
+        """Reads bytes that come through a pipe."""
+        path = self.folder / "pipe"
+        os.mkfifo(path)
+        child = os.fork()
+        if not child:
+            with contextlib.suppress(OSError), open(path, "wb") as pipe:
+                pipe.write(data)
+            os._exit(0)
+        try:
+            return prepare(path, "when")
+        finally:
+            os.waitpid(child, 0)
 
     def test_a_line_without_end(self):
         export = self.file("long.csv", "when,who\n8:00," + "x" * (1 << 25) + "\n")
@@ -114,7 +161,7 @@ class Fields(InFolder):
     def test_formulas(self):
         """The rows that were left out are opened in a spreadsheet, where none of them may be a formula."""
         out = io.StringIO()
-        rows = '8:00,a,1', '"=HYPERLINK(""http://x"")",b,=1+1', "@SUM(A1),+x,-5", "8:01,-x,y"
+        rows = "8:00,a,1", '"=HYPERLINK(""http://x"")",b,=1+1', "@SUM(A1),+x,-5", "8:01,-x,y"
         prepare(table(*rows), "when", format="clock", demand=["long"], left_out=out)
         cells = [cell for line in out.getvalue().splitlines()[1:] for cell in line.split(",")]
         self.assertEqual([cell for cell in cells if cell[:1] in ("=", "+", "@")], [])
@@ -139,6 +186,20 @@ class Models(InFolder):
         model = self.file("model.txt", text)
         plan = Plan.of([str(model)], {"agents": [3]}, [str(self.file("trace.csv", "source,time,d\ndoor,0,1\n"))], [])
         self.assertEqual(plan.model(0)[2], text.replace("{agents}", "3"))
+
+
+class Written(InFolder):
+    def test_an_incomplete_file_of_another(self):
+        """A file or a link with the name of ours is never written through, nor removed."""
+        victim, export, out = self.file("victim", "mine\n"), self.file("calls.csv", "when\n8:00\n"), self.folder / "trace.csv"
+        part = self.folder / "trace.csv.00000000.part"
+        for made in (lambda: part.symlink_to(victim)), (lambda: part.write_text("mine\n")):
+            made()
+            with unittest.mock.patch("mpsim.files.secrets.token_hex", return_value="00000000"):
+                status, _, err = planner("prepare", export, "--time", "when", "--out", out)
+            self.assertEqual((status != 0, f"{out}: File exists" in err, out.exists()), (True, True, False), err)
+            self.assertEqual((part.read_text(), victim.read_text()), ("mine\n", "mine\n"))
+            part.unlink()
 
 
 class Started(InFolder):

@@ -69,9 +69,7 @@ class Inspect(InFolder):
         self.assertIn("the longest gap of 'Start' is 19:20:00, after 2026-03-02T12:40:00", notes)
 
     def test_the_command(self):
-        self.assertEqual(
-            self.proposed(self.file("my calls.csv", CALLS)), ["--time", "Start", "--source", "Queue", "--demand", "Talk (min):min"]
-        )
+        self.assertEqual(self.proposed(self.file("my calls.csv", CALLS)), ["--time", "Start", "--source", "Queue", "--demand", "Talk (min):min"])
 
     def test_ends_instead_of_lengths(self):
         """The first of the times is the arrival, wherever its column is."""
@@ -145,7 +143,10 @@ class Inspect(InFolder):
         for path in paths:
             with self.subTest(path.name):
                 self.proposed(path)
-        self.proposed(EXAMPLES / "recipes" / "avaya.csv", "--skip", "3")
+        # The month may be the first or the second number of its dates.
+        path = EXAMPLES / "recipes" / "avaya.csv"
+        says = "no command can be proposed: the day of 'Start Time' is in 'Date', whose format can't be told: --date-format"
+        self.assertIn(says, inspected(path, skip=3).notes)
 
     def test_tables(self):
         out = planner("inspect", self.file("calls.csv", CALLS))[1]

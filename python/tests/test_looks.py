@@ -1,5 +1,5 @@
-"""The page as its script makes it: after clicks, keys and choices it shows the figures of the report's text. It is viewed in a browser if Chromium,
-its driver and selenium are installed, and in the stand-in run by node (looking.py)."""
+"""The page as its script makes it: after clicks, keys and choices it shows the figures of the report's text. It is viewed in Chromium, if there is a
+driver and selenium, and in the stand-in run by node (looking.py)."""
 
 import http.server
 import random
@@ -80,11 +80,11 @@ class Looked(Looking):
         self.assertEqual(self.texts("#pictures p"), ["No job can wait at this node, or none arrived."])
 
     def test_node_to_begin_with(self):
-        """The one with the longest p90."""
+        """The one with the greatest utilisation."""
         self.looker.show(page([self.report]))
-        longest = max(nodes_of(self.text), key=lambda item: int(item["p90"]))["name"]
-        self.assertEqual(self.attributes("g.node.marked", "data-node"), [longest])
-        self.shows(self.text, longest)
+        busiest = max((node for node in nodes_of(self.text) if node["util"] != "-"), key=lambda item: float(item["util"]))["name"]
+        self.assertEqual(self.attributes("g.node.marked", "data-node"), [busiest])
+        self.shows(self.text, busiest)
 
     def test_colours_as_one_chooses(self):
         """The colour rules respect the page's own choice."""
@@ -256,6 +256,30 @@ class Looked(Looking):
             want[str(label)] = round(sum(wait <= 60 for wait in waits_of(text, "expert")) / came, 4)
         self.assertEqual(dots, want)
 
+    def seconds_of(self, caption):
+        """Returns the length of an interval that a caption gives."""
+        number_, unit = re.search(r"Intervals of (\d+) (s|min|h|d)\.", caption).groups()
+        return int(number_) * {"s": 1, "min": 60, "h": 3600, "d": 86400}[unit]
+
+    def test_waits_in_minutes(self):
+        """Wherever the length of a tick is known: in cards, in charts and on their axes, and what they say."""
+        report = mpsim.run("model 1\nsource s\nserver d =16 from s\n", [("s", number * 10) for number in range(400)], jobs=True)
+        self.assertEqual(waits_of("".join(report.lines()), "d"), [6 * number for number in range(400)])
+        self.looker.show(page([report], tick=0.5))
+        # Halves of seconds: the 200th, the 360th and the last of 0, 3, 6, ... seconds.
+        cards = dict(zip(self.attributes(".card", "data-figure"), self.texts(".card b")))
+        want = {"p50": "9 min 57 s", "p90": "17 min 57 s", "p99": "19 min 45 s", "max": "19 min 57 s", "mean wait": "9 min 58 s"}
+        self.assertEqual({name: cards[name] for name in want}, want)
+        self.looker.press("[data-picture=waits]", "End")
+        self.assertEqual(self.texts("[data-told=waits]"), ["100.0 % waited 19 min 57 s or less"])
+        self.looker.press("[data-picture=time]", "Home")
+        longest = 3 * (self.seconds_of(self.texts("figcaption")[0]) // 5 - 1)
+        says = "the longest wait was " + (f"{longest // 60} min {longest % 60} s" if longest > 60 else f"{longest} s")
+        self.assertTrue(self.texts("[data-told=time]")[0].endswith(says), self.texts("[data-told=time]"))
+        for name, mark in ("time", "5 min"), ("waits", "10 min"):
+            self.assertIn(mark, self.texts(f"[data-picture={name}] .axis text"))
+        self.assertEqual([it for it in self.texts("figcaption") + self.texts(".axis text") if "ticks" in it], [])
+
     def test_times_of_the_day(self):
         """Ticks of half a second from 23:00, past midnight, as in datetime."""
         rows = [("s", number * 900) for number in range(40)]
@@ -264,7 +288,7 @@ class Looked(Looking):
             self.looker.show(page([report], tick=0.5, start=start))
             self.looker.press("[data-picture=time]", "Home")
             told = self.texts("[data-told=time]")[0]
-            width = int(re.search(r"Intervals of ([\d,]+) ticks", self.texts("figcaption")[0])[1].replace(",", "")) // 2
+            width = self.seconds_of(self.texts("figcaption")[0])
             came = sum(number * 450 < width for number in range(40))
             begin = start or datetime(2000, 1, 1)
             end = datetime.fromtimestamp(begin.timestamp() + width)
@@ -272,7 +296,7 @@ class Looked(Looking):
         long = mpsim.run("model 1\nsource s\nserver d =9 from s\n", [("s", number * 86400 * 7) for number in range(30)], jobs=True)
         self.looker.show(page([long], tick=1, start=datetime(2026, 2, 27, 6, 30)))
         self.looker.press("[data-picture=time]", "End")
-        width = int(re.search(r"Intervals of ([\d,]+) ticks", self.texts("figcaption")[0])[1].replace(",", ""))
+        width = self.seconds_of(self.texts("figcaption")[0])
         last = datetime(2026, 2, 27, 6, 30).timestamp() + (29 * 86400 * 7 + 9) // width * width
         self.assertEqual(width % 86400, 0)
         told = self.texts("[data-told=time]")[0]

@@ -31,6 +31,13 @@ CALLS = (
     ("scale trace --by 2 --twins --out OUT", {"trace": "trace"}),
     ("pool model trace --node desk --agents 2 --out OUT", {"model": "model", "trace": "trace"}),
     ("pool model trace --node desk --agents 2 --out-model OUT", {"model": "model", "trace": "trace"}),
+    ("line a:=1 2 b:=3 --from desk --model model --trace trace --out OUT", {"model": "model", "trace": "trace"}),
+    ("line a:=1 2 b:=3 --from desk --model model --trace trace --out-model OUT", {"model": "model", "trace": "trace"}),
+    ("down model trace --node desk --at 1 --for 1 --out OUT", {"model": "model", "trace": "trace"}),
+    ("down model trace --node desk --at 1 --for 1 --out-model OUT", {"model": "model", "trace": "trace"}),
+    ("batch model trace --node desk --size 1 --time 3 --out OUT", {"model": "model", "trace": "trace"}),
+    ("batch model trace --node desk --size 1 --time 3 --out-model OUT", {"model": "model", "trace": "trace"}),
+    ("validate model trace --node desk --agents 1 --wait talk --within 5 --tick 1s --start 8:00 --page OUT", {"model": "model", "trace": "trace"}),
     ("grid model trace --node desk --agents 2 --page OUT", {"model": "model", "trace": "trace"}),
     ("inspect export --write-recipe OUT", {"export": "export"}),
     ("decision model trace --node desk --roster roster --out OUT", {"model": "model", "trace": "trace", "roster": "roster"}),
@@ -111,7 +118,8 @@ class Outputs(InFolder):
         tried = {(word[0], word[word.index("OUT") - 1]) for word in words}
         parsers = {name: parser_for(name)._subparsers._group_actions[0].choices[name] for name in COMMANDS}
         files = {(name, *action.option_strings) for name, parser in parsers.items() for action in parser._actions if action.metavar == "FILE"}
-        self.assertEqual({file for file in files if file[-1] not in ("--model", "--trace", "--report", "--roster", "--recipe", "--forms")}, tried)
+        read = "--model", "--trace", "--report", "--roster", "--recipe", "--forms", "--list", "--costs", "--calendar", "--log"
+        self.assertEqual({file for file in files if file[-1] not in read}, tried)
 
 
 if __name__ == "__main__":

@@ -65,6 +65,12 @@ class Parts(InFolder):
         utc = dict(prepare_parts(b"when\n1772496000\n1772488800\n", "when", "day", format="unix", zone="America/New_York"))
         self.assertEqual(list(utc), ["2026-03-02"])
 
+    def test_the_week_of_a_new_year(self):
+        """It belongs to the year of its Thursday, and isn't cut."""
+        rows = "2026-12-31 08:00,60", "2027-01-01 08:00,90", "2027-01-04 08:00,30"
+        parts = [(name, len(made)) for name, made in prepare_parts(table(*rows, header="when,long"), "when", "week", demand=["long"])]
+        self.assertEqual(parts, [("2026-W53", 2), ("2027-W01", 1)])
+
     def test_records_that_wait_in_memory(self):
         seen, put_down = [], parts.Parts._put_down
 

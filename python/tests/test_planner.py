@@ -40,7 +40,7 @@ class Words(Test):
             self.assertIn(f"example: mpplan {name} ", out)
             self.assertIn(says[1:], " ".join(out.split()))
         status, out, _ = planner("--help")
-        self.assertEqual([command for command in COMMANDS if f"    {command} " in out], list(COMMANDS))
+        self.assertEqual([command for command in COMMANDS if re.search(rf"^    {command}( |$)", out, re.M)], list(COMMANDS))
         self.assertEqual(planner("--version"), (0, f"mpplan {mpsim.__version__}\n", ""))
 
     def test_invalid_arguments(self):
@@ -104,8 +104,9 @@ class Ends(InFolder):
             parser = parser_for(name)._subparsers._group_actions[0].choices[name]
             for action in parser._actions:
                 if isinstance(action, GivenOnce) and action.option_strings:
-                    # A recipe is read as soon as it is given.
-                    one = next(iter(action.choices), "1") if action.choices else recipe if action.dest == "recipe" else "1"
+                    # A recipe is read as soon as it is given, and words are judged.
+                    plain = action.default if action.type and isinstance(action.default, str) else "1"
+                    one = next(iter(action.choices), "1") if action.choices else recipe if action.dest == "recipe" else plain
                     values = [one] * (action.nargs if isinstance(action.nargs, int) else 1)
                     status, out, err = planner(name, *[action.option_strings[-1], *values] * 2)
                     self.assertEqual((status, out, err.split(" (")[0]), (2, "", f"mpplan: {action.option_strings[-1]} is given twice"))

@@ -213,7 +213,7 @@ class Whole(WithPool):
             self.assertEqual(rows["desk"][1:12], ["pool", "90", "90", "0", "0", "0", f"{mean:,}", *tail])
             self.assertEqual(list(rows), ["phone", "desk_queue", "desk", "wrap"])
             self.assertEqual(rows["desk_queue"][1:8], ["delay", "90", "90", "0", "0", "0", "0"])
-            self.assertEqual(self.data_of(page)["node"], "desk" if report == jobs else "wrap")
+            self.assertEqual(self.data_of(page)["node"], "desk")
             svg = self.folder / "net.svg"
             self.tells("page", report, "--model", model, "--out", svg)
             self.assertIn(f">{figures}<", text_of(svg))

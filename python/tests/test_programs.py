@@ -56,6 +56,17 @@ class Programs(unittest.TestCase):
         self.assertEqual(self.found("mpsim"), (0, [built] * 2, []))
         self.assertEqual(self.found("mpsim", MPSIM_PROGRAMS=str(self.clone)), (0, [on_path] * 2, []))
 
+    def test_a_command_that_pip_made(self):
+        """It isn't a program: it would look for one again, and so on. The next one on the PATH is."""
+        command = self.program(self.clone / "env" / "mpsim")
+        pathlib.Path(command).write_text("#!/usr/bin/python3\nimport sys\nfrom mpsim.programs import mpsim\nsys.exit(mpsim())\n")
+        on_path = self.program(self.clone / "mpsim")
+        self.assertEqual(self.found("mpsim", PATH=f"{self.clone}/env::{self.clone}"), (0, [on_path] * 2, []))
+        os.remove(self.clone / "tools" / "unproved.py")
+        status, _, lines = self.found("mpsim", PATH=f"{self.clone}/env")
+        self.assertEqual(status, 1)
+        self.assertIn("no program mpsim in this package", lines[-1])
+
     def test_a_directory_without_the_program(self):
         """Nothing is compiled in its place."""
         status, _, lines = self.found("mpsim", MPSIM_PROGRAMS="/nowhere")

@@ -10,7 +10,7 @@ import subprocess
 import sys
 import unittest
 
-from commands import InFolder, planner
+from commands import InFolder, idle, planner
 from ground import EXAMPLES, Test, text_of
 
 import mpsim.agents.validation
@@ -151,6 +151,46 @@ class Commands(InFolder):
         self.assertEqual(self.table(*words)[0][0], ["all", "all", "3", "1.0", "1.0", "0.0", "0.3333"])
         self.file("t.csv", "source,time,d,wait,gone\nphone,0,10,0,1\nphone,60,10,0,0\n")
         self.assertEqual(self.table(*words)[0][0], ["all", "all", "2", "0.5", "1.0", "0.5", "0.5"])
+
+    def test_calls_without_work(self):
+        """They are counted in a warning after the verdict: the model has less work than there was."""
+        words = "validate", WEEK[0], EXAMPLES / "week" / "recorded.csv", "--node", "desk", "--wait", "wait", "--abandoned", "gone", "--agents", 3
+        self.assertEqual(self.table(*words)[1].splitlines(keepends=True)[1:], [idle(24, 713)])
+        trace = self.file("t.csv", "source,time,d,wait,gone\nphone,0,10,0,0\n")
+        self.assertEqual(len(self.table("validate", self.model, trace, *words[3:])[1].splitlines()), 1)
+
+    def test_by_weekday(self):
+        """Each weekday's rows are those of a trace that has only its days."""
+        trace = EXAMPLES / "week" / "recorded.csv"
+        lines = text_of(trace).splitlines()
+        more = "--wait", "wait", "--abandoned", "gone", "--every", "1h"
+        recorded = lambda path: ("recorded", path, "--model", WEEK[0], *more)
+        validated = lambda path: ("validate", WEEK[0], path, "--node", "desk", "--roster", ROSTER, *more)
+        for words in recorded, validated:
+            rows, said = self.table(*words(trace), "--by", "weekday")
+            found = {}
+            for row in rows:
+                found.setdefault(row[0], []).append(row[1:])
+            self.assertEqual([name for name in found if name != "all"], ["Monday", "Tuesday", "Wednesday", "Thursday", "Friday", "Saturday"])
+            self.assertEqual(found.pop("all", []), [row for row in self.table(*words(trace))[0] if row[0] == "all"])
+            for number, mine in enumerate(found.values()):
+                only = self.file(
+                    "d.csv", "".join(f"{line}\n" for line in lines[:1] + [it for it in lines[1:] if int(it.split(",")[1]) // 86400 == number])
+                )
+                self.assertEqual([row for row in self.table(*words(only))[0] if row[0] != "all"], mine)
+            if words is validated:
+                self.assertEqual(
+                    (max(int(row[3]) for row in rows[1:]), said.split(":")[1]), (25, " it can't be said whether the model may be trusted")
+                )
+                # The worst interval has the name of its weekday.
+                three = ["3" if it is ROSTER else "--agents" if it == "--roster" else it for it in words(trace)]
+                rows, said = self.table(*three, "--by", "weekday", "--trust-calls", 20)
+                worst = max((row for row in rows[1:] if int(row[3]) >= 20), key=lambda row: abs(float(row[6])))
+                self.assertIn(f"most at {worst[0]} {worst[1]} ({100 * float(worst[6]):+.1f})", said)
+        header = planner(*recorded(trace), "--by", "weekday")[1].splitlines()[0]
+        self.assertEqual(header, "weekday,from,queue,offered,answered,abandoned,within,mean_wait,p90")
+        why = "--by weekday needs the date of time 0: give --start"
+        self.refuses(why, "recorded", self.file("t.csv", "source,time,d,w\nphone,0,9,0\n"), "--model", self.model, "--wait", "w", "--by", "weekday")
 
     def tells_any(self, *words):
         self.assertEqual(planner(*words)[0], 0)

@@ -1,12 +1,16 @@
 """Reports: each figure is what the text says, which is parsed here word by word; cut or altered reports are rejected."""
 
+import importlib
 import io
 import re
 import unittest
+import unittest.mock
+from array import array
 
 from ground import EXAMPLES, DESK, Test, nodes_of, reports, text_of, waits_of, words_of
 
 import mpsim
+from mpsim.node_visits import _sum
 from mpsim.report import Reading
 
 CALLS = text_of(EXAMPLES, "callcentre", "jobs.txt")
@@ -78,6 +82,16 @@ class Figures(Test):
                     left = words[5] == "wait"
                     self.assertEqual(visit.end, "left" if left else words[5])
                     self.assertEqual((visit.wait, visit.depart), (int(words[6]), int(words[8])) if left else (None, None))
+
+    def test_rows_of_visits(self):
+        """The rows of a node are its visits, with lost and held ones and without."""
+        kinds = set()
+        for path in reports():
+            report = mpsim.Report.read(path)
+            for visits in report.visits.values() if report.has_visits else ():
+                self.assertEqual(list(visits.rows()), [list(visit) for visit in visits])
+                kinds.add(frozenset(visit.end for visit in visits))
+        self.assertLess({frozenset(["left"]), frozenset(["left", "lost"]), frozenset(["left", "held"])}, kinds)
 
     def test_percentiles_and_shares(self):
         for path in reports():
@@ -156,6 +170,7 @@ class Refusals(Test):
                 line.replace("wait ", "wait -"),
                 line.replace("job ", "job 4294967296"),
                 line.replace("job ", "job 1"),
+                line.replace("job ", "job 0"),
                 re.sub(r"^job \d+", "job 0", line),
                 line.replace("util ", "util 7"),
                 line.replace("report 2", "report 3"),
@@ -244,6 +259,81 @@ class Refusals(Test):
             with self.subTest(text[:30]):
                 self.refused(text)
         self.assertEqual(str(self.refused("jobs 3\n")), "report line 1: 'jobs 3' is not a line of a report")
+
+
+class Numpy(Refusals):
+    """The same with numpy, which otherwise reads long reports only."""
+
+    def setUp(self):
+        super().setUp()
+        try:
+            import numpy
+        except ImportError:
+            raise unittest.SkipTest("needs numpy") from None
+        patch = unittest.mock.patch("mpsim.report.numpy_for", return_value=numpy)
+        patch.start()
+        self.addCleanup(patch.stop)
+
+    def test_each_report_comes_back_byte_for_byte(self):
+        for path in reports():
+            self.assertEqual("".join(mpsim.Report.read(path).lines()), text_of(path))
+
+    def test_great_sums(self):
+        """A sum of times above 2^63, and the greatest number of 64 bits."""
+        text = mpsim.run("model 1\nsource door\n", [("door", at) for at in [1 << 60] * 20 + [3]], jobs=True)
+        self.assertEqual("".join(mpsim.Report.parse("".join(text.lines())).lines()), "".join(text.lines()))
+        one = "".join(mpsim.run("model 1\nsource door\n", [("door", 5)], jobs=True).lines())
+        most = (1 << 63) - 1
+        self.assertEqual(mpsim.Report.parse(one.replace(" 5", f" {most}")).visits["door"].arrive[0], most)
+        self.refused(one.replace(" 5", f" {most + 1}"))
+        self.assertEqual(_sum(array("q", [most] * 5 + [-1, -2]), importlib.import_module("numpy")), 5 * most - 3)
+
+
+class Wanted(Test):
+    """With the visits of some nodes only."""
+
+    def read(self, text, nodes):
+        return [str(item) for piece in Reading(text).pieces(nodes) for item in piece]
+
+    def test_any_nodes(self):
+        names = [words["name"] for words in nodes_of(CALLS)]
+        for number in range(1 << len(names)):
+            nodes = {name for at, name in enumerate(names) if number >> at & 1}
+            lines = [line for line in CALLS.splitlines() if line.startswith("job ") and line.split()[2] in nodes]
+            with self.subTest(nodes=nodes):
+                self.assertEqual(self.read(CALLS, nodes), [str(it) for it in mpsim.Report.parse(CALLS).visits.each() if it.node in nodes])
+                self.assertEqual(len(self.read(CALLS, nodes)), len(lines))
+
+    def test_names_that_differ_in_digits(self):
+        model = "model 1\nsource a1\nsource a2\nsource a3\n"
+        text = "".join(mpsim.run(model, [(f"a{at % 3 + 1}", at) for at in range(9)], jobs=True).lines())
+        for name in "a1", "a2", "a3":
+            self.assertEqual(len(self.read(text, {name})), 3)
+            # A line of another node, though nobody asked for either.
+            with self.assertRaises(mpsim.ReportError):
+                self.read(text.replace(f" {name} arrive", " a4 arrive", 1), set())
+            with self.assertRaises(mpsim.ReportError):
+                self.read(re.sub(f"job . {name} ", "job 1 a1 " if name != "a1" else "job 1 a2 ", text), {name})
+
+    def test_lines_that_nobody_asked_for(self):
+        """They are checked for their words and their number."""
+        lines = CALLS.splitlines(keepends=True)
+        for at, line in enumerate(lines):
+            if line.startswith("job "):
+                for other in (
+                    "",
+                    line + line,
+                    line.replace(" arrive", " arrives"),
+                    line.replace("\n", " \n"),
+                    line.replace(" lost", " held"),
+                    "x" + line,
+                ):
+                    if other != line:
+                        with self.subTest(other), self.assertRaises(mpsim.ReportError):
+                            self.read("".join([*lines[:at], other, *lines[at + 1 :]]), set())
+        for end in range(CALLS.find("job ") + 1, len(CALLS)):
+            with self.subTest(end=end), self.assertRaises(mpsim.ReportError):
+                self.read(CALLS[:end], set())
 
 
 class Pieces(Test):

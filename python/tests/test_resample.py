@@ -3,12 +3,13 @@
 import csv
 import io
 import math
+import random
 import unittest
 from collections import Counter
 from datetime import datetime, timedelta
 from zoneinfo import ZoneInfo
 
-from commands import InFolder, planner
+from commands import InFolder, idle, planner
 from ground import Test, text_of
 
 from mpsim.times.calendar import Calendar
@@ -103,8 +104,10 @@ class Resampled(Test):
     def test_without_dates(self):
         self.assertRaisesRegex(ValueError, "weekdays need the date of time 0: give --start, or --within any", Days, self.trace, Calendar(SECOND))
         days = Days(Trace("t.csv", ["source", "time"], [["a", str(3 * 86400 + 5)], ["a", str(4 * 86400 + 9)]]), Calendar(SECOND), "any")
-        self.assertEqual({tuple(days.resampled(1, number).times()) for number in range(30)},
-                         {(3 * 86400 + one, 4 * 86400 + other) for one in (5, 9) for other in (5, 9)})
+        self.assertEqual(
+            {tuple(days.resampled(1, number).times()) for number in range(30)},
+            {(3 * 86400 + one, 4 * 86400 + other) for one in (5, 9) for other in (5, 9)},
+        )
 
 
 class Command(InFolder):
@@ -140,6 +143,44 @@ class Command(InFolder):
                 self.assertEqual([float(row[name]) for name in ("trace", "p5", "p50", "p95")], want, row)
             spread = next(row for row in rows if row["figure"] == "mean_wait")
             self.assertLess(float(spread["p5"]), float(spread["p95"]))
+
+    def test_each_source_and_weekday(self):
+        """Each part's figures beside runs of the traces, each with the visits of the part only; a day without calls has none."""
+        sources = "# a tick is 1s, time 0 is 2026-03-09T00:00:00+01:00 in Europe/Berlin\nsource a\nsource b\nserver desk talk from a b\n"
+        model, draw = self.file("m.txt", f"model 1\n{sources}"), random.Random(5)
+        calls = sorted(
+            (86400 * draw.choice([0, 0, 1, 7, 7, 8, 14, 15]) + draw.randrange(3600), draw.choice("ab"), draw.randrange(300)) for _ in range(90)
+        )
+        trace = self.file("t.csv", "source,time,talk\n" + "".join(f"{it},{time},{talk}\n" for time, it, talk in calls))
+        words = "resample", trace, "--model", model, "--count", 9, "--seed", 3, "--within", "30s", "--percentile", 80, "--node", "desk"
+        for by, command in ("source", ["service", "--by", "source"]), ("weekday", ["hours", "--by", "weekday"]):
+            for more in [], ["--agents", 1]:
+                status, text, said = planner(*words, "--out", self.out, "--by", by, *more)
+                self.assertEqual((status, "together" in said), (0, bool(more) and by == "weekday"))
+                seen = {}
+                for number, path in enumerate([trace, *sorted(self.out.iterdir())]):
+                    for row in csv.DictReader(
+                        io.StringIO(planner(command[0], model, path, "--node", "desk", *command[1:], "--within", 30, "--percentile", 80)[1])
+                    ):
+                        for name, value in row.items():
+                            seen.setdefault((row[by], name), {})[number] = value
+                rows = list(csv.DictReader(io.StringIO(text)))
+                self.assertEqual([row for row in rows if row[by] == "Sunday" and row["figure"] == "came"][0]["p95"] if by == "weekday" else "0", "0")
+                for row in rows:
+                    mine = seen.get((row[by], row["figure"]), {})
+                    if row[by] in ("a", "b", "Monday", "Tuesday"):
+                        others = sorted(float(value) for number, value in mine.items() if number and value)
+                        want = [float(mine[0]), *(others[math.ceil(len(others) * percent / 100) - 1] for percent in (5, 50, 95))]
+                        self.assertEqual([float(row[name]) for name in ("trace", "p5", "p50", "p95")], want, row)
+
+    def test_calls_without_work(self):
+        """With --agents those of the trace are counted in a warning."""
+        rows = text_of(self.trace).splitlines()
+        empty = self.file("z.csv", "".join(f"{line}\n" for line in [*rows, "calls,50000,0", "calls,650000,0"]))
+        words = "--model", self.model, "--count", 3, "--node", "desk"
+        for more, said in (["--agents", 2], idle(2, len(rows) + 1)), ([], ""):
+            self.assertEqual(planner("resample", empty, *words, *more)[2], said)
+        self.assertEqual(planner("resample", self.trace, *words, "--agents", 2)[2], "")
 
     def test_the_trace_itself_is_never_overwritten(self):
         own = self.file("trace-2.csv", text_of(self.trace))

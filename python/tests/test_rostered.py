@@ -55,6 +55,8 @@ class Rosters(InFolder):
             self.assertEqual([it for it in agent.intervals if it[0] < 22 * HOUR], [(0, 6 * HOUR)] * begins)
         (agent,), _ = self.read("A,,22:00,06:00", last=HOUR, days=Calendar(SECOND))
         self.assertEqual(list(agent.intervals), [(0, 6 * HOUR), (22 * HOUR, 30 * HOUR)])
+        (agent,), _ = self.read("A,,sat 20:00,20:00")
+        self.assertEqual(list(agent.intervals), [(2 * day + 20 * HOUR, 3 * day + 19 * HOUR)])
         (agent,), _ = self.read("A,,00:00,24:00", last=HOUR)
         self.assertEqual(list(agent.intervals), [(0, day)])
 
@@ -168,6 +170,25 @@ class Pools(InFolder):
         self.assertEqual(list(table[0].values()), ["00:00", "all", "4", "2", "2", "0.5", "0.0", "0.0", "1.5", str(round(80 / 2700, 4))])
         self.assertEqual(list(table[1].values()), ["00:00", "mail", "2", "0", "2", "0.0", "", "", "", ""])
         self.assertEqual(list(table[3].values()), ["01:00", "all", "1", "1", "0", "1.0", "0.0", "0.0", "0.0", "1.0"])
+
+    def test_by_weekday(self):
+        """The rows of a weekday are those of a trace and a roster that have only its days."""
+        lines, roster = text_of(WEEK[1]).splitlines(), text_of(EXAMPLES / "week" / "roster.csv")
+        words = "--every", "2h", "--patience", "60s"
+        rows = self.table(*WEEK, "--roster", EXAMPLES / "week" / "roster.csv", *words, "--by", "weekday")
+        self.assertEqual(list(rows[0])[:4], ["weekday", "from", "queue", "offered"])
+        for number, name in enumerate(["Monday", "Tuesday", "Wednesday", "Thursday", "Friday", "Saturday"]):
+            only = self.file(
+                "d.csv", "".join(f"{line}\n" for line in lines[:1] + [it for it in lines[1:] if int(it.split(",")[1]) // 86400 == number])
+            )
+            found = [{key: it for key, it in row.items() if key != "weekday"} for row in rows if row["weekday"] == name]
+            there = roster.replace("mon-sat", name).replace("mon-fri", name if name != "Saturday" else "sun")
+            self.assertEqual(self.table(WEEK[0], only, "--roster", self.file("r.csv", there), *words), found)
+        both = {(row["weekday"], row["from"]): row["agents"] for row in rows}
+        self.assertEqual([both["Monday", "08:00"], both["Saturday", "10:00"], both["Friday", "12:00"]], ["1.5", "1.25", "2.5"])
+        why = "--by weekday needs the date of time 0: give --start"
+        model = self.file("n.txt", "model 1\n# a tick is 1s\nsource a\nserver desk d from a\n")
+        self.refuses(why, "pool", model, self.file("n.csv", "source,time,d\na,0,9\n"), "--node", "desk", "--agents", 1, "--by", "weekday")
 
     def test_callers_who_left_are_lost_wherever_the_package_reports_them(self):
         self.made("--agents", 1, "--patience", "patient")

@@ -37,7 +37,7 @@ class Screenshots(Test):
         with tempfile.TemporaryDirectory() as folder:
             ran = subprocess.run([sys.executable, "-B", ROOT / "tools" / "screenshots", folder], stderr=subprocess.PIPE)
             self.assertEqual((ran.returncode, ran.stderr), (0, b""))
-            for name, size in ("callcentre", (1200, 1660)), ("sweep", (1200, 990)):
+            for name, size in ("callcentre", (1200, 1930)), ("sweep", (1200, 1250)):
                 for path in pathlib.Path(folder, f"{name}.png"), ROOT / "docs" / f"{name}.png":
                     picture = path.read_bytes()
                     self.assertEqual((picture[:8], struct.unpack(">II", picture[16:24])), (b"\x89PNG\r\n\x1a\n", size))

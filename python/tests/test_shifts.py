@@ -10,7 +10,7 @@ from unittest import mock
 
 from commands import InFolder, planner
 from ground import EXAMPLES, Test
-from rules_of_shifts import broken, cheapest, first_in_order, rows_of
+from rules_of_shifts import WEEK, broken, cheapest, first_in_order, minute, rows_of
 
 import mpsim.agents.forms
 import mpsim.agents.shifts
@@ -209,6 +209,50 @@ class Shifts(InFolder):
         ):
             out, _ = self.roster(f"weekday,from,agents\n{one},22:00,1\n{other},10:00,1\n", forms, "--every", "1h")
             self.assertEqual(out.splitlines()[1:], rows)
+
+    def test_rest(self):
+        """Between two shifts of an agent there is so much time, also from Sunday to Monday; more agents take the same shifts."""
+        week, draw = ["Monday", "Tuesday", "Wednesday", "Thursday", "Friday", "Saturday", "Sunday"], random.Random(9)
+        forms = HEAD + "x,06:00 14:00 22:00,8h,30min,3h-5h,,\ny,09:00-12:00/1h,5h,,,,\n"
+        more = 0
+        for _ in range(4):
+            times = [(day, at) for day in week for at in range(0, 24, 4) if draw.random() < 0.4]
+            need = "weekday,from,agents\n" + "".join(f"{day},{at:02}:00,{draw.randrange(3)}\n" for day, at in times)
+            plain, line = self.roster(need, forms, "--every", "1h")
+            for rest in 8, 11, 16:
+                out, said = self.roster(need, forms, "--every", "1h", "--rest", f"{rest}h")
+                self.assertEqual(broken(need, forms, out)[0], [])
+                agents = {}
+                for row in rows_of(out):
+                    begin = WEEK.index(row["from"].split()[0]) * 1440 + minute(row["from"].split()[1])
+                    agents.setdefault(row["agent"], []).append((begin, begin + ((minute(row["to"]) - begin) % 1440 or 1440)))
+                self.assertEqual(said, f"{line}mpplan: {len(agents)} agents with at least {rest}h between two shifts\n")
+                for spans in agents.values():
+                    spans.sort()
+                    gaps = [(other[0] - one[1]) % 10080 for one, other in zip(spans, [*spans[1:], spans[0]])]
+                    self.assertTrue(all(gap == 30 or gap >= 60 * rest for gap in gaps), (spans, gaps))
+                bare = lambda text: sorted((row["from"], row["to"]) for row in rows_of(text))
+                self.assertEqual(bare(out), bare(plain))
+                more += len(agents) > len({row["agent"] for row in rows_of(plain)})
+        self.assertGreater(more, 1)
+        day = "from,agents\n08:00,1\n"
+        self.refused(
+            "the form x every day leaves 960 minutes between two shifts, and 961 are asked for",
+            day,
+            HEAD + "x,08:00,8h,,,,\n",
+            "--every",
+            "1h",
+            "--rest",
+            "961min",
+        )
+        self.assertEqual(self.roster(day, HEAD + "x,08:00,8h,,,,\n", "--every", "1h", "--rest", "16h")[0].splitlines()[1:], ["x 1,,08:00,16:00"])
+        self.refused("--rest 90s: not whole minutes", day, HEAD + "x,08:00,8h,,,,\n", "--every", "1h", "--rest", "90s")
+
+    def test_a_need_with_rows_of_queues(self):
+        """Only the rows of all calls count."""
+        forms = HEAD + "x,08:00,1h,,,,\n"
+        need = "from,queue,agents\n08:00,all,2\n08:00,sales,\n09:00,all,0\n09:00,sales,\n"
+        self.assertEqual(len(self.roster(need, forms)[0].splitlines()), 3)
 
     def test_the_evening_before(self):
         """A shift of Sunday evening, a day without a row, covers Monday's first hours; of dates as well."""

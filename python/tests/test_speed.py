@@ -1,7 +1,9 @@
 """What makes long exports and reports fast: many rows at once, with the same results as one by one."""
 
+import contextlib
 import io
 import random
+import sys
 import unittest
 import unittest.mock
 from datetime import datetime, timedelta
@@ -13,6 +15,8 @@ import mpsim
 from mpsim.exports.prepare import prepare
 from mpsim.exports.records import Records
 from mpsim.exports.workbook import Workbook
+from mpsim.leaving import ends_of
+from mpsim.report import Reading
 from mpsim.tables import sojourns
 from mpsim.times.moments import Moments
 from mpsim.times.texts import Unread
@@ -31,7 +35,7 @@ class Moment(Test):
             found = Moments(form, Zone(zone)).many(texts)
         except Unread:
             return None
-        self.assertEqual(found, [Moments(form, Zone(zone)).of(text) for text in texts], texts)
+        self.assertEqual(list(found), [Moments(form, Zone(zone)).of(text) for text in texts], texts)
         return found
 
     def test_cut_at_one_place(self):
@@ -55,12 +59,37 @@ class Moment(Test):
         ):
             self.assertIsNotNone(self.many(form, texts), texts)
 
+    def test_clocks_of_one_width(self):
+        """Digits that are read as columns: one day and several, before 1970 and late, in a zone too; and with one character that differs."""
+        draw, read = random.Random(4), 0
+        begins = [datetime(*day) for day in ((2026, 3, 2), (2026, 3, 31), (1969, 12, 31), (2026, 10, 24), (1999, 12, 31))]
+        for form, shown in (
+            ("iso", "%Y-%m-%dT%H:%M:%S"),
+            ("iso", "%Y-%m-%d %H:%M:%S"),
+            ("iso", "%Y%m%d %H:%M:%S"),
+            ("%d.%m.%Y %H:%M:%S", "%d.%m.%Y %H:%M:%S"),
+            ("%m/%d/%y, %H:%M:%S", "%m/%d/%y, %H:%M:%S"),
+        ):
+            for _ in range(300):
+                first, size, days = draw.choice(begins), draw.randrange(1, 6), draw.choice([1, 2, 40])
+                some = [first + timedelta(draw.randrange(days), draw.randrange(86400)) for _ in range(size)]
+                texts, zone = [it.strftime(shown) for it in some], draw.choice([None, "Europe/Berlin"])
+                slow = Unread if zone or min(some).year < 1970 else AssertionError
+                with unittest.mock.patch.object(Moments, "_cut", side_effect=slow("not at once")):
+                    read += self.many(form, texts, zone) is not None
+                text, place = draw.choice(texts), draw.randrange(len(texts[0]))
+                self.many(form, [*texts, text[:place] + draw.choice(" T:-.0129/6x\u0662\t") + text[place + 1 :]], zone)
+        self.assertGreater(read, 900)
+        self.assertIsNotNone(self.many("iso", ["2262-04-11 23:59:59", "9999-12-31 23:59:59", "2255-03-14 00:00:00"]))
+        self.assertIsNotNone(self.many("iso", ["2026-03-02 24:00:00", "2026-03-02 23:59:60", "2026-03-02 08:00:00"]))
+
     def test_refused(self):
         for form, texts in (
             ("%d.%m.%Y %H:%M", ["02.03.2026 08:00", "02.03.2026"]),
             ("%d.%m.%Y %H:%M", ["02.03.2026 08:00", ""]),
             ("%d.%m.%Y %H:%M", ["02.03.2026 08:00", "32.03.2026 08:00"]),
             ("iso", ["2026-03-02T08:00", "20260302T0800"]),
+            *(("iso", ["2026-03-02 08:00:00", f"2026-03-02 {clock}"]) for clock in ("24:30:00", "24:00:01", "25:00:00", "08:60:00", "08:00:61")),
             ("iso", ["2026-03-02T08:00", "2026-03-02T08:00Z"]),
             ("ticks", ["1", ""]),
             ("ticks", ["1", " 2"]),
@@ -166,15 +195,30 @@ class Sheet(Test):
         self.assertEqual(openpyxl.load_workbook(io.BytesIO(made.getvalue()), read_only=True).worksheets[0].title, "a")
 
 
-# Losses, forks whose parts meet again or leave apart, joins that hold parts, and two sources.
+# Losses, forks whose parts meet again or leave apart, joins that hold parts, two sources, and one whose jobs leave at once.
 NETWORKS = (
     DESK,
     "model 1\nsource door\nsource gate\nloss desk 2 =9 from door gate\nserver second d from desk\n",
     "model 2\nsource door\nfork apart 2 from door\ndelay short =3 from apart.0\ndelay long d from apart.1\n",
     "model 2\nsource door\nfork apart 3 from door\nserver one d from apart.0 apart.1 apart.2\n",
     "model 2\nsource door\nfork apart 2 from door\ndelay short =1 from apart.1\nloss one 1 d from apart.0 short\n",
+    "model 1\nsource door\nsource gate\nserver desk d from door\n",
     "model 2\nsource door\nfork apart 2 from door\nloss one 1 d from apart.0\ndelay two d from apart.1\njoin both from one two\n",
 )
+
+
+@contextlib.contextmanager
+def by_numpy(numpy):
+    """Computes with numpy, however few visits there are; without it if it is None."""
+    with contextlib.ExitStack() as stack:
+        for module in "mpsim.report", "mpsim.leaving", "mpsim.tables.sojourns":
+            stack.enter_context(unittest.mock.patch(f"{module}.numpy_for", return_value=numpy))
+        yield
+
+
+def hidden_numpy():
+    """Makes an import of numpy fail."""
+    return unittest.mock.patch.dict(sys.modules, {"numpy": None})
 
 
 class Sojourn(Test):
@@ -193,16 +237,45 @@ class Sojourn(Test):
         except ImportError:
             raise unittest.SkipTest("needs numpy") from None
         for report in self.reports():
-            plain, fast = sojourns._ways(report), sojourns._ways_by(numpy, report)
-            self.assertEqual([list(column) for column in plain], [list(column) for column in fast])
-            with unittest.mock.patch.object(sojourns, "MANY", 0):
-                tables = [list(sojourns.table(report, by, (3,))) for by in ("both", "source", "end", "all")]
-                with unittest.mock.patch.object(sojourns, "_numpy", return_value=None):
-                    self.assertEqual(repr([list(sojourns.table(report, by, (3,))) for by in ("both", "source", "end", "all")]), repr(tables))
+            plain, tables = [list(column) for column in sojourns.ways(report)], self.tables(report)
+            with by_numpy(numpy):
+                self.assertEqual([list(column) for column in sojourns.ways(report)], plain)
+                self.assertEqual(repr(self.tables(report)), repr(tables))
+
+    def tables(self, report):
+        return [list(sojourns.table(report, by, (3,))) for by in ("both", "source", "end", "all")]
 
     def test_few_visits_need_no_numpy(self):
-        with unittest.mock.patch.object(sojourns, "_numpy", side_effect=AssertionError("numpy was imported")):
+        with hidden_numpy():
             self.assertEqual(sum(map(len, map(list, map(sojourns.table, self.reports())))) > 4, True)
+
+    def test_readings(self):
+        """A Reading, of which only some visits are read, gives what the whole report gives, in pieces of any size, with numpy and without."""
+        for report in self.reports():
+            text, wanted = "".join(report.lines()).encode(), [list(column) for column in sojourns.ways(report)]
+            for size in 1, 100, 1000, 1 << 19:
+                for numpy in {None, self.numpy()}:
+                    with unittest.mock.patch("mpsim.report.CHUNK", size), by_numpy(numpy):
+                        self.assertEqual([list(column) for column in sojourns.ways(Reading(text))], wanted)
+
+    def numpy(self):
+        with contextlib.suppress(ImportError):
+            import numpy
+
+            return numpy
+        return None
+
+    def test_only_where_jobs_may_leave(self):
+        """The visits that say nothing of sojourns aren't read."""
+        rows = [("door", time, 3) for time in range(9)]
+        for model, ends in (
+            (DESK + "delay out =1 from desk\n", {"door", "out"}),
+            ("model 1\nsource door\nloss desk 2 =9 from door\nserver second d from desk\n", {"door", "desk", "second"}),
+            (NETWORKS[-1] + "delay out =1 from both\n", {"door", "one", "both", "out"}),
+        ):
+            reading = Reading("".join(mpsim.run(model, rows, jobs=True).lines()))
+            self.assertEqual(ends_of(reading), ends)
+            self.assertEqual({piece.node for piece in reading.pieces(ends)}, ends)
 
     def test_against_a_second_reading(self):
         """Each job leaves at its last visit with the latest end."""
@@ -215,9 +288,10 @@ class Sojourn(Test):
                 if end >= last.get(visit.job, -1):
                     last[visit.job], where[visit.job] = end, (visit.node, visit.end == "lost")
             found = list(sojourns.sojourns(report))
-            self.assertEqual([(it.job, it.came, it.sojourn, (it.left_at, it.lost)) for it in found], [
-                (job, came[job], last[job] - came[job], where[job]) for job in sorted(came.keys() - held)
-            ])
+            self.assertEqual(
+                [(it.job, it.came, it.sojourn, (it.left_at, it.lost)) for it in found],
+                [(job, came[job], last[job] - came[job], where[job]) for job in sorted(came.keys() - held)],
+            )
 
 
 if __name__ == "__main__":

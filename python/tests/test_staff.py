@@ -8,13 +8,16 @@ import random
 import unittest
 from fractions import Fraction
 
-from commands import InFolder, idle
+from commands import InFolder, idle, planner
 from ground import EXAMPLES, Test
 
+import mpsim.agents.plans
 import mpsim.agents.staffing
+import mpsim.tables.needs
 import mpsim.times.intervals
 from mpsim.agents import FIRST, Agent, Call, Group
-from mpsim.agents.staffing import Goal, calls_of, erlang_c, least
+from mpsim.agents.plans import Plan
+from mpsim.agents.staffing import Goal, calls_of, erlang_c, least, searched
 from mpsim.limits import FOREVER
 from mpsim.times.calendar import Calendar
 from mpsim.times.intervals import days_of
@@ -23,31 +26,42 @@ from mpsim.times.texts import HOUR, MINUTE, SECOND
 WEEK = EXAMPLES / "week" / "model.txt", EXAMPLES / "week" / "trace.csv"
 
 
-def shares(counts, begins, calls, within):
-    """Returns, per interval of a day, how many calls arrive, how many of them are served in time, and whether somebody waits at some tick of it while
-    it has no agent: for numbers of agents per interval, the ticks at which intervals begin, and calls."""
-    bounds = list(zip(begins, [*begins[1:], FOREVER]))
+def shares(counts, begins, calls, levels, priorities=None):
+    """Returns, per interval of some days, how many calls of each level arrive, how many of them are served in time, whether somebody who has a level
+    waits at some tick of it while it has no agent, and the waits: for numbers of agents per interval, the ticks at which intervals begin and the last
+    one ends, calls, and levels: ticks by queue, or by None for all calls. The last interval that isn't empty has no end."""
+    bounds = list(zip(begins, begins[1:]))
+    last = max(number for number, (begin, end) in enumerate(bounds) if begin < end)
+    bounds[last] = bounds[last][0], FOREVER
     agents = [Agent([it for it, count in zip(bounds, counts) if count >= place and it[0] < it[1]]) for place in range(1, max(counts) + 1)]
-    arrived, hits, alone = [0] * len(counts), [0] * len(counts), [False] * len(counts)
+    arrived, hits, alone = [{} for _ in counts], [{} for _ in counts], [False] * len(counts)
     waits = [[] for _ in counts]
-    for call, (agent, wait) in zip(calls, Group(agents, choose=FIRST).serve(calls)):
+    for call, (agent, wait) in zip(calls, Group(agents, priorities, FIRST).serve(calls)):
         at = max(number for number, (begin, end) in enumerate(bounds) if begin <= call.arrive < end)
-        arrived[at] += 1
-        hits[at] += bool(agent) and wait <= within
+        mine = [level for level in levels if level in (None, call.queue)]
+        for level in mine:
+            arrived[at][level] = arrived[at].get(level, 0) + 1
+            hits[at][level] = hits[at].get(level, 0) + (bool(agent) and wait <= levels[level])
         if agent:
             waits[at].append(wait)
         until = call.arrive + (FOREVER if wait is None else wait)
         for number, (begin, end) in enumerate(bounds):
             # A call that begins at once waits for no tick.
-            alone[number] |= counts[number] == 0 and max(begin, call.arrive) < min(end, until)
+            alone[number] |= bool(mine) and counts[number] == 0 and max(begin, call.arrive) < min(end, until)
     return arrived, hits, alone, waits
 
 
-def holds(counts, days, goal):
-    every = [shares(counts, begins, calls, goal.within) for begins, calls in days]
+def holds(counts, days, goal, priorities=None):
+    levels = dict(goal.queues)
+    if goal.share or not levels:
+        levels[None] = goal.share, goal.within
+    every = [shares(counts, begins, calls, {level: within for level, (_, within) in levels.items()}, priorities) for begins, calls in days]
     for number in range(len(counts)):
-        arrived, hits = sum(it[0][number] for it in every), sum(it[1][number] for it in every)
-        if hits < goal.share * arrived or any(it[2][number] for it in every):
+        for level, (share, _) in levels.items():
+            arrived, hits = (sum(it[part][number].get(level, 0) for it in every) for part in (0, 1))
+            if hits < share * arrived:
+                return False
+        if any(it[2][number] for it in every):
             return False
     return True
 
@@ -72,7 +86,7 @@ def drawn(draw):
 
 class Least(Test):
     def test_docstrings(self):
-        for module in mpsim.agents.staffing, mpsim.times.intervals:
+        for module in mpsim.agents.staffing, mpsim.agents.plans, mpsim.tables.needs, mpsim.times.intervals:
             self.assertEqual(doctest.testmod(module)[0], 0)
 
     def test_it_reaches_the_goal_and_one_fewer_misses_it(self):
@@ -80,18 +94,18 @@ class Least(Test):
         draw, lowered = random.Random(8), 0
         for _ in range(120):
             days, arrivals, services, patience, goal, every = drawn(draw)
-            calls = calls_of(every, days, arrivals, services, patience)
+            calls = calls_of(days, arrivals, services, patience)
             found = least(list(zip(days, calls)), goal)
             counts = [it.agents for it in found]
             mine = []
             for day in days:
                 here = [at for at, arrive in enumerate(arrivals) if day.begins[0] <= arrive < day.begins[-1]]
-                mine.append((day.begins[:-1], [Call(arrivals[at], services[at], "", patience and patience[at]) for at in here]))
+                mine.append((day.begins, [Call(arrivals[at], services[at], "", patience and patience[at]) for at in here]))
             if max(counts) == 0:
                 self.assertEqual(arrivals, [])
                 continue
             self.assertTrue(holds(counts, mine, goal))
-            waits = [sum((shares(counts, *it, goal.within)[3][number] for it in mine), []) for number in range(len(counts))]
+            waits = [sum((shares(counts, *it, {})[3][number] for it in mine), []) for number in range(len(counts))]
             self.assertEqual([sorted(it.waits) for it in found], list(map(sorted, waits)))
             for number, count in enumerate(counts):
                 if count:
@@ -100,11 +114,80 @@ class Least(Test):
                     self.assertFalse(any(fewer) and holds(fewer, mine, goal), (counts, number, goal))
         self.assertGreater(lowered, 300)
 
+    def test_queues_and_stretches_of_days(self):
+        """Random weeks with calls by night, two queues of which one may go first, and levels of all calls, of one queue or of both: in whole runs of
+        each stretch the levels are kept, and with an agent fewer in any interval one is missed."""
+        draw, lowered, nights, less = random.Random(21), 0, 0, 0
+        for number in range(100):
+            every, end = draw.choice([6, 8, 12]) * HOUR, draw.randrange(1, 12) * 86400
+            arrivals = sorted(draw.randrange(end) for _ in range(draw.choice([3, 20, 50])))
+            services = [draw.randrange(draw.choice([600, 30000])) for _ in arrivals]
+            queues = [draw.choice(["a", "b"]) for _ in arrivals]
+            level = lambda: (Fraction(draw.choice([50, 80, 100]), 100), draw.choice([0, 600, 9000]))
+            whole, each = draw.choice(
+                [(level(), {}), (level(), {"a": level()}), ((Fraction(0), 0), {"a": level()}), (level(), {"a": level(), "b": level()})]
+            )
+            goal, priorities = Goal(*whole, None, each), draw.choice([None, {"a": 1}, {"a": 1, "b": 2}, {"b": 1}])
+            days = days_of(Calendar(SECOND, draw.choice(["2026-03-01T00:00", "2026-03-04T00:00", None])), end - 1, every)
+            choice = draw.choice([{}, {"date": days[draw.randrange(len(days))].name}])
+            plan = Plan(days, **choice)
+            stretches = list(zip(plan.stretches, calls_of(plan.stretches, arrivals, services, None, queues)))
+            search = searched(stretches, goal, None, priorities)
+            counts, mine = [it.agents for it in search.found], []
+            for stretch in plan.stretches:
+                here = [at for at, arrive in enumerate(arrivals) if stretch.begins[0] <= arrive < stretch.begins[-1]]
+                mine.append((stretch.begins, [Call(arrivals[at], services[at], queues[at]) for at in here]))
+            less += sum(search.left().values())
+            if max(counts) == 0:
+                continue
+            self.assertTrue(holds(counts, mine, goal, priorities), number)
+            waits = [sum((shares(counts, *it, {}, priorities)[3][at] for it in mine), []) for at in range(len(counts))]
+            self.assertEqual([sorted(it.waits) for it in search.found], list(map(sorted, waits)))
+            for at, count in enumerate(counts):
+                if count:
+                    lowered += 1
+                    fewer = [*counts[:at], count - 1, *counts[at + 1 :]]
+                    self.assertFalse(any(fewer) and holds(fewer, mine, goal, priorities), (number, counts, at, goal))
+            # With each day begun empty, other numbers.
+            alone = least([(day, calls_of([day], arrivals, services, None, queues)[0]) for day in plan.parts[-1].days], goal, None, priorities)
+            nights += [it.agents for it in alone] != [it.agents for it in plan.of(plan.parts[-1], search.found)]
+        self.assertTrue(lowered > 300 and nights > 5 and less > 10, (lowered, nights, less))
+
+    def test_a_trace_that_ends_within_a_week(self):
+        """Who waits when it ends is served by the agents of its last interval, and by nobody on the days after it."""
+        days = days_of(Calendar(SECOND, "2026-03-02T00:00"), 3 * 86400 - 1, HOUR)
+        plan, arrivals = Plan(days), [3 * 86400 - 100, 3 * 86400 - 90]
+        found = least(list(zip(plan.stretches, calls_of(plan.stretches, arrivals, [7200, 60]))), Goal(Fraction(1, 2), 20))
+        self.assertEqual([(at, it.agents, it.waits) for at, it in enumerate(found) if it.agents], [(4 * 24 - 1, 1, [0, 7190])])
+
+    def test_levels_of_queues(self):
+        """The report of a queue has its own time; that of all calls has none if only a queue has a level, and such calls call nobody in."""
+        (day,) = days_of(Calendar(SECOND), 0, HOUR)
+        calls = calls_of([day], [3600, 3610, 40000], [100, 100, 100], None, ["a", "b", "b"])
+        found = least([(day, calls[0])], Goal(Fraction(0), 0, None, {"a": (Fraction(1), 5)}))
+        self.assertEqual([at for at, it in enumerate(found) if it.agents], [1])
+        rows = list(mpsim.tables.needs.rows_of(found, 1, HOUR, SECOND, Goal(Fraction(0), 0, None, {"a": (Fraction(1), 5)}), by_queue=True))
+        self.assertEqual(
+            [[row[0], row[1], row[5], row[7], row[-1]] for row in rows],
+            [
+                ["01:00", "all", 1, None, None],
+                ["01:00", "a", None, 1.0, None],
+                ["01:00", "b", None, None, None],
+                ["11:00", "all", 0, None, None],
+                ["11:00", "b", None, None, None],
+            ],
+        )
+        both = Goal(Fraction(1, 2), 7, None, {"a": (Fraction(1), 5)})
+        self.assertEqual(
+            [both.times("a"), both.times("b"), both.within_of("a"), both.within_of("b"), both.within_of(None)],
+            [[(None, 7), ("a", 5)], [(None, 7)], 5, 7, 7],
+        )
+
     def test_a_call_that_waits_over_the_end_of_an_interval(self):
         """It is served in time only if the next interval, which has no call of its own, has an agent who is free then."""
         (day,) = days_of(Calendar(SECOND), 0, HOUR)
         arrivals, services = [3000, 3590, 3595], [700, 60, 60]
-        calls = calls_of(HOUR, [day], arrivals, services, None)
+        calls = calls_of([day], arrivals, services, None)
         self.assertEqual([it.agents for it in least(list(zip([day], calls)), Goal(Fraction(1), 20))][:3], [1, 3, 0])
         self.assertEqual([it.agents for it in least(list(zip([day], calls)), Goal(Fraction(1), 5))][:3], [2, 3, 0])
         self.assertEqual([it.agents for it in least(list(zip([day], calls)), Goal(Fraction(1), 0))][:3], [3, 0, 0])
@@ -114,14 +197,14 @@ class Least(Test):
         """A caller whose patience ends as the next interval begins is served by an agent who comes then, and one tick later isn't."""
         (day,) = days_of(Calendar(SECOND), 0, HOUR)
         for patience, counts, waits in (5, [1, 2], [0, 5]), (4, [2, 0], [0, 0]):
-            calls = calls_of(HOUR, [day], [3000, 3595], [9000, 60], [900, patience])
+            calls = calls_of([day], [3000, 3595], [9000, 60], [900, patience])
             found = least([(day, calls[0])], Goal(Fraction(1), 5))
             self.assertEqual(([it.agents for it in found][:2], found[0].waits), (counts, waits))
 
     def test_occupancy(self):
         """Two calls of half an hour each in an hour keep one agent busy, and two half of their time; calls that go on count where they do."""
         (day,) = days_of(Calendar(SECOND), 0, HOUR)
-        calls = calls_of(HOUR, [day], [0, 1800, 7000, 7500], [1800, 1800, 400, 0], None)
+        calls = calls_of([day], [0, 1800, 7000, 7500], [1800, 1800, 400, 0], None)
         for most, counts in (100, [1, 1]), (99, [2, 1]), (50, [2, 1]), (49, [3, 1]), (5, [20, 2]):
             found = least(list(zip([day], calls)), Goal(Fraction(4, 5), 20, Fraction(most, 100)))
             self.assertEqual([it.agents for it in found][:2], counts)
@@ -143,7 +226,12 @@ class Command(InFolder):
         """One day, one weekday and all of them agree; the calls are those of the trace."""
         words = *WEEK, "--node", "desk"
         every = self.table(*words)
-        self.assertEqual(list(every[0]), ["weekday", *mpsim.agents.staffing.HEADS])
+        self.assertEqual(list(every[0]), ["weekday", *mpsim.tables.needs.HEADS])
+        self.assertEqual(self.table(*words, "--by", "weekday"), every)
+        undated = self.file("m.txt", "model 1\n# a tick is 1s\nsource calls\nserver desk talk from calls\n")
+        for option in ("--by", "weekday"), ("--weekday", "monday"):
+            why = " ".join(option).removesuffix(" monday")
+            self.refuses(f"{why} needs the date of time 0: give --start", "staff", undated, WEEK[1], "--node", "desk", *option)
         monday = self.table(*words, "--weekday", "monday")
         date = self.table(*words, "--date", "2026-03-23")
         self.assertEqual([row for row in every if row["weekday"] == "Monday"], monday)
@@ -171,6 +259,18 @@ class Command(InFolder):
             names = "from", "within", "p90", "occupancy"
             self.assertEqual([[row[name] for name in names] for row in pooled], [[row[name] for name in names] for row in rows])
             self.assertEqual([int(row["offered"]) for row in pooled], [float(row["calls"]) for row in rows])
+
+    def test_more_and_longer_calls(self):
+        """The need of a trace that `scale` and `edit` make; calls of 0 ticks stay so."""
+        made, longer = self.folder / "made.csv", self.folder / "longer.csv"
+        planner("scale", WEEK[1], "--by", "130%", "--shift", "1d", "--model", WEEK[0], "--out", made)
+        planner("edit", made, self.file("c.csv", "record,talk\n*,+45\n"), "--out", longer)
+        found, wanted = self.table(*WEEK, "--node", "desk", "--load", "130%", "--add", "handling=45s"), self.table(WEEK[0], longer, "--node", "desk")
+        self.assertEqual(found, wanted)
+        self.assertNotEqual(found, self.table(*WEEK, "--node", "desk"))
+        said = planner("staff", WEEK[0], EXAMPLES / "week" / "recorded.csv", "--node", "desk", "--add", "handling=45s", "--load", "110%")[2]
+        self.assertEqual(said, f"mpplan: --add handling=45s: 24 of 713 calls need 0 ticks and stay so\n{idle(24, 713)}")
+        self.refuses("--load 90%,110%: give one load, e.g. 112%", "staff", *WEEK, "--node", "desk", "--load", "90%,110%")
 
     def test_forms(self):
         words = *WEEK, "--node", "desk", "--weekday", "monday"
@@ -208,6 +308,44 @@ class Command(InFolder):
             work = sum(d for _, source, d in calls if source == name)
             self.assertAlmostEqual(sum(count * mean for count, mean in mine), work, delta=0.05 * len(calls))
             self.assertEqual({(row["agents"], row["rostered"], row["erlang_c"]) for row in rows if row["queue"] == name}, {("", "", "")})
+
+    def test_a_queue_that_goes_first(self):
+        """With the numbers found, `pool` gives each queue these shares and waits; the first queue's goal is kept in each interval, and nobody comes
+        for the other one alone."""
+        head = "model 1\n# a tick is 1s, time 0 is 2026-03-02T00:00\nsource a\nsource b\nserver desk d from a b\n"
+        draw = random.Random(6)
+        calls = sorted((draw.randrange(8 * 3600, 12 * 3600), draw.choice("aab"), draw.randrange(1, 900)) for _ in range(200))
+        calls += [(80000, "b", 9000), (86500, "b", 60), (86400 + 9 * 3600, "a", 30)]
+        model = self.file("m.txt", head)
+        trace = self.file("t.csv", "source,time,d\n" + "".join(f"{source},{time},{d}\n" for time, source, d in calls))
+        first = "--first", "a", "--then", "b"
+        for goals, levels in (
+            (["a=80/20"], {"a": 20}),
+            (["a=80/20", "70/1min"], {"a": 20, "all": 60}),
+            (["b=60/2min", "a=90/10"], {"a": 10, "b": 120}),
+        ):
+            words = model, trace, "--node", "desk", *first, *(word for goal in goals for word in ("--goal", goal))
+            rows = self.table(*words)
+            shares = {text.rpartition("=")[0] or "all": float(text.rpartition("=")[2].split("/")[0]) / 100 for text in goals}
+            for row in rows:
+                if row["queue"] in shares and float(row["calls"]):
+                    self.assertGreaterEqual(float(row["within"]), shares[row["queue"]] - 0.0001)
+            every = {(row["weekday"], row["from"]): int(row["agents"]) for row in rows if row["queue"] == "all"}
+            # At 22:13 there is one call, to the second queue.
+            self.assertEqual(every["Monday", "22:00"] > 0, len(shares) > 1)
+            roster, label = ["agent,queues,from,to"], lambda at: mpsim.times.intervals.label(at % 48, 30 * MINUTE)
+            for place in range(max(every.values())):
+                there = [(day, at) for day in ("Monday", "Tuesday") for at in range(48) if every.get((day, label(at)), 0) > place]
+                roster += [f"A{place},,{day[:3].lower()} {label(at)},{label(at + 1)}" for day, at in there]
+            for level, within in levels.items():
+                pool = "pool", model, trace, "--node", "desk", "--roster", self.file("r.csv", "\n".join(roster) + "\n"), *first, "--choose", "first"
+                status, out, said = planner(*pool, "--by", "weekday", "--within", within)
+                self.assertEqual(status, 0, said)
+                pooled = {(row["weekday"], row["from"], row["queue"]): row for row in csv.DictReader(io.StringIO(out))}
+                for row in rows:
+                    if row["queue"] == level and float(row["calls"]):
+                        it = pooled[row["weekday"], row["from"], row["queue"]]
+                        self.assertEqual((row["within"], row["p90"]), (it["within"], it["p90"]), (goals, row))
 
     def test_when_clocks_change(self):
         """The hour that occurs twice is one interval; all calls are counted, and each interval after it begins by the clock."""

@@ -3,22 +3,18 @@ package."""
 
 import csv
 import io
-import math
-import os
 import re
 import subprocess
 import sys
 import unittest
-from collections import Counter, defaultdict
 
 from commands import InFolder, planner
-from ground import DESK, EXAMPLES, MODEL, ROOT, TRACE, Test, nodes_of, reports, text_of, waits_of, words_of
+from ground import DESK, EXAMPLES, MODEL, ROOT, TRACE, nodes_of, reports, text_of, waits_of, words_of
 
 import mpsim
 from mpsim.tables.comparison import compare
 from mpsim.tables.service import figures, service
 from mpsim.tables.sojourns import sojourns
-from mpsim.tables.sojourns import table as sojourn_table
 from mpsim.times.calendar import with_settings
 from mpsim.times.texts import SECOND
 
@@ -106,9 +102,9 @@ class Service(InFolder):
         shares = [f"within_{item}_of_{whom}" for item in (5, 0) for whom in ("all", "departed")]
         self.assertEqual(told[6:], ["p90", "p50", "max", *shares])
         told = rows_of(self.tells("sojourns", JOBS, "--by", "all", *twice))[0]
-        self.assertEqual(told, ["jobs", "mean_sojourn", "p90", "p50", "max", "within_5", "within_0"])
+        self.assertEqual(told, ["jobs", "lost", "mean_sojourn", "p90", "p50", "max", "within_5", "within_0"])
         # The name has all digits.
-        for words, at in (("service", JOBS, "--node", "desk"), 6), (("sojourns", JOBS, "--by", "all"), 2):
+        for words, at in (("service", JOBS, "--node", "desk"), 6), (("sojourns", JOBS, "--by", "all"), 3):
             error = TOGETHER.format("desk") if words[0] == "service" else ""
             told = rows_of(self.tells(*words, "--percentile", "99.99995", "--percentile", "100.0", error=error))[0]
             self.assertEqual(told[at : at + 2], ["p99.99995", "p100"])
@@ -158,63 +154,6 @@ class Service(InFolder):
         self.assertEqual(planner("service", "/absent"), (1, "", "mpplan: /absent: No such file or directory\n"))
 
 
-class Sojourns(InFolder):
-    def test_they_sum_up_to_the_lines_exit(self):
-        """For each stored report without forks, by node, with lost jobs separate."""
-        count = 0
-        for path in reports():
-            report, text = mpsim.Report.read(path), text_of(path)
-            kinds = {node["name"]: node["kind"] for node in nodes_of(text)}
-            if not report.has_visits or {"fork", "join"} & set(kinds.values()):
-                continue
-            got, want = defaultdict(Counter), defaultdict(Counter)
-            for sojourn in sojourns(report):
-                got[sojourn.left_at, sojourn.lost].update(jobs=1, time=sojourn.sojourn)
-            for _, name, jobs, _, time in words_of(text, "exit"):
-                node, output = name.split(".")
-                want[node, kinds[node] in ("loss", "trunk") and output == "1"].update(jobs=int(jobs), time=int(time))
-            self.assertEqual({key: it for key, it in got.items() if it["jobs"]}, {key: it for key, it in want.items() if it["jobs"]}, path)
-            for item in sojourns(report):
-                first = next(words for words in words_of(text, "job") if words[1] == str(item.job))
-                self.assertEqual((first[2], int(first[4])), (item.source, item.came))
-            count += 1
-        self.assertGreater(count, 15)
-
-    def test_by_hand(self):
-        """Ten calls, of 8, 9, 10, 10, 11, 12, 12, 13, 14 and 14 ticks, as in the last lines of each job in jobs.txt."""
-        came = {word[1]: int(word[4]) for word in words_of(text_of(JOBS), "job") if word[2] in ("phone", "web")}
-        times = sorted(int(word[8]) - came[word[1]] for word in words_of(text_of(JOBS), "job") if word[2] == "wrap")
-        self.assertEqual(times, [8, 9, 10, 10, 11, 12, 12, 13, 14, 14])
-        told = self.tells("sojourns", JOBS, "--by", "all", "--within", 10, "--within", 9)
-        self.assertEqual(told, "jobs,mean_sojourn,p50,p90,p95,p99,max,within_10,within_9\n10,11.3,11,14,14,14,14,0.4,0.2\n")
-        told = rows_of(self.tells("sojourns", MODEL, TRACE, "--by", "source", "--percentile", 60))
-        self.assertEqual([item[:3] for item in told], [["source", "jobs", "mean_sojourn"], ["phone", "5", "11.2"], ["web", "5", "11.4"]])
-        each = records_of(self.tells("sojourns", JOBS, "--each"))
-        self.assertEqual(([item["job"] for item in each], sum(int(item["sojourn"]) for item in each)), ([str(item) for item in range(1, 11)], 113))
-        self.assertEqual([list(item.values()) for item in each[:1]], [["1", "phone", "0", "wrap", "left", str(8)]])
-
-    def test_parts_lost_and_held_ones(self):
-        """Of two jobs one part of the second is lost, so its other part is held: it has no sojourn. The first leaves at 3, through the join."""
-        text = "model 2\nsource src\nfork f 2 from src\nloss a 1 =3 from f\nserver b =1 from f.1\njoin j from a b\n"
-        report = mpsim.run(text, [("src", 0), ("src", 1)], jobs=True)
-        self.assertEqual([tuple(sojourn) for sojourn in sojourns(report)], [(1, "src", 0, "j", False, 3)])
-        # Without the join the last part counts: for the second job that of b, which leaves at 2, a tick after the lost one.
-        report = mpsim.run(text.replace("join j from a b\n", ""), [("src", 0), ("src", 1)], jobs=True)
-        self.assertEqual([tuple(sojourn) for sojourn in sojourns(report)], [(1, "src", 0, "a", False, 3), (2, "src", 1, "b", False, 1)])
-        model = "model 1\nsource web\nsource phone\nloss desk 1 =4 from phone web\ndelay out =1 from desk\n"
-        report = mpsim.run(model, [("phone", 0), ("web", 1), ("phone", 2), ("phone", 9)], jobs=True)
-        rows = list(sojourn_table(report, percents=[50]))
-        lost, left = ["desk", "lost", 1, 0.0, 0, 0], ["out", "left", 2, 5.0, 5, 5]
-        self.assertEqual(rows[1:], [["web", *lost], ["phone", *lost], ["phone", *left]])
-        rows = list(sojourn_table(report, "end", [0, 5], [50]))
-        self.assertEqual(rows[1:], [["desk", "lost", 2, 0.0, 0, 0, 1.0, 1.0], [*left, 0.0, 1.0]])
-
-    def test_refusals(self):
-        self.refuses(NO_JOBS, "sojourns", REPORT)
-        told = self.tells("sojourns", self.file("m.txt", DESK), self.file("t.csv", "source,time,d\n"))
-        self.assertEqual(told, "source,left_at,how,jobs,mean_sojourn,p50,p90,p95,p99,max\n")
-
-
 class Table(InFolder):
     def test_nodes_and_exits_of_each_stored_report(self):
         for path in reports():
@@ -246,7 +185,7 @@ class Table(InFolder):
         firsts = [[str(at), "0", span, "callback", "server", it["in"]] for at, span, it in zip(range(8, 16), spans, wanted)]
         self.assertEqual([row[:6] for row in rows], firsts)
         self.assertEqual([dict(zip(head, row))["p90"] for row in rows], [item["p90"] for item in wanted])
-        refused = self.file("s.txt", text_of(SWEEP) + 'scenario 9 status 3\nmpsim: model line 3: word 1 not allowed\n')
+        refused = self.file("s.txt", text_of(SWEEP) + "scenario 9 status 3\nmpsim: model line 3: word 1 not allowed\n")
         rows = rows_of(self.tells("table", refused))
         self.assertEqual((len(rows), rows[-1]), (26, ["9", "3", *[""] * 16, "mpsim: model line 3: word 1 not allowed"]))
         self.assertEqual({len(row) for row in rows}, {19})

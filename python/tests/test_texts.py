@@ -21,7 +21,7 @@ STANDARD |= {"__future__", "_typeshed", "ctypes", "resource", "types"}
 STANDARD |= {"subprocess", "sys", "threading", "time", "typing"}
 # Further modules used by the planner's commands and the pages.
 STANDARD |= {"argparse", "base64", "codecs", "datetime", "difflib", "errno", "functools", "gc", "glob", "hashlib", "heapq", "html", "json", "locale"}
-STANDARD |= {"concurrent"}
+STANDARD |= {"concurrent", "decimal"}
 STANDARD |= {"bz2", "gzip", "lzma", "tempfile", "zipfile", "zlib"}
 STANDARD |= {"math", "operator", "random", "secrets", "shlex", "socket", "stat", "string", "unicodedata", "zoneinfo"}
 
@@ -151,6 +151,7 @@ OPTIONAL = {
     "sweeps.results": FRAMES,
     "tables.sheets": BOOKS,
     "exports.workbook": BOOKS,
+    "exports.columnar": {"pyarrow", "fastparquet"},
     "tables.sojourns": FRAMES,
     "agents.solvers": {"scipy"},
 }

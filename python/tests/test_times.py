@@ -34,6 +34,28 @@ class Clocks(Test):
             with self.subTest(bad), self.assertRaises(Unread):
                 clock(bad)
 
+    def test_formats_of_clocks(self):
+        """A text may lack the seconds or the fraction that a format has, but it may have nothing that the format lacks."""
+        forms = "%H:%M", "%H:%M:%S", "%H:%M:%S.%f", "%I:%M %p", "%I:%M:%S %p"
+        for text, seconds, read in (
+            ("8:05", 29100, forms[:3]),
+            ("08:05:09", 29109, forms[1:3]),
+            ("08:05:09.5", 29109.5, forms[2:3]),
+            ("8:05 PM", 72300, forms[3:]),
+            ("8:05:09 p.m.", 72309, forms[4:]),
+            ("8:05:09.5 PM", 72309.5, ()),
+        ):
+            for form in forms:
+                for prefix, day in ("", 0), ("%d.%m.%Y ", utc(2026, 3, 2)):
+                    how, given = Moments(prefix + form, Zone()), prefix and "02.03.2026 "
+                    with self.subTest(text=text, form=form):
+                        if form in read:
+                            self.assertEqual(how.of(given + text), day + seconds * SECOND)
+                        else:
+                            says = "without AM or PM" if "%p" in form and "m" not in text.lower() else f"not of the format {form}"
+                            with self.assertRaisesRegex(Unread, says):
+                                how.of(given + text)
+
     def test_numbers(self):
         self.assertEqual(self.seconds(hmm, "5", "805", "0805", "1430", "2400", " 0 "), [300, 29100, 29100, 52200, 86400, 0])
         self.assertEqual(self.seconds(hmmss, "5", "130", "80509", "143005"), [5, 90, 29109, 52205])
@@ -53,7 +75,9 @@ class Clocks(Test):
 
     def test_length(self):
         texts = "1s", "100ms", "1min", "0.5s", "2 h", "7us", "1d", "1.5sec"
-        self.assertEqual([length(text) for text in texts], [10**9, 10**8, 6 * 10**10, 5 * 10**8, 72 * 10**11, 7000, 864 * 10**11, 15 * 10**8])
+        self.assertEqual(
+            [length(text) for text in texts], [10**9, 10**8, 6 * 10**10, 5 * 10**8, 72 * 10**11, 7000, 864 * 10**11, 15 * 10**8]
+        )
         for bad in "1", "s", "1 x", "-1s", "0.5ns", "1,5s", "":
             with self.subTest(bad), self.assertRaises(ValueError):
                 length(bad)

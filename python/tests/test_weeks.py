@@ -114,22 +114,26 @@ class Weeks(InFolder):
             self.assertRaises(AssertionError, self.near, self.validated(path, *words)[0], "modelled_within")
 
     def days(self, weekday):
-        """Returns the calls of each day of a weekday, as the simulation takes them: in one queue, with endless patience."""
+        """Returns the calls of each day of a weekday, as the simulation takes them, with endless patience."""
         found = {}
         for row in rows_of(self.calls.read_text()):
             day, at = divmod(int(row["time"]), 864000)
             # The clock is put forward on the 27th day.
-            found.setdefault(day, []).append((at + 36000 * (day >= 27), "any", int(row["handling"]), 10**9))
+            found.setdefault(day, []).append((at + 36000 * (day >= 27), row["source"], int(row["handling"]), 10**9))
         return [calls for day, calls in found.items() if day % 7 == WEEKDAYS.index(weekday)]
 
-    def holds(self, days, counts):
+    def holds(self, days, counts, ranks=None, goal=None):
         """Returns whether 80 % of the calls of each half-hour wait at most 20 s, and all are answered, with these numbers of agents from 8:00 on. The
-        agents of a half-hour are the first of a list, and the first who is free takes a call."""
+        agents of a half-hour are the first of a list, and the first who is free takes a call, from the queue of the least rank. With `goal`, only the
+        calls of this queue count."""
         begins = [288000 + at * 18000 for at in range(len(counts))]
         agents = [[(at, at + 18000) for at, count in zip(begins, counts) if count > place] for place in range(max(counts))]
         levels = [[0, 0] for _ in counts]
         for calls in days:
-            for (arrive, *_), (wait, is_answered) in zip(calls, self.simulation.served(calls, agents, {"any": 0}, True)):
+            served = self.simulation.served(calls, agents, ranks or {"sales": 0, "service": 0}, True)
+            for (arrive, queue, *_), (wait, is_answered) in zip(calls, served):
+                if goal not in (None, queue):
+                    continue
                 level = levels[(arrive - begins[0]) // 18000]
                 level[0] += 1
                 level[1] += wait <= WITHIN
@@ -157,6 +161,19 @@ class Weeks(InFolder):
             self.assertEqual([int(row["erlang_c"]) for row in table], erlang)
             gaps = [int(row["agents"]) - other for row, other in zip(table, erlang)]
             self.assertTrue(any(gaps) and max(map(abs, gaps)) < 3, gaps)
+
+    def test_the_need_if_a_queue_goes_first(self):
+        """As above, with `sales` first, for the goal of all calls and for that of `sales` only."""
+        ranks, days = {"sales": 0, "service": 1}, self.days("Monday")
+        for words, goal in (["--goal", "80/20"], None), (["--goal", "sales=80/20"], "sales"):
+            status, text, _ = planner("staff", self.model, self.calls, "--node", "desk", "--weekday", "monday", "--first", "sales", *words)
+            table = [row for row in rows_of(text) if row.get("queue", "all") == "all"]
+            counts = [int(row["agents"]) for row in table]
+            self.assertEqual((status, table[0]["from"]), (0, "08:00"))
+            self.assertTrue(self.holds(days, counts, ranks, goal))
+            for at, count in enumerate(counts):
+                if count:
+                    self.assertFalse(self.holds(days, [*counts[:at], count - 1, *counts[at + 1 :]], ranks, goal), (words, at))
 
 
 if __name__ == "__main__":

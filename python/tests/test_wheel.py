@@ -1,16 +1,20 @@
-"""The wheel: its tag fits its programs; its content; the same bytes from two directories; it installs and runs without a network.
+"""The wheel: its tag fits its programs; its content; the same bytes from two directories; it installs and runs without a network. The source
+distribution: the same, and the wheels that are made from it.
 
-Without hatchling no wheel is built: then its hook is called as hatchling would call it, the names of its commands are looked up, and a directory is
+Without hatchling nothing is built: then its hook is called as hatchling would call it, the names of its commands are looked up, and a directory is
 laid out like the wheel."""
 
+import contextlib
 import hashlib
 import importlib
+import io
 import os
 import pathlib
 import re
 import shutil
 import subprocess
 import sys
+import tarfile
 import tempfile
 import types
 import unittest
@@ -33,14 +37,49 @@ def builder():
     return None
 
 
-def build(folder):
-    """Builds the wheel of a copy of the package in this directory."""
+# What the hook says if a wheel gets no programs.
+BARE = "mpsim: a wheel without programs: set MPSIM_PROGRAMS to a directory that has them to put them in\n"
+
+
+def hatched(root, what, folder, **settings):
+    """Builds a wheel or a source distribution ("sdist") from a directory into another one. Returns its path and what was written to stderr."""
+    words = [builder(), "-m", "hatchling", "build", "-t", what, "-d", folder]
+    surroundings = {**os.environ, "SOURCE_DATE_EPOCH": "1790000000", **settings}
+    ran = subprocess.run(words, cwd=root, check=True, stdout=subprocess.DEVNULL, stderr=subprocess.PIPE, text=True, env=surroundings)
+    (path,) = pathlib.Path(folder).iterdir()
+    return path, ran.stderr
+
+
+def build(folder, what="wheel"):
+    """Builds the wheel or the source distribution of a copy of the package in this directory."""
     copy = pathlib.Path(folder, "python")
     shutil.copytree(PYTHON, copy, ignore=shutil.ignore_patterns("__pycache__", "dist"))
     shutil.copy(ROOT / "VERSION", folder)
-    words = [builder(), "-m", "hatchling", "build", "-t", "wheel", "-d", "../dist"]
-    subprocess.run(words, cwd=copy, check=True, stdout=subprocess.DEVNULL, stderr=subprocess.DEVNULL)
-    return next(pathlib.Path(folder, "dist").iterdir())
+    return hatched(copy, what, os.path.join(folder, "dist"))[0]
+
+
+def packed():
+    """Returns the names of the files of the package, as in a distribution."""
+    return {f"mpsim/{it.relative_to(SOURCES / 'mpsim')}" for it in (SOURCES / "mpsim").rglob("*") if it.is_file() and it.suffix != ".pyc"}
+
+
+def sum_of(path):
+    return hashlib.sha256(path.read_bytes()).hexdigest()
+
+
+class Home:
+    """An environment of its own in a directory, with the package that a file contains."""
+
+    def __init__(self, folder, file, *words, **settings):
+        self.folder = str(folder)
+        surroundings = {"PATH": f"{folder}/bin:/usr/bin:/bin", "HOME": self.folder, **settings}
+        words = [os.path.join(folder, "bin", "python"), "-m", "pip", "install", "-q", "--no-index", *words, file]
+        subprocess.run(words, check=True, env=surroundings, stderr=subprocess.DEVNULL)
+
+    def ran(self, *words, **settings):
+        """Runs a command, and returns the completed process with its outputs as texts."""
+        surroundings = {"PATH": f"{self.folder}/bin:/usr/bin:/bin", "HOME": self.folder, **settings}
+        return subprocess.run(words, capture_output=True, text=True, env=surroundings, cwd=self.folder)
 
 
 class Tag(Test):
@@ -55,7 +94,6 @@ class Tag(Test):
             needed |= {tuple(map(int, found)) for found in re.findall(r"GLIBC_(\d+)\.(\d+)", told)}
         self.assertEqual(max(needed), tuple(map(int, tag.groups())))
 
-
     @unittest.skipUnless(shutil.which("readelf"), "readelf isn't there")
     def test_machine_of_the_programs(self):
         """That of the tag."""
@@ -68,8 +106,8 @@ class Tag(Test):
 class Hook(Test):
     """hatch_build.py, called as by hatchling, with a stand-in for the one class of hatchling that it uses."""
 
-    def hooked(self, root, folder=None):
-        """Returns what the hook adds to a build in a directory `root`, with programs in another."""
+    def hooked(self, root, folder=None, target="wheel", files=()):
+        """Returns what the hook adds to a build in a directory `root`, with programs in another, and with these files of hatchling's own."""
         stand_ins, interface = {}, "hatchling.builders.hooks.plugin.interface"
         for at in range(len(interface.split("."))):
             name = ".".join(interface.split(".")[: at + 1])
@@ -80,8 +118,8 @@ class Hook(Test):
         with mock.patch.dict(sys.modules, stand_ins), mock.patch.dict(os.environ, surroundings, clear=True):
             names = {}
             exec(compile(text_of(PYTHON, "hatch_build.py"), "hatch_build.py", "exec"), names)
-            hook, data = names["ProgramsHook"](), {"force_include": {}}
-            hook.root = str(root)
+            hook, data = names["ProgramsHook"](), {"force_include": dict(files)}
+            hook.root, hook.target_name = str(root), target
             hook.initialize("standard", data)
         return data
 
@@ -101,9 +139,30 @@ class Hook(Test):
             self.assertEqual(self.hooked(clone / "python", f"{folder}/named"), {"force_include": want, **tag})
             want = {**{f"{clone}/crates/{name}/out/{name}": f"mpsim/bin/{name}" for name in NAMES}, **version}
             self.assertEqual(self.hooked(clone / "python"), {"force_include": want, **tag})
+            own = [("/a/.gitignore", ".gitignore"), ("/b/pyproject.toml", "pyproject.toml")]
+            wanted = {"/b/pyproject.toml": "pyproject.toml", f"{clone}/python/../VERSION": "VERSION"}
+            self.assertEqual(self.hooked(clone / "python", target="sdist", files=own), {"force_include": wanted})
             (clone / "crates" / "mpedit" / "out" / "mpedit").chmod(0o644)
             with self.assertRaisesRegex(SystemExit, "no program .*/mpedit: build it, or set MPSIM_PROGRAMS to a directory that has it"):
                 self.hooked(clone / "python")
+
+    def test_a_source_distribution(self):
+        """It has a version of its own. A wheel from it has the programs of MPSIM_PROGRAMS, or none, which is told."""
+        with tempfile.TemporaryDirectory() as folder:
+            root, told = pathlib.Path(folder, "mpsim-1.2"), io.StringIO()
+            root.mkdir()
+            (root / "VERSION").write_text("1.2\n")
+            with contextlib.redirect_stderr(told):
+                self.assertEqual(self.hooked(root), {"force_include": {f"{root}/VERSION": "mpsim/VERSION"}})
+            self.assertEqual(told.getvalue(), BARE)
+            self.assertEqual(self.hooked(root, target="sdist"), {"force_include": {f"{root}/VERSION": "VERSION"}})
+            for name in NAMES:
+                shutil.copy(programs.find(name), folder)
+            data = self.hooked(root, folder)
+            self.assertEqual((data["tag"], data["pure_python"]), ("py3-none-manylinux_2_34_x86_64", False))
+            self.assertEqual(len(data["force_include"]), 4)
+            with self.assertRaisesRegex(SystemExit, "no program /nowhere/mpsim: build it"):
+                self.hooked(root, "/nowhere")
 
 
 class Project(Test):
@@ -123,19 +182,15 @@ class Project(Test):
             self.assertTrue(callable(getattr(importlib.import_module(module), function)))
 
     def test_what_is_packed(self):
-        """All files of the package; git ignores none of them, since hatchling leaves out what git ignores; the version is that of the package."""
+        """All files of the package, whatever git ignores."""
         self.assertEqual(self.section("tool.hatch.build.targets.wheel"), {"packages": '["src/mpsim"]'})
-        version = self.section("tool.hatch.version")
-        found = re.search(version["pattern"].strip('"'), text_of(PYTHON, version["path"].strip('"')))
-        self.assertEqual(found["version"], importlib.import_module("mpsim").__version__)
+        self.assertEqual(self.section("tool.hatch.build.targets.sdist"), {"include": '["/src/mpsim"]'})
+        self.assertEqual(self.section("tool.hatch.build"), {"ignore-vcs": "true"})
         found = [path for path in (SOURCES / "mpsim").rglob("*") if path.is_file() and path.suffix != ".pyc" and path.parent.name != "bin"]
         data = sorted(item.name for item in found if item.suffix != ".py")
         pages = ["compared.html", "figures.js", "grid.js", "network.html", "page.css", "page.html", "page.js", "pictures.js", "piece.css"]
+        pages += ["stations.html", "stations.js", "steps.js", "units.html", "units.js"]
         self.assertEqual(data, sorted([*pages, "sheet.css", "sheet.html", "py.typed", *(f"{name}.txt" for name in NAMES)]))
-        if not (ROOT / ".git").exists() or not shutil.which("git"):
-            self.skipTest("it is no clone of git, or git isn't there")
-        ignored = subprocess.run(["git", "check-ignore", "--no-index", *map(str, found)], cwd=ROOT, stdout=subprocess.PIPE, text=True).stdout
-        self.assertEqual(ignored, "")
 
 
 class Layout(Test):
@@ -171,8 +226,7 @@ class Wheel(Test):
         with zipfile.ZipFile(self.wheel) as archive:
             names = sorted(item for item in archive.namelist() if item.startswith("mpsim/bin/"))
             self.assertEqual(names, [f"mpsim/bin/{name}" for name in NAMES])
-            sources = {f"mpsim/{it.relative_to(SOURCES / 'mpsim')}" for it in (SOURCES / "mpsim").rglob("*") if it.is_file() and it.suffix != ".pyc"}
-            self.assertEqual({item for item in archive.namelist() if item.startswith("mpsim/")}, sources | {"mpsim/VERSION", *names})
+            self.assertEqual({item for item in archive.namelist() if item.startswith("mpsim/")}, packed() | {"mpsim/VERSION", *names})
             for name, path in zip(NAMES, names):
                 self.assertEqual(archive.getinfo(path).external_attr >> 16 & 0o777, 0o755)
                 self.assertEqual(archive.read(path), pathlib.Path(programs.find(name)).read_bytes())
@@ -183,21 +237,18 @@ class Wheel(Test):
             other = build(os.path.join(self.folder, "another name"))
         finally:
             os.umask(before)
-        sums = [hashlib.sha256(item.read_bytes()).hexdigest() for item in (self.wheel, other)]
-        self.assertEqual(sums[0], sums[1])
+        self.assertEqual(sum_of(self.wheel), sum_of(other))
 
     def test_it_installs_and_runs_without_a_network(self):
-        home = os.path.join(self.folder, "home")
-        venv.create(home, with_pip=True)
-        python, surroundings = os.path.join(home, "bin", "python"), {"PATH": f"{home}/bin:/usr/bin:/bin", "HOME": home}
-        subprocess.run([python, "-m", "pip", "install", "-q", "--no-index", self.wheel], check=True, env=surroundings, stderr=subprocess.DEVNULL)
+        venv.create(os.path.join(self.folder, "home"), with_pip=True)
+        home = Home(os.path.join(self.folder, "home"), self.wheel)
 
         def told(*words):
-            return subprocess.run(words, stdout=subprocess.PIPE, stderr=subprocess.DEVNULL, text=True, env=surroundings, cwd=home)
+            return home.ran(*words)
 
         report = text_of(EXAMPLES, "callcentre", "report.txt")
         self.assertEqual(told("mpplan", "run", MODEL, TRACE, "--page", "page.html").stdout, report)
-        self.assertTrue(text_of(home, "page.html").startswith("<!doctype html>"))
+        self.assertTrue(text_of(home.folder, "page.html").startswith("<!doctype html>"))
         self.assertEqual(told("mpsim", MODEL, TRACE).stdout, report)
         self.assertEqual(told("mpsim").returncode, 2)
         for name in NAMES:
@@ -207,7 +258,88 @@ class Wheel(Test):
         self.assertEqual(told("mpsweep", TRACE, MODEL).stdout, "scenario 1 status 0\n" + report)
         self.assertTrue(told("mpedit", MODEL, TRACE, os.devnull).stdout.startswith(report))
         self.assertEqual(told("mpsim", "--made", "7", "--report", "1").stdout, text_of(EXAMPLES, "made-7.txt"))
-        self.assertEqual(told(python, "-c", f"import mpsim; print(mpsim.run({str(MODEL)!r}, {str(TRACE)!r}), end='')").stdout, report)
+        self.assertEqual(told("python", "-c", f"import mpsim; print(mpsim.run({str(MODEL)!r}, {str(TRACE)!r}), end='')").stdout, report)
+
+
+@unittest.skipUnless(builder(), "hatchling isn't there")
+class Sources(Test):
+    """The source distribution."""
+
+    @classmethod
+    def setUpClass(cls):
+        folder = tempfile.TemporaryDirectory()
+        cls.addClassCleanup(folder.cleanup)
+        cls.folder = os.path.realpath(folder.name)
+        cls.file = build(os.path.join(cls.folder, "one"), "sdist")
+        with tarfile.open(cls.file) as archive:
+            archive.extractall(cls.folder)
+        cls.top = pathlib.Path(cls.folder, cls.file.name.removesuffix(".tar.gz"))
+        # Unpacked, it doesn't depend on what git ignores around it.
+        pathlib.Path(cls.folder, ".gitignore").write_text("*.py\n")
+
+    def test_what_is_in_it(self):
+        """The package, what makes a wheel from it, and its version."""
+        version = importlib.import_module("mpsim").__version__
+        self.assertEqual(self.file.name, f"mpsim-{version}.tar.gz")
+        with tarfile.open(self.file) as archive:
+            own = [f"{self.top.name}/{name}" for name in ("PKG-INFO", "README.md", "VERSION", "hatch_build.py", "pyproject.toml")]
+            self.assertEqual({item.name for item in archive}, {*own, *(f"{self.top.name}/src/{name}" for name in packed())})
+        self.assertEqual(text_of(self.top, "VERSION"), text_of(ROOT, "VERSION"))
+        self.assertIn(f"\nName: mpsim\nVersion: {version}\n", text_of(self.top, "PKG-INFO"))
+
+    def test_the_same_bytes_from_another_folder(self):
+        """Also from a directory with a .gitignore, and from what was unpacked."""
+        pathlib.Path(self.folder, "other name").mkdir()
+        pathlib.Path(self.folder, "other name", ".gitignore").write_text("*.txt\n")
+        before = os.umask(0o077)
+        try:
+            other = build(os.path.join(self.folder, "other name"), "sdist")
+        finally:
+            os.umask(before)
+        again, _ = hatched(self.top, "sdist", os.path.join(self.folder, "again"))
+        self.assertEqual([sum_of(other), sum_of(again)], [sum_of(self.file)] * 2)
+
+    def test_a_wheel_with_programs(self):
+        """It is that of a clone, byte for byte."""
+        folder = pathlib.Path(self.folder, "programs")
+        folder.mkdir()
+        for name in NAMES:
+            shutil.copy(programs.find(name), folder)
+        wheel, says = hatched(self.top, "wheel", os.path.join(self.folder, "full"), MPSIM_PROGRAMS=str(folder))
+        self.assertEqual((sum_of(wheel), says), (sum_of(build(os.path.join(self.folder, "clone"))), ""))
+
+    def test_a_wheel_without_programs(self):
+        """It installs anywhere. Programs are those of MPSIM_PROGRAMS, or on the PATH; if there are none, one line says so."""
+        wheel, says = hatched(self.top, "wheel", os.path.join(self.folder, "bare"), MPSIM_PROGRAMS="")
+        self.assertEqual((wheel.name, says), (f"{self.top.name}-py3-none-any.whl", BARE))
+        with zipfile.ZipFile(wheel) as archive:
+            self.assertEqual({item for item in archive.namelist() if item.startswith("mpsim/")}, packed() | {"mpsim/VERSION"})
+        venv.create(os.path.join(self.folder, "home"), with_pip=True)
+        self.installed(Home(os.path.join(self.folder, "home"), wheel))
+
+    def test_pip_installs_the_file(self):
+        """With hatchling of the interpreter, so without a network."""
+        folder = os.path.join(self.folder, "pip")
+        subprocess.run([builder(), "-m", "venv", "--system-site-packages", folder], check=True)
+        self.installed(Home(folder, self.file, "--no-build-isolation", MPSIM_PROGRAMS=""))
+
+    def installed(self, home):
+        """The package without programs does what needs none, and finds them elsewhere."""
+        version, report = importlib.import_module("mpsim").__version__, text_of(EXAMPLES, "callcentre", "report.txt")
+        self.assertEqual(home.ran("mpplan", "--version").stdout, f"mpplan {version}\n")
+        self.assertEqual(home.ran("mpplan", "prepare", TRACE, "--time", "time", "--format", "ticks", "--demand", "g").returncode, 0)
+        none = "no program {0} in this package, in a clone around it (where ./build.py {0} builds it), or on the PATH; "
+        none += "set MPSIM_PROGRAMS to a directory that has it\n"
+        ran = home.ran("mpplan", "run", MODEL, TRACE)
+        self.assertEqual((ran.returncode, ran.stderr, ran.stdout), (1, f"mpplan: {none.format('mpsim')}", ""))
+        for name in NAMES:
+            ran = home.ran(name, MODEL)
+            self.assertEqual((ran.returncode, ran.stderr, ran.stdout), (1, none.format(name), ""))
+            self.assertEqual(home.ran(name, "--version").stdout, f"{name} {version}\n")
+        folder = os.path.dirname(programs.find("mpsim"))
+        for settings in {"MPSIM_PROGRAMS": folder}, {"PATH": f"{home.folder}/bin:{folder}:/usr/bin:/bin"}:
+            self.assertEqual(home.ran("mpplan", "run", MODEL, TRACE, **settings).stdout, report)
+            self.assertEqual(home.ran("mpsim", MODEL, TRACE, **settings).stdout, report)
 
 
 if __name__ == "__main__":

@@ -3,6 +3,7 @@
 from __future__ import annotations
 
 import contextlib
+import csv
 import io
 import os
 import re
@@ -45,6 +46,22 @@ def text_of(path: Path) -> str:
         if not line.lstrip(" \t").startswith("#") and (found := re.search("[\udc80-\udcff]", line)):
             raise ValueError(f"{path}: line {number}: the byte {ord(found[0]) - 0xDC00:02x} isn't valid UTF-8")
     return text
+
+
+def table_rows(path: Path, wanted: Sequence[str]) -> Iterator[tuple[int, dict[str, str]]]:
+    """Yields the number and the fields of each row of a CSV file that has these columns; the header is row 1. Fields are separated by commas, or by
+    semicolons if the header's are. Raises OSError if the file can't be read, and ValueError, with its name, for a missing column and for a row of
+    another width."""
+    lines = bytes_of(path).decode("utf-8-sig", "surrogateescape").splitlines()
+    mark = ";" if lines and ";" in lines[0] else ","
+    (_, head), *rows = [(number, row) for number, row in enumerate(csv.reader(lines, delimiter=mark), 1) if row] or [(1, [])]
+    names = [name.strip() for name in head]
+    if missing := [name for name in wanted if name not in names]:
+        raise ValueError(f"{path}: no column {missing[0]!r}; its columns are {', '.join(names)}")
+    for number, row in rows:
+        if len(row) != len(names):
+            raise ValueError(f"{path}: row {number}: {len(row)} fields instead of {len(names)}")
+        yield number, dict(zip(names, (field.strip() for field in row)))
 
 
 def _is_whole(path: Path) -> bool:
@@ -98,9 +115,12 @@ def written(path: Path | None = None) -> Iterator[TextIO]:
         path = os.path.realpath(path)
         part = f"{path}.{secrets.token_hex(4)}.part"
         file = None
+        with named(path):
+            # If it is there already, it is another's.
+            handle = _begun(part, path)
         try:
             with named(path):
-                file = open(_begun(part, path), "w", encoding="utf-8", errors="surrogateescape", newline="")
+                file = open(handle, "w", encoding="utf-8", errors="surrogateescape", newline="")
                 yield file
                 file.close()
             os.replace(part, path)

@@ -4,6 +4,7 @@ from __future__ import annotations
 
 import contextlib
 import csv
+import io
 import itertools
 import os
 import re
@@ -18,10 +19,10 @@ from .model import columns
 
 if TYPE_CHECKING:
     from collections.abc import Callable, Iterator, Sequence
-    from typing import BinaryIO
+    from typing import IO, BinaryIO
 
     from .frames.columns import Column
-    from .shapes import EditsInput, ModelInput, Record, TraceInput
+    from .shapes import EditsInput, ModelInput, Record, ReportInput, TraceInput
 
 
 class Set(NamedTuple):
@@ -323,3 +324,10 @@ class _Text:
     def flush(self) -> None:
         self.file.write("".join(self.texts).encode(errors="surrogateescape"))
         self.texts.clear()
+
+
+def stream_of(text: ReportInput) -> IO[bytes]:
+    """Returns a text, bytes or an open file of bytes as an open file of bytes."""
+    if isinstance(text, str):
+        text = text.encode(errors="surrogateescape")
+    return io.BytesIO(text) if isinstance(text, (bytes, bytearray, memoryview)) else text

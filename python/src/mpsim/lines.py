@@ -22,9 +22,11 @@ LINES = {
     }.items()
 }
 JOB = re.compile(rf"job {N} {NAME} arrive {N} (?:wait {N} depart {N}|lost|held)".encode())
-# The line of a visit that departed, without its node, its numbers and its line feed; then without letters.
+# The ends of lines of visits that didn't depart, and those of ones that did with numbers that no line has.
 STAND_INS = (b" lost\n", b" wait -1 depart -1\n"), (b" held\n", b" wait -2 depart -2\n")
-SHAPE, DIGITS, LETTERS = b"job   wait  depart \n", b"0123456789-", b"abdeijoprtw"
+# The line of a visit that departed with a comma for its node, without digits; and what makes four numbers of it, each followed by a comma.
+SHAPE, DIGITS = b"job , wait  depart \n", b"0123456789-"
+TO_COMMAS, TO_NOTHING = bytes.maketrans(b"wd\n", b",,,"), b"jobaiteprt "
 
 
 class Node(NamedTuple):
@@ -126,3 +128,16 @@ class Again(NamedTuple):
 
     done: int
     blocks: int
+
+
+def alike(lines: bytes, shape: bytes) -> tuple[bytes, int, int, int]:
+    """Returns job lines of one node, those of lost and held visits as if they had departed, and how many lines there are, are lost and are held. The
+    number of lines is 0 if one of them doesn't have this shape (bytes, without digits)."""
+    rest, gone = lines.translate(None, DIGITS), [0, 0]
+    if rest != shape * (len(rest) // len(shape)):
+        gone = [lines.count(end) for end, _ in STAND_INS]
+        for end, stand_in in STAND_INS:
+            lines = lines.replace(end, stand_in)
+        rest = lines.translate(None, DIGITS)
+    count = len(rest) // len(shape)
+    return lines, count if rest == shape * count else 0, gone[0], gone[1]

@@ -7,7 +7,7 @@ import re
 from typing import TYPE_CHECKING, NamedTuple, Tuple
 
 if TYPE_CHECKING:
-    from collections.abc import Hashable, Iterable, Sequence
+    from collections.abc import Hashable, Iterable, Mapping, Sequence
 
 
 def variants(text: str, **values: Iterable[Hashable]) -> dict[Hashable, str]:
@@ -110,6 +110,25 @@ def sources(text: str) -> list[str]:
     return [words[1] for words in map(str.split, text.split("\n")) if words[:1] == ["source"] and len(words) > 1]
 
 
+def with_node(text: str, name: str, lines: Sequence[str], version: int = 1) -> str:
+    """Returns a model's text (str), without empty lines, in which these lines (list of str) replace that of a node, and whose version is at least
+    this one (int).
+
+    >>> from mpsim.model import with_node
+    >>> with_node("model 1\\nsource door\\nserver desk =4 from door\\n", "desk", ["trunk desk 2 =4 from door"], 2)
+    'model 2\\nsource door\\ntrunk desk 2 =4 from door\\n'
+    """
+    found: list[str] = []
+    is_begun = False
+    for line in text.split("\n"):
+        words = line.split()
+        if not is_begun and words[:1] == ["model"]:
+            is_begun, line = True, f"model {max(int(words[1]), version)}"
+        is_node = words[1:2] == [name] and not words[0].startswith("#")
+        found += lines if is_node else [line] * bool(line)
+    return "".join(f"{line}\n" for line in found)
+
+
 def lines_of(text: str) -> list[str]:
     """Returns the lines (list of str) of a model that aren't comments."""
     return [part for part in text.removeprefix("\ufeff").split("\n") if not part.lstrip(" \t").startswith("#")]
@@ -123,3 +142,49 @@ def in_braces(text: str) -> re.Match[str] | None:
     'agents'
     """
     return re.search(r"\{([A-Za-z_]\w*)[^{}]*\}", "\n".join(lines_of(text)), re.ASCII)
+
+
+def servers_of(node: ModelNode) -> int:
+    """Returns the number of servers (int) by which a report divides the utilisation of a node (ModelNode); 0 for a node without servers.
+
+    >>> from mpsim.model import nodes_of, servers_of
+    >>> [servers_of(node) for node in nodes_of("source a\\ntandem b d / 2 d from a\\nforkjoin c d d | e from b\\ntrunk e 9 d from c\\n")]
+    [0, 2, 3, 9]
+    """
+    arguments = node.arguments.split()
+    if node.kind == "tandem":
+        return arguments.count("/") + 1
+    if node.kind == "forkjoin":
+        return len(arguments) - arguments.count("|")
+    return int(arguments[0]) if node.kind == "trunk" else int(node.kind in ("server", "loss"))
+
+
+def without_bound(text: str) -> str:
+    """Returns a model without its bound, whose line becomes a comment.
+
+    >>> without_bound("model 1\\nbound 9\\nsource door\\n")
+    'model 1\\n#bound 9\\nsource door\\n'
+    """
+    return re.sub(r"^([ \t]*)(bound[ \t])", r"\1#\2", text, flags=re.MULTILINE)
+
+
+def turned(text: str, places: Mapping[str, int]) -> str:
+    """Returns a model whose splits by turns begin at these outputs (dict of int by their names) instead of at output 0: the nodes that read their
+    outputs read others. Jobs that leave the network by output K of the model leave by output K minus the place, modulo the number of outputs.
+
+    >>> print(turned("model 1\\nsource door\\nsplit turns 2 turn from door\\nserver ann =4 from turns\\n", {"turns": 1}), end="")
+    model 1
+    source door
+    split turns 2 turn from door
+    server ann =4 from turns.1
+    """
+    outputs = {node.name: node.outputs for node in nodes_of(text) if places.get(node.name)}
+    lines = text.split("\n")
+    for number, words in enumerate(map(str.split, lines)):
+        if outputs and "from" in words and not words[0].startswith("#"):
+            begin = words.index("from") + 1
+            for at, (name, _, output) in enumerate([word.partition(".") for word in words[begin:]], begin):
+                if name in outputs:
+                    words[at] = f"{name}.{(int(output or 0) - places[name]) % outputs[name]}"
+            lines[number] = " ".join(words)
+    return "\n".join(lines)

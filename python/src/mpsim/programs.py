@@ -31,11 +31,29 @@ def find(name: str) -> str:
         file = os.path.abspath(os.path.join(folder, name))
         if os.path.isfile(file) and os.access(file, os.X_OK):
             return file
-    found = None if given else shutil.which(name) or _compiled(name)
+    found = None if given else _on_path(name) or _compiled(name)
     if found is None:
         where = given or f"this package, in a clone around it (where ./build.py {name} builds it), or on the PATH"
         raise ProgramError(f"no program {name} in {where}; set MPSIM_PROGRAMS to a directory that has it")
     return found
+
+
+def _on_path(name: str) -> str | None:
+    """Returns the path of a program on the PATH, or None. The commands that pip makes don't count: they only call `find`."""
+    for folder in filter(None, os.environ.get("PATH", os.defpath).split(os.pathsep)):
+        file = shutil.which(name, path=folder)
+        if file and not _is_command(file):
+            return file
+    return None
+
+
+def _is_command(file: str) -> bool:
+    """Returns whether a file is a command of this package that pip made."""
+    try:
+        with open(file, "rb") as script:
+            return b"from mpsim.programs import" in script.read(4096)
+    except OSError:
+        return False
 
 
 @functools.lru_cache(maxsize=None)

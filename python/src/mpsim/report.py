@@ -3,25 +3,24 @@
 from __future__ import annotations
 
 import contextlib
-import io
 import re
 from typing import TYPE_CHECKING
 
 from .errors import ReportError, read_from
-from .inputs import model_text
-from .lines import DIGITS, JOB, LETTERS, LINES, NUMBERS, SHAPE, STAND_INS, Again, Exit, Node
+from .inputs import model_text, stream_of
+from .lines import DIGITS, JOB, LINES, NUMBERS, SHAPE, TO_COMMAS, TO_NOTHING, Again, Exit, Node, alike
 from .model import nodes_of
-from .node_visits import NodeVisits, Totals, Visits, filled
+from .node_visits import NodeVisits, Totals, Visits, filled, numpy_for
 
 if TYPE_CHECKING:
     import pandas
-    from collections.abc import Iterable, Iterator, Sequence
+    from collections.abc import Collection, Iterable, Iterator, Mapping, Sequence
     from datetime import datetime
     from fractions import Fraction
-    from typing import IO
 
     from .inputs import Input
     from .shapes import ModelInput, Path, ReportInput
+    from .times.calendar import Calendar
 
 # The number of bytes of job lines read at a time.
 CHUNK = 1 << 19
@@ -189,9 +188,11 @@ class Report:
         tick: float | Fraction | None = None,
         start: datetime | None = None,
         within: int | None = None,
+        working: Calendar | None = None,
+        hour: int | None = None,
     ) -> None:
         """Writes the page of this run: one HTML file that loads nothing from the network. The file is written completely or not at all; OSError is
-        raised if it can't be written. The options are those of `mpsim.page.page`: `tick`, `start` and `within`.
+        raised if it can't be written. The options are those of `mpsim.page.page`: `tick`, `start`, `within`, `working` and `hour`.
 
         >>> import mpsim, os, tempfile
         >>> report = mpsim.run("model 1\\nsource door\\nserver desk =4 from door\\n", [("door", 0), ("door", 1)], jobs=True)
@@ -202,7 +203,7 @@ class Report:
         """
         from .page import save
 
-        save(path, [self], title=title, tick=tick, start=start, within=within)
+        save(path, [self], title=title, tick=tick, start=start, within=within, working=working, hour=hour)
 
     def _repr_html_(self) -> str:
         from .page import piece
@@ -217,16 +218,9 @@ def with_model(report: Report, given: Input) -> Report:
     return report
 
 
-def stream_of(text: ReportInput) -> IO[bytes]:
-    """Returns a text, bytes or an open file of bytes as an open file of bytes."""
-    if isinstance(text, str):
-        text = text.encode(errors="surrogateescape")
-    return io.BytesIO(text) if isinstance(text, (bytes, bytearray, memoryview)) else text
-
-
 class Reading:
     """Reads a report. Its first lines are available at once, as `form`, `jobs`, `span`, `nodes`, `exits` and `again` of a Report; `pieces` gives the
-    visits. In a sweep (`in_sweep`, bool) the next scenario may follow.
+    visits, and `has_jobs` (bool) says whether there are any. In a sweep (`in_sweep`, bool) the next scenario may follow.
 
     >>> import mpsim
     >>> with mpsim.visits("model 1\\nsource door\\nserver desk =4 from door\\n", [("door", 0), ("door", 1)]) as reading:
@@ -251,8 +245,8 @@ class Reading:
         self._judge_jobs()
         if self._line.startswith(b"again "):
             self.again = Again(*map(int, self._line_of("again").groups()))
-        self._has_jobs = self._line.startswith(b"job ") and not self.again
-        if not self._has_jobs and self._line and not (in_sweep and self._line.startswith(b"scenario ")):
+        self.has_jobs = self._line.startswith(b"job ") and not self.again
+        if not self.has_jobs and self._line and not (in_sweep and self._line.startswith(b"scenario ")):
             raise self._error(self._line)
 
     @property
@@ -314,24 +308,29 @@ class Reading:
     def _contradiction(self, node: Node, why: str) -> ReportError:
         return ReportError(self._node_lines + self.nodes.index(node), node.line(), f"contradicts the report: {why}")
 
-    def pieces(self) -> Iterator[NodeVisits]:
-        """Yields the visits, as NodeVisits of one node each, in the order of the lines. At most half a megabyte of text is held at a time. Raises
-        ReportError for an invalid line and, after the last piece, if a node's visits don't match its line."""
+    def pieces(self, nodes: Collection[str] | None = None) -> Iterator[NodeVisits]:
+        """Yields the visits, as NodeVisits of one node each, in the order of the lines; with `nodes` (names), only those to these nodes. At most half
+        a megabyte of text is held at a time. Raises ReportError for an invalid line and, after the last piece, if a node's visits don't match its
+        line. Lines of other nodes are checked only for their words, their number, and how many are lost or held."""
         seen = {node.name: Totals(self.span) for node in self.nodes}
         # The names of the nodes from that of the last visit on.
         self._left = list(seen)
+        self._numpy = numpy_for(sum(node.in_ for node in self.nodes if nodes is None or node.name in nodes))
         for text in self._texts():
-            for piece in self._pieces_of(text):
-                seen[piece.node].add(piece)
+            for piece in self._pieces_of(text, nodes, seen):
+                seen[piece.node].add(piece, self._numpy)
                 yield piece
         for node in self.nodes:
-            if seen[node.name].figures() != (node.in_, node.out, node.lost, node.held or 0, node.wait, node.max, node.area):
+            figures = node.in_, node.out, node.lost, node.held or 0, node.wait, node.max, node.area
+            # Only numbers are known of the visits that nobody asked for.
+            known = len(figures) if nodes is None or node.name in nodes else 4
+            if seen[node.name].figures()[:known] != figures[:known]:
                 raise self._contradiction(node, "its job lines differ, or some are missing")
 
     def _texts(self) -> Iterator[bytes]:
         """Yields the job lines, whole lines, about half a megabyte at a time."""
-        left = self._line if self._has_jobs else b""
-        while self._has_jobs:
+        left = self._line if self.has_jobs else b""
+        while self.has_jobs:
             text = self._stream.read(CHUNK)
             cut = text.rfind(b"\n") + 1
             if cut:
@@ -344,35 +343,36 @@ class Reading:
         if left:
             yield left
 
-    def _pieces_of(self, text: bytes) -> Iterator[NodeVisits]:
+    def _pieces_of(self, text: bytes, nodes: Collection[str] | None, seen: Mapping[str, Totals]) -> Iterator[NodeVisits]:
         # No number in a report is negative, so visits without a wait can get one, and all lines have the same shape. Many lines can then be checked
         # at once: those of one node are cut off, and its name is removed; without digits the rest must have that shape, and without letters it is
         # four numbers per line.
-        if b"-" in text or not text.endswith(b"\n") or re.search(rb" 0\d", text):
+        if b"-" in text or not text.endswith(b"\n"):
             raise self._first_error(text)
-        for end, stand_in in STAND_INS:
-            text = text.replace(end, stand_in)
         while text:
             name = text[:80].split(None, 3)[2:3]
             words = b" %s arrive " % name[0] if name else b" "
             cut = text.find(b"\n", text.rfind(words)) + 1
             mine, text = text[:cut], text[cut:]
-            lines, count = mine.replace(words, b" "), mine.count(b"\n")
-            piece = NodeVisits(name[0].decode(errors="replace") if name else "")
-            shaped = bool(name) and lines.translate(None, DIGITS) == SHAPE * count
-            if not shaped or not filled(piece, lines.translate(None, LETTERS), count) or not self._is_next(piece):
-                for end, stand_in in STAND_INS:
-                    mine = mine.replace(stand_in, end)
+            node = name[0].decode(errors="replace") if name else ""
+            is_wanted = nodes is None or node in nodes
+            # Without its digits the name of a node that nobody asked for may be that of another.
+            shape = SHAPE if is_wanted else SHAPE.replace(b",", words.translate(None, DIGITS))
+            lines, count, lost, held = alike(mine.replace(words, b",") if is_wanted else mine, shape)
+            if not count or node not in self._left:
                 raise self._first_error(mine)
+            del self._left[: self._left.index(node)]
+            if is_wanted:
+                piece = NodeVisits(node)
+                if not filled(piece, lines.translate(TO_COMMAS, TO_NOTHING), count, self._numpy) or not self._are_known(piece.job):
+                    raise self._first_error(mine)
+                yield piece
+            else:
+                seen[node].skip(count, lost, held)
             self._number += count
-            yield piece
 
-    def _is_next(self, piece: NodeVisits) -> bool:
-        """Returns whether the visits are to a known node that doesn't come before the last one, and of known jobs."""
-        if piece.node not in self._left or min(piece.job) < 1 or max(piece.job) > self.jobs:
-            return False
-        del self._left[: self._left.index(piece.node)]
-        return True
+    def _are_known(self, jobs: Sequence[int]) -> bool:
+        return min(jobs) >= 1 and max(jobs) <= self.jobs
 
     def _first_error(self, text: bytes) -> ReportError:
         """Returns the error of the first invalid line, checked one by one."""
@@ -392,7 +392,7 @@ class Reading:
     def report(self, wanted: bool = False) -> Report:
         """Returns the whole report. A report without jobs has no job lines; whether it gets (empty) visits depends on `wanted`."""
         visits = None
-        if self._has_jobs or wanted:
+        if self.has_jobs or wanted:
             visits = Visits((node.name, NodeVisits(node.name)) for node in self.nodes)
             for piece in self.pieces():
                 visits[piece.node].extend(piece)

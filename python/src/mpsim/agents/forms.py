@@ -4,17 +4,16 @@ Times of day are minutes after midnight; more than 1440 of them are on the next 
 
 from __future__ import annotations
 
-import csv
 import re
 from datetime import date
 from fractions import Fraction
 from typing import TYPE_CHECKING, Dict, List, NamedTuple, Optional, Tuple
 
-from ..files import bytes_of
+from ..files import table_rows
 from ..times.texts import MINUTE, WEEKDAYS, clock, length
 
 if TYPE_CHECKING:
-    from collections.abc import Callable, Iterator
+    from collections.abc import Callable
     from os import PathLike
 
 FORMS_HEAD = "form", "begin", "length", "break", "between", "cost", "most"
@@ -86,7 +85,7 @@ def read_forms(path: str | PathLike[str]) -> list[Form]:
     break is inside `between`: `3h-5h` after the begin, or `11:00-14:00` on the clock. An empty `break` is none, an empty `cost` is that of the hours
     without the break at 1 each, and an empty `most` any number."""
     forms: list[Form] = []
-    for number, row in _rows(path, list(FORMS_HEAD)):
+    for number, row in table_rows(path, list(FORMS_HEAD)):
         try:
             forms.append(_form(*(row[name] for name in FORMS_HEAD)))
             if forms[-1].name in (it.name for it in forms[:-1]):
@@ -166,26 +165,16 @@ def _whole(what: str, text: str, read: Callable[[str], int]) -> int:
     return value
 
 
-def _rows(path: str | PathLike[str], wanted: list[str]) -> Iterator[tuple[int, dict[str, str]]]:
-    """Yields the number and the fields of each row of a CSV file that has these columns."""
-    lines = bytes_of(path).decode("utf-8-sig", "surrogateescape").splitlines()
-    (_, head), *rows = [(number, row) for number, row in enumerate(csv.reader(lines), 1) if row] or [(1, [])]
-    names = [name.strip() for name in head]
-    if missing := [name for name in wanted if name not in names]:
-        raise ValueError(f"{path}: no column {missing[0]!r}; its columns are {', '.join(names)}")
-    for number, row in rows:
-        if len(row) != len(names):
-            raise ValueError(f"{path}: row {number}: {len(row)} fields instead of {len(names)}")
-        yield number, dict(zip(names, (field.strip() for field in row)))
-
-
 def read_need(path: str | PathLike[str], column: str, every: int | None = None) -> Need:
     """Returns the Need in a CSV table of `mpplan staff`: the days in its column `weekday`, `date` or `day`, the times of day in `from`, and the
-    agents in the column of this name. `every` is the length of its intervals (int, minutes); None for the least distance of two of its times of day.
-    Raises OSError if the file can't be read, and ValueError for an invalid row, with its number (the header is row 1)."""
+    agents in the column of this name. Rows of single queues don't count. `every` is the length of its intervals (int, minutes); None for the least
+    distance of two of its times of day. Raises OSError if the file can't be read, and ValueError for an invalid row, with its number (the header is
+    row 1)."""
     found: dict[tuple[int, int], int] = {}
     kind = "day"
-    for number, row in _rows(path, ["from", column]):
+    for number, row in table_rows(path, ["from", column]):
+        if row.get("queue", "all") != "all":
+            continue
         try:
             kind = next((name for name in KINDS if name in row), "day")
             at = _day_number(kind, row.get(kind, "")), _minute("from", row["from"])

@@ -14,16 +14,17 @@ from typing import TYPE_CHECKING
 from ..errors import BoundError
 from ..inputs import model_text
 from ..limits import GREATEST_VALUE, NODES
-from ..model import nodes_of
+from ..model import nodes_of, with_node
 from ..node_visits import NodeVisits
 from ..runs import run
+from ..stations.columns import judge_order
 from ..traces.trace import locating_errors
 from ..wording import counted
 from .networks import ROSTERED, agent_lines, front, in_front, inputs_of, roster_lines, trunk_lines
 from .pools import agent_name, pooled, queue_name
 
 if TYPE_CHECKING:
-    from collections.abc import Iterable, Iterator, Sequence
+    from collections.abc import Sequence
     from typing import Tuple
 
     from ..report import Report
@@ -96,6 +97,7 @@ class Queue:
             if is_pool and self.node in in_front(nodes, [item.name]):
                 why = f"make the pool at {self.node} first, since it decides when calls arrive at {name}"
                 raise ValueError(f"the pool at {name} is downstream of {self.node}: {why}")
+        judge_order(nodes, self.node, "the pool")
 
     def _with_one(self) -> Report:
         """Returns the report of the model as it is, for the arrivals at the server, which don't depend on who serves. If a single server exceeds the
@@ -138,7 +140,7 @@ class Queue:
         if never := [at for at, (agent, wait) in enumerate(zip(who, waits)) if not agent and wait < 0]:
             first = min(never, key=lambda at: self.arrivals[at])
             time = self.arrivals[first]
-            when = f" ({days.place.shown(days.begin + time * days.tick)})" if days.is_dated else ""
+            when = f" ({days.shown(time)})" if days.is_dated else ""
             why = f"nobody serves {counted(len(never), 'call')} at {self.node}, since no agent comes after them who serves their queue"
             raise ValueError(f"{why}; the first is record {self.jobs[first]} at {time}{when}: extend the roster or give --patience")
         if (longest := max(waits, default=0)) > GREATEST_VALUE:
@@ -155,7 +157,7 @@ class Queue:
             served[job - 1], waited[job - 1] = agent, wait
         columns = {f"{self.node}_patience": patience} if patience else {}
         columns |= {f"{self.node}_agent": served, f"{self.node}_wait": waited}
-        text = "".join(self._with_lines([ROSTERED.format(node=self.node), *lines], version=2))
+        text = with_node(self.text, self.node, [ROSTERED.format(node=self.node), *lines], version=2)
         return text, self.trace.with_columns(**columns)
 
     def _model_of(self, agents: int, by: str) -> str:
@@ -164,7 +166,7 @@ class Queue:
         is_read = any(name == self.node for node in self.nodes for name, _ in node.inputs)
         lines = trunk_lines(self.node, agents, self.demand, inputs) if by == "trunk" else agent_lines(self.node, agents, self.demand, inputs, is_read)
         self._judge(lines, None if by == "trunk" else agent_name(self.node, agents + 1))
-        return "".join(self._with_lines(lines, version=2 if by == "trunk" else 1))
+        return with_node(self.text, self.node, lines, version=2 if by == "trunk" else 1)
 
     def _judge(self, lines: Sequence[str], one_more: str | None) -> None:
         """Checks the names of lines to be added to the model, and that no server has the name of a further agent, as which it would be counted."""
@@ -178,18 +180,6 @@ class Queue:
                 raise ValueError(f"the pool needs a node {name!r}, which is longer than 32 characters: give {self.node} a shorter name")
         if len(there) + len(made) > NODES:
             raise ValueError(f"the model would have {len(there) + len(made)} nodes; the limit is {NODES}: with --by trunk a pool takes two")
-
-    def _with_lines(self, lines: Iterable[str], version: int) -> Iterator[str]:
-        is_begun = False
-        for line in self.text.split("\n"):
-            words = line.split()
-            if words[:2] == ["server", self.node]:
-                yield from (f"{line}\n" for line in lines)
-                continue
-            if not is_begun and words[:1] == ["model"]:
-                is_begun, line = True, f"model {max(int(words[1]), version)}"
-            if line:
-                yield f"{line}\n"
 
 
 def calls_at(report: Report, node: str, pool: str, demand: str, trace: Trace) -> Calls:

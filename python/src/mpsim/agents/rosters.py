@@ -9,7 +9,8 @@ import re
 from typing import TYPE_CHECKING
 
 from ..files import bytes_of
-from ..times.texts import DAY, WEEKDAYS, clock, given, iso, length, moment
+from ..times.texts import DAY, clock, given, length, moment
+from ..times.working import weekdays_in
 from .groups import Agent
 
 if TYPE_CHECKING:
@@ -20,7 +21,6 @@ if TYPE_CHECKING:
     from ..traces.trace import Trace
 
 HEAD = ["agent", "queues", "from", "to"]
-_SHORT = [name[:3].lower() for name in WEEKDAYS]
 
 
 def read_roster(path: Path, days: Calendar, last: int, queues: Collection[str]) -> tuple[list[Agent], list[str]]:
@@ -70,7 +70,7 @@ def read_roster(path: Path, days: Calendar, last: int, queues: Collection[str]) 
         intervals.sort()
         for (_, end), (begin, _) in zip(intervals, intervals[1:]):
             if begin < end:
-                when = days.place.shown(days.begin + begin * days.tick) if days.is_dated else begin
+                when = days.shown(begin) if days.is_dated else begin
                 raise ValueError(f"{path}: intervals of {name} overlap at {when}")
         agents.append(Agent(intervals, served.split() or None))
     return agents, list(found)
@@ -81,7 +81,7 @@ def _intervals(begin: str, end: str, days: Calendar, dates: Iterable[int]) -> li
     if begin.isdigit() and end.isdigit():
         found = [(int(begin), int(end))]
     elif re.match(r"\d{4}-", begin):
-        found = [(_tick(begin, days), _tick(end, days))]
+        found = [(max(0, days.tick_of_date(begin)), max(0, days.tick_of_date(end)))]
     else:
         on, _, time = begin.rpartition(" ")
         since, until = clock(time), clock(end)
@@ -95,27 +95,14 @@ def _intervals(begin: str, end: str, days: Calendar, dates: Iterable[int]) -> li
     return found
 
 
-def _tick(text: str, days: Calendar) -> int:
-    if not days.is_dated:
-        raise ValueError(f"the date {text} needs the date of time 0: give --start")
-    wall, offset = iso(text)
-    value = days.place.first(wall) if offset is None else wall - offset if days.place.zone else wall
-    return max(0, days.tick_at(value))
-
-
 def _weekdays(text: str, days: Calendar) -> set[int] | None:
-    """Returns the weekdays (set of int, Monday 0) of a text such as `mon-fri` or `sat,sun`; None, for every day, of an empty text or `daily`."""
-    if text.strip().lower() in ("", "daily"):
-        return None
-    if not days.is_dated:
+    """Returns the weekdays of a text, as `weekdays_in` does. Raises ValueError for weekdays without dates."""
+    try:
+        found = weekdays_in(text)
+    except ValueError:
+        raise ValueError(f"{text!r} isn't a date, a number of ticks, or weekdays such as mon-fri") from None
+    if found is not None and not days.is_dated:
         raise ValueError(f"the weekdays {text!r} need the date of time 0: give --start")
-    found = set()
-    for part in text.lower().replace(" ", "").split(","):
-        first, _, last = part.partition("-")
-        if first[:3] not in _SHORT or last and last[:3] not in _SHORT:
-            raise ValueError(f"{text!r} isn't a date, a number of ticks, or weekdays such as mon-fri")
-        begin, end = _SHORT.index(first[:3]), _SHORT.index((last or first)[:3])
-        found |= {at % 7 for at in range(begin, end + 1 + 7 * (end < begin))}
     return found
 
 

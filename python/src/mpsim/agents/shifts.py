@@ -154,9 +154,10 @@ def cost_of(shifts: list[Shift], forms: list[Form]) -> Fraction:
     return sum((forms[it.form].cost for it in shifts), Fraction(0))
 
 
-def roster_of(shifts: list[Shift], forms: list[Form], kind: str) -> list[list[str]]:
+def roster_of(shifts: list[Shift], forms: list[Form], kind: str, rest: int = 0) -> list[list[str]]:
     """Returns the rows of a roster, the header first, as `mpsim.agents.rosters.read_roster` reads them, for shifts in order and the kind of their
-    days. Each form has its agents, such as "early 1", who have at most one shift a day and are never in two at once.
+    days. Each form has its agents, such as "early 1", who have at most one shift a day, are never in two at once, and have at least `rest` minutes
+    (int) between two. Raises ValueError if a shift that is the same every day leaves no such rest.
 
     >>> from mpsim.agents.forms import Form
     >>> for row in roster_of([Shift(0, 0, 480, 720), Shift(0, 0, 480, 750)], [Form("early", [480], 480, 30)], "weekday"):
@@ -169,8 +170,10 @@ def roster_of(shifts: list[Shift], forms: list[Form], kind: str) -> list[list[st
     """
     agents: dict[tuple[int, int], list[Shift]] = {}
     for it in shifts:
-        place = 1
-        while any(_meet(it, other, forms, kind) for other in agents.get((it.form, place), [])):
+        place, left = 1, DAY - forms[it.form].length
+        if kind == "day" and left < rest:
+            raise ValueError(f"the form {forms[it.form].name} every day leaves {left} minutes between two shifts, and {rest} are asked for")
+        while any(_meet(it, other, forms, kind, rest) for other in agents.get((it.form, place), [])):
             place += 1
         agents.setdefault((it.form, place), []).append(it)
     rows = [HEAD]
@@ -180,11 +183,11 @@ def roster_of(shifts: list[Shift], forms: list[Form], kind: str) -> list[list[st
     return rows
 
 
-def _meet(one: Shift, other: Shift, forms: list[Form], kind: str) -> bool:
-    """Returns whether two shifts are on the same day, or share a time."""
+def _meet(one: Shift, other: Shift, forms: list[Form], kind: str, rest: int) -> bool:
+    """Returns whether two shifts are on the same day, or have less than `rest` minutes between them."""
     cycle = (KINDS[kind] or 0) * DAY
     begins = [it.day * DAY + it.begin for it in (one, other)]
-    ends = [begin + forms[it.form].length for begin, it in zip(begins, (one, other))]
+    ends = [begin + forms[it.form].length + rest for begin, it in zip(begins, (one, other))]
     return one.day == other.day or any(begins[0] < ends[1] + by and begins[1] + by < ends[0] for by in {0, cycle, -cycle})
 
 

@@ -6,37 +6,54 @@ recorded ones, so what is found holds for them. It is tested, not proved."""
 from __future__ import annotations
 
 import math
+from bisect import bisect_left
 from fractions import Fraction
-from itertools import groupby
-from typing import TYPE_CHECKING, Dict, List, NamedTuple, Optional, Tuple
+from typing import TYPE_CHECKING, Dict, List, Mapping, NamedTuple, Optional, Tuple
 
-from ..node_visits import percentile_of
-from ..times.intervals import label
-from ..times.texts import SECOND, WEEKDAYS
 from .groups import FIRST, Agent, Group
 
 if TYPE_CHECKING:
-    from collections.abc import Callable, Iterator, Sequence
+    from collections.abc import Callable, Sequence
 
-    from ..shapes import Row
-    from ..times.intervals import Day
+    from ..times.intervals import Span
 
-    DayCalls = Tuple[Day, List[List["Waiting"]]]
+    SpanCalls = Tuple[Span, List[List["Waiting"]]]
 
 
 class Goal(NamedTuple):
     """A service level: at least `share` (Fraction) of the calls are served within `within` (int, ticks). If `occupancy` (Fraction) isn't None, agents
-    work at most this share of their time.
+    work at most this share of their time. `queues` has levels of single queues (pairs of a share and ticks, by name); if it has any, a `share` of 0
+    means that all calls together have none.
 
     >>> from fractions import Fraction
     >>> from mpsim.agents.staffing import Goal
     >>> Goal(Fraction(4, 5), 20)
-    Goal(share=Fraction(4, 5), within=20, occupancy=None)
+    Goal(share=Fraction(4, 5), within=20, occupancy=None, queues={})
     """
 
     share: Fraction
     within: int
     occupancy: Optional[Fraction] = None
+    queues: Mapping[str, Tuple[Fraction, int]] = {}
+
+    def is_for_all(self) -> bool:
+        """Returns whether all calls together have a level."""
+        return not self.queues or self.share > 0
+
+    def times(self, queue: str) -> List[Tuple[Optional[str], int]]:
+        """Returns the levels that a call of a queue counts in: pairs of the queue, or None for that of all calls, and the ticks.
+
+        >>> Goal(Fraction(4, 5), 20, None, {"sales": (Fraction(9, 10), 10)}).times("sales")
+        [(None, 20), ('sales', 10)]
+        """
+        own = [(queue, self.queues[queue][1])] if queue in self.queues else []
+        return [(None, self.within), *own] if self.is_for_all() else [*own]
+
+    def within_of(self, queue: Optional[str]) -> Optional[int]:
+        """Returns the ticks within which calls of a queue, or all calls, are to be served (int; None if no level says it)."""
+        if queue is not None and queue in self.queues:
+            return self.queues[queue][1]
+        return self.within if self.is_for_all() else None
 
 
 class Interval(NamedTuple):
@@ -78,9 +95,11 @@ class _Passed(NamedTuple):
     worked: int
 
 
-def passed(before: _Passed, number: int, bounds: tuple[int, int], calls: list[Waiting], agents: int, last: int) -> _Passed:
+def passed(
+    before: _Passed, number: int, bounds: tuple[int, int], calls: list[Waiting], agents: int, last: int, priorities: Mapping[str, int] | None = None
+) -> _Passed:
     """Returns a day at the end of an interval (_Passed) from one at its beginning, with the interval's number, its bounds, the calls that arrive in
-    it (list of Waiting), its number of agents, and the last tick of the day."""
+    it (list of Waiting), its number of agents, the last tick of the day, and the priorities of queues, as `Group` takes them."""
     begin, end = bounds
     busy = {place: it for place, it in before.busy.items() if it > begin}
     last = max(begin, min(end, last))
@@ -90,9 +109,9 @@ def passed(before: _Passed, number: int, bounds: tuple[int, int], calls: list[Wa
         return _Passed(busy, [], [], worked)
     began, left = [], []
     free = [max(begin, busy.get(place, begin)) for place in range(1, agents + 1)]
-    group = Group([Agent([(at, end)] if at < end else []) for at in free], choose=FIRST)
-    _, arrivals, services, patience, _ = zip(*waiting)
-    for call, agent, wait in zip(waiting, *group.assigned(arrivals, services, None, patience)):
+    group = Group([Agent([(at, end)] if at < end else []) for at in free], priorities, FIRST)
+    _, arrivals, services, patience, queues = zip(*waiting)
+    for call, agent, wait in zip(waiting, *group.assigned(arrivals, services, queues if priorities else None, patience)):
         if agent:
             at = call.arrive + wait
             began.append((call.number, wait, call.queue))
@@ -105,8 +124,8 @@ def passed(before: _Passed, number: int, bounds: tuple[int, int], calls: list[Wa
 
 
 class Search:
-    """Goes through the intervals of some days, which get the same numbers of agents, and chooses the least for each. `days` are pairs of an
-    Day and its calls (list, per interval, of lists of Waiting).
+    """Goes through the intervals of some days, which get the same numbers of agents, and chooses the least for each. `days` are pairs of a Span, such
+    as a Day, and its calls (list, per interval, of lists of Waiting); `priorities` of queues are those that `Group` takes.
 
     Whether an interval reaches the goal may depend on the next one: callers who wait at its end may still be served in time. They count as served
     until the next number is chosen, which must keep to that. Enough agents always can, because all who wait are served when the next interval
@@ -115,22 +134,36 @@ class Search:
     waits: list[list[int]]
     found: list[Interval]
     states: list[_Passed]
+    hits: list[dict[str | None, int]]
 
-    def __init__(self, days: Sequence[DayCalls], goal: Goal) -> None:
-        self.goal, self.days = goal, days
+    def __init__(self, days: Sequence[SpanCalls], goal: Goal, priorities: Mapping[str, int] | None = None) -> None:
+        self.goal, self.days, self.priorities = goal, days, priorities
         self.bounds = [day.bounds() for day, _ in days]
         self.states = [_Passed({}, [], [], 0) for _ in days]
         self.calls = [sum(len(calls[number]) for _, calls in days) for number in range(len(self.bounds[0]))]
+        names = {call.queue for _, calls in days for mine in calls for call in mine}
+        # The levels that the calls of each queue count in.
+        self.times = {name: goal.times(name) for name in names}
+        self.wanted = [self._wanted(number) for number in range(len(self.calls))]
         self.waits = [[] for _ in self.calls]
-        self.hits = [0] * len(self.calls)
+        self.hits = [dict.fromkeys(wanted, 0) for wanted in self.wanted]
         # Per interval the waits of each queue.
         self.queues: list[dict[str, list[int]]] = [{} for _ in self.calls]
         self.found = []
 
+    def _wanted(self, number: int) -> dict[str | None, Fraction]:
+        """Returns how many calls of an interval are to be served in time, for each level that counts its calls."""
+        counts: dict[str | None, int] = {}
+        for call in (call for _, calls in self.days for call in calls[number]):
+            for key, _ in self.times[call.queue]:
+                counts[key] = counts.get(key, 0) + 1
+        return {key: (self.goal.share if key is None else self.goal.queues[key][0]) * count for key, count in counts.items()}
+
     def step(self) -> None:
-        """Chooses the number of agents of the next interval: the least, of at least one if there is a call to serve."""
+        """Chooses the number of agents of the next interval: the least, of at least one if there is a call to serve that has a level."""
         number = len(self.found)
-        agents = max(1, self.found[-1].agents if self.found else 1) if self.calls[number] or any(it.waiting for it in self.states) else 0
+        asks = self.wanted[number] or any(self.times[call.queue] for it in self.states for call in it.waiting)
+        agents = max(1, self.found[-1].agents if self.found else 1) if asks else 0
         tried = self.tried(agents)
         if agents and self.holds(agents, tried):
             while agents > 1 and self.holds(agents - 1, less := self.tried(agents - 1)):
@@ -146,7 +179,8 @@ class Search:
         for it in tried:
             for at, wait, queue in it.began:
                 self.waits[at].append(wait)
-                self.hits[at] += wait <= self.goal.within
+                for key, within in self.times[queue]:
+                    self.hits[at][key] += wait <= within
                 self.queues[at].setdefault(queue, []).append(wait)
         each: dict[str, tuple[int, int]] = {}
         for call in (call for _, calls in self.days for call in calls[number]):
@@ -160,7 +194,9 @@ class Search:
         """Returns each day at the end of the next interval (list of _Passed), with this many agents in it."""
         number = len(self.found)
         every = zip(self.states, self.bounds, self.days)
-        return [passed(state, number, bounds[number], calls[number], agents, day.begins[-1]) for state, bounds, (day, calls) in every]
+        return [
+            passed(state, number, bounds[number], calls[number], agents, day.begins[-1], self.priorities) for state, bounds, (day, calls) in every
+        ]
 
     def _there(self, number: int, agents: int) -> int:
         return agents * sum(day.begins[number + 1] - day.begins[number] for day, _ in self.days)
@@ -168,23 +204,47 @@ class Search:
     def holds(self, agents: int, tried: list[_Passed]) -> bool:
         """Returns whether these days keep to the goal: the next interval, and those before it from which calls still wait."""
         number = len(self.found)
-        more: dict[int, int] = {}
-        open_ = {call.number for state in self.states for call in state.waiting} | ({number} if self.calls[number] else set())
+        more: dict[tuple[int, str | None], int] = {}
+        open_ = {number, *(call.number for state in self.states for call in state.waiting)}
         for it, bounds in zip(tried, self.bounds):
             end = bounds[number][1]
-            for at, wait, _ in it.began:
-                more[at] = more.get(at, 0) + (wait <= self.goal.within)
+            for at, wait, queue in it.began:
+                for key, within in self.times[queue]:
+                    more[at, key] = more.get((at, key), 0) + (wait <= within)
             for call in it.waiting:
-                more[call.number] = more.get(call.number, 0) + (end - call.arrive <= self.goal.within)
-        if any(self.hits[at] + more.get(at, 0) < self.goal.share * self.calls[at] for at in open_):
+                for key, within in self.times[call.queue]:
+                    more[call.number, key] = more.get((call.number, key), 0) + (end - call.arrive <= within)
+        if any(self.hits[at][key] + more.get((at, key), 0) < count for at in open_ for key, count in self.wanted[at].items()):
             return False
         return self.goal.occupancy is None or sum(it.worked for it in tried) <= self.goal.occupancy * self._there(number, agents)
 
+    def left(self) -> dict[str, int]:
+        """Returns how many calls of each queue are never served and don't leave (dict of str to int)."""
+        found: dict[str, int] = {}
+        for call in (call for it in self.states for call in it.waiting):
+            found[call.queue] = found.get(call.queue, 0) + 1
+        return found
 
-def least(days: Sequence[DayCalls], goal: Goal, progress: Callable[[int], object] | None = None) -> list[Interval]:
+
+def searched(
+    days: Sequence[SpanCalls], goal: Goal, progress: Callable[[int], object] | None = None, priorities: Mapping[str, int] | None = None
+) -> Search:
+    """Returns a Search that has chosen all numbers, whose `found` is what `least` returns. It takes what `least` takes."""
+    search = Search(days, goal, priorities)
+    for number in range(len(search.calls)):
+        search.step()
+        if progress:
+            progress(number + 1)
+    return search
+
+
+def least(
+    days: Sequence[SpanCalls], goal: Goal, progress: Callable[[int], object] | None = None, priorities: Mapping[str, int] | None = None
+) -> list[Interval]:
     """Returns an Interval for each interval of a day: from the first to the last, the least number of agents with which the calls of all days
-    together can reach a Goal in that interval and those before it, and at least one if there is a call to serve. `days` are pairs of a Day and its
-    calls (list, per interval, of lists of Waiting); `progress`, if given, is called with the number of intervals done.
+    together can reach a Goal in that interval and those before it, and at least one if there is a call to serve that has a level. `days` are pairs of
+    a Span, such as a Day, and its calls (list, per interval, of lists of Waiting); `progress`, if given, is called with the number of intervals done;
+    `priorities` of queues are those that `Group` takes.
 
     >>> from mpsim.times.calendar import Calendar
     >>> from mpsim.times.intervals import days_of
@@ -193,17 +253,12 @@ def least(days: Sequence[DayCalls], goal: Goal, progress: Callable[[int], object
     >>> [it.agents for it in least([(day, calls)], Goal(Fraction(3, 4), 20))]
     [2, 0]
     """
-    search = Search(days, goal)
-    for number in range(len(search.calls)):
-        search.step()
-        if progress:
-            progress(number + 1)
-    return search.found
+    return searched(days, goal, progress, priorities).found
 
 
-def with_numbers(days: Sequence[tuple[Day, list[list[Waiting]]]], goal: Goal, numbers: Sequence[int]) -> list[Interval]:
-    """Returns an Interval for each interval of a day, with these numbers of agents (list of int), whether they reach a Goal or not; `days` are those
-    of `least`.
+def with_numbers(days: Sequence[SpanCalls], goal: Goal, numbers: Sequence[int], priorities: Mapping[str, int] | None = None) -> list[Interval]:
+    """Returns an Interval for each interval of a day, with these numbers of agents (list of int), whether they reach a Goal or not; `days` and
+    `priorities` are those of `least`.
 
     >>> from mpsim.agents.staffing import Goal, Waiting, with_numbers
     >>> from mpsim.times.calendar import Calendar
@@ -213,38 +268,38 @@ def with_numbers(days: Sequence[tuple[Day, list[list[Waiting]]]], goal: Goal, nu
     >>> [it.within(20) for it in with_numbers([(day, calls)], Goal(Fraction(3, 4), 20), [1, 0])]
     [0.25, None]
     """
-    search = Search(days, goal)
+    search = Search(days, goal, priorities)
     for number, agents in enumerate(numbers):
         search.choose(number, agents, search.tried(agents))
     return search.found
 
 
 def calls_of(
-    every: int,
-    days: Sequence[Day],
+    spans: Sequence[Span],
     arrivals: Sequence[int],
     services: Sequence[int],
-    patience: Sequence[int | None] | None,
+    patience: Sequence[int | None] | None = None,
     queues: Sequence[str] | None = None,
 ) -> list[list[list[Waiting]]]:
-    """Returns the calls of each Day (list, per day, of what `least` takes) from arrivals (int, ticks, in any order), services, patience and queues
-    (sequences; patience and queues may be None).
+    """Returns the calls of each Span, such as a Day (list, per span, of what `least` takes), from arrivals (int, ticks, in any order), services,
+    patience and queues (sequences; patience and queues may be None). Spans may overlap.
 
     >>> from mpsim.agents.staffing import calls_of
     >>> from mpsim.times.calendar import Calendar
     >>> from mpsim.times.intervals import days_of
-    >>> days = days_of(Calendar(10**9), 0, 43200 * 10**9)
-    >>> calls_of(43200 * 10**9, days, [50000], [60], None)
+    >>> calls_of(days_of(Calendar(10**9), 0, 43200 * 10**9), [50000], [60])
     [[[], [Waiting(number=1, arrive=50000, service=60, patience=None, queue='')]]]
     """
-    found: list[list[list[Waiting]]] = [[[] for _ in day.begins[1:]] for day in days]
-    at = 0
-    for call in sorted(range(len(arrivals)), key=arrivals.__getitem__):
-        while arrivals[call] >= days[at].begins[-1] and at + 1 < len(days):
-            at += 1
-        number = days[at].interval(arrivals[call])
-        queue = queues[call] if queues else ""
-        found[at][number].append(Waiting(number, arrivals[call], services[call], patience[call] if patience else None, queue))
+    order = sorted(range(len(arrivals)), key=arrivals.__getitem__)
+    times = [arrivals[call] for call in order]
+    found: list[list[list[Waiting]]] = []
+    for span in spans:
+        mine: list[list[Waiting]] = [[] for _ in span.begins[1:]]
+        for call in order[bisect_left(times, span.begins[0]) : bisect_left(times, span.begins[-1])]:
+            number = span.interval(arrivals[call])
+            queue = queues[call] if queues else ""
+            mine[number].append(Waiting(number, arrivals[call], services[call], patience[call] if patience else None, queue))
+        found.append(mine)
     return found
 
 
@@ -266,46 +321,3 @@ def erlang_c(calls: float, service: float, span: float, share: float | Fraction,
             waits = blocked / (1 - load / agents * (1 - blocked))
             if 1 - waits * math.exp((load - agents) * within / service) >= share:
                 return agents
-
-
-HEADS = "from", "days", "calls", "handling_time", "agents", "rostered", "within", "p90", "occupancy", "erlang_c"
-
-
-def rows_of(
-    found: Sequence[Interval], count: int, every: int, tick: int, goal: Goal, shrinkage: Fraction = Fraction(0), by_queue: bool = False
-) -> Iterator[Row]:
-    """Yields a row (list, as in HEADS) for each Interval of so many days (int) that has calls or agents: the time of day; the days; per day, the
-    calls to two decimals; their mean handling time in seconds; the agents needed, and rostered with this shrinkage (Fraction); the share served
-    within the goal's time; the 90th percentile of the waits in seconds; the occupancy; and the number of agents by Erlang's formula. None if there is
-    no value. With `by_queue` the queue follows the time of day: "all", and then each queue with its calls, which have no agents of their own."""
-    for number, it in enumerate(found):
-        if not it.calls and not it.agents:
-            continue
-        name, handling = label(number, every), it.service / it.calls if it.calls else None
-        erlang = erlang_c(it.calls / count, handling, every / tick, goal.share, goal.within) if handling is not None else None
-        occupancy = round(it.worked / it.there, 4) if it.there else None
-        many = [it.agents, math.ceil(it.agents / (1 - shrinkage))]
-        front, within = _figures(it.calls, it.service, it.waits, count, tick, goal)
-        yield [name, *(["all"] if by_queue else []), *front, *many, *within, occupancy, erlang]
-        for queue, mine in it.queues.items() if by_queue else ():
-            front, within = _figures(*mine, count, tick, goal)
-            yield [name, queue, *front, None, None, *within, None, None]
-
-
-def _figures(calls: int, service: int, waits: Sequence[int], count: int, tick: int, goal: Goal) -> tuple[Row, Row]:
-    """Returns the figures of some calls (lists): the days, the calls per day and their handling time; the share within the goal's time, and the 90th
-    percentile of the waits."""
-    handling = round(service / calls * tick / SECOND, 1) if calls else None
-    share = round(sum(wait <= goal.within for wait in waits) / calls, 4) if calls else None
-    p90 = round(percentile_of(sorted(waits), 90) * tick / SECOND, 1) if waits else None
-    return [count, round(calls / count, 2), handling], [share, p90]
-
-
-def groups_of(chosen: Sequence[DayCalls], is_dated: bool, date: str | None) -> tuple[str, list[tuple[str, Sequence[DayCalls]]]]:
-    """Returns the name of the first column, and the groups of days that get the same numbers of agents: pairs of a name and days."""
-    if date:
-        return "date", [(date, chosen)]
-    if not is_dated:
-        return "day", [("all days", chosen)]
-    by = sorted(chosen, key=lambda it: WEEKDAYS.index(it[0].weekday or ""))
-    return "weekday", [(name, list(mine)) for name, mine in groupby(by, key=lambda it: it[0].weekday or "")]

@@ -4,7 +4,7 @@ from __future__ import annotations
 
 from typing import TYPE_CHECKING, NamedTuple
 
-from ..times.intervals import label
+from ..times.intervals import Kinds, label
 from ..wording import counted
 
 
@@ -17,7 +17,7 @@ class Trust(NamedTuple):
 
 
 if TYPE_CHECKING:
-    from collections.abc import Iterator, Sequence
+    from collections.abc import Callable, Iterator, Sequence
     from typing import Dict, List, Tuple
 
     from ..shapes import Row
@@ -27,7 +27,8 @@ if TYPE_CHECKING:
     from .queues import Queue
 
     Cells = Dict[Tuple[int, str], List["Pair"]]
-HEADS = "from", "queue", "offered", "recorded_within", "modelled_within", "gap", "same"
+# The names of the kind of an interval come first (`mpsim.times.intervals.Kinds`).
+HEADS = "queue", "offered", "recorded_within", "modelled_within", "gap", "same"
 
 
 class Pair(NamedTuple):
@@ -39,28 +40,45 @@ class Pair(NamedTuple):
     served: bool
 
 
-def compared(queue: Queue, group: Group, days: Sequence[Day], waits: Sequence[int], gone: Sequence[bool], queues: Sequence[str]) -> Cells:
-    """Returns the calls of a Queue (list of Pair), by the number of their interval and their queue (dict), with the agents of a Group in the model.
-    `days` (list of Day) have the intervals; `waits` (list of int, ticks) and `gone` (list of bool) are those that `recorded` returns; `queues` (list
-    of str) are the queues of the records."""
+def compared(
+    queue: Queue,
+    group: Group | None,
+    days: Sequence[Day],
+    waits: Sequence[int],
+    gone: Sequence[bool],
+    queues: Sequence[str],
+    has: Callable[[Day], bool] = lambda day: True,
+    kinds: Kinds | None = None,
+) -> Cells:
+    """Returns the calls of a Queue (list of Pair), by the kind of their interval and their queue (dict), with the agents of a Group in the model.
+    `days` (list of Day) have the intervals, of these Kinds, by default one per interval of the day; `waits` (list of int, ticks) and `gone` (list of
+    bool) are those that `recorded` returns; `queues` (list of str) are the queues of the records. The agents get all calls; only those of the days
+    that `has` accepts are returned. Without a Group the model is what was recorded."""
+    kinds = kinds or Kinds(days)
     mine = [queues[job - 1] for job in queue.jobs]
     # An abandoned call shows how long the caller waited, any other only that the patience was longer.
     patience = [waits[job - 1] if gone[job - 1] else None for job in queue.jobs]
-    who, modelled = group.assigned(queue.arrivals, queue.demands, mine, patience)
+    who: Sequence[int] = [int(not gone[job - 1]) for job in queue.jobs]
+    modelled: Sequence[int] = [waits[job - 1] for job in queue.jobs]
+    if group:
+        who, modelled = group.assigned(queue.arrivals, queue.demands, mine, patience)
     found: Cells = {}
     at = 0
     for call in sorted(range(len(queue.jobs)), key=queue.arrivals.__getitem__):
         while queue.arrivals[call] >= days[at].begins[-1] and at + 1 < len(days):
             at += 1
+        if not has(days[at]):
+            continue
         record = queue.jobs[call] - 1
         pair = Pair(waits[record], not gone[record], modelled[call], who[call] > 0)
-        found.setdefault((days[at].interval(queue.arrivals[call]), mine[call]), []).append(pair)
+        kind = kinds.of(days[at], days[at].interval(queue.arrivals[call]))
+        found.setdefault((kind, mine[call]), []).append(pair)
     return found
 
 
-def figures(pairs: Sequence[Pair], within: int, same: int) -> Row:
+def figures(pairs: Sequence[Pair], within: int, same: int, digits: int = 4) -> Row:
     """Returns the number of calls (int), the recorded and the modelled share answered within `within` ticks, their difference, and the share of calls
-    with the same end whose waits differ by at most `same` ticks (floats; None without calls), for some calls (list of Pair).
+    with the same end whose waits differ by at most `same` ticks (floats of this many digits; None without calls), for some calls (list of Pair).
 
     >>> figures([Pair(5, True, 6, True), Pair(30, True, 9, True)], 20, 1)
     [2, 0.5, 1.0, 0.5, 0.5]
@@ -69,20 +87,20 @@ def figures(pairs: Sequence[Pair], within: int, same: int) -> Row:
         return [0, None, None, None, None]
     shares = [sum(ok and wait <= within for wait, ok in it) / len(pairs) for it in (((p[0], p[1]) for p in pairs), ((p[2], p[3]) for p in pairs))]
     alike = sum(it.answered == it.served and abs(it.recorded - it.modelled) <= same for it in pairs) / len(pairs)
-    return [len(pairs), *(round(it, 4) for it in (*shares, shares[1] - shares[0], alike))]
+    return [len(pairs), *(round(it, digits) for it in (*shares, shares[1] - shares[0], alike))]
 
 
 def _gap(row: Row) -> tuple[int, float, float, float] | None:
-    """Returns the number of calls of a row as in HEADS, the recorded and the modelled share, and their difference; None without calls."""
-    count, one, other, gap = row[2:6]
+    """Returns the number of calls of a row that ends as HEADS, the recorded and the modelled share, and their difference; None without calls."""
+    count, one, other, gap = row[-5:-1]
     if isinstance(count, int) and isinstance(one, float) and isinstance(other, float) and isinstance(gap, float):
         return count, one, other, gap
     return None
 
 
 def verdict(rows: Sequence[Row], trust: Trust = Trust()) -> str:
-    """Returns a line (str) that says whether a model may be trusted, and why not, from rows as in HEADS with the queue "all": the first of all calls,
-    the others per interval.
+    """Returns a line (str) that says whether a model may be trusted, and why not, from rows as of `rows_of` with the queue "all": the first of all
+    calls, the others per interval.
 
     >>> from mpsim.agents.validation import Trust, verdict
     >>> rows = [["all", "all", 90, 0.8, 0.83, 0.03, 0.99], ["08:00", "all", 90, 0.8, 0.83, 0.03, 0.99]]
@@ -92,7 +110,7 @@ def verdict(rows: Sequence[Row], trust: Trust = Trust()) -> str:
     whole = _gap(rows[0])
     if whole is None:
         return "there are no calls to compare"
-    each = [(row[0], found) for row in rows[1:] if (found := _gap(row))]
+    each = [(" ".join(map(str, row[: -len(HEADS)])), found) for row in rows[1:] if (found := _gap(row))]
     far = [(name, gap) for name, (count, _, _, gap) in each if count >= trust.calls and abs(gap) > trust.each]
     _, one, other, gap = whole
     both, points = f"{100 * one:.1f} % recorded, {100 * other:.1f} % modelled", f"{100 * trust.each:g} points"
@@ -109,15 +127,16 @@ def verdict(rows: Sequence[Row], trust: Trust = Trust()) -> str:
     return f"the model may not be trusted: {both}, and the model is {how}{where}"
 
 
-def rows_of(cells: Cells, within: int, same: int, every: int) -> Iterator[Row]:
-    """Yields a row (list, as in HEADS) for all calls, for each queue if there are several, and for each interval and queue."""
+def rows_of(cells: Cells, within: int, same: int, every: int, digits: int = 4, kinds: Kinds | None = None) -> Iterator[Row]:
+    """Yields a row (list) for all calls, for each queue if there are several, and for each kind of interval and queue: the time of day, or the names
+    of the kind, and what HEADS says. `kinds` are those of `compared`. A page, which rounds the shares itself, takes more digits."""
     queues = sorted({queue for _, queue in cells})
     for number in (None, *sorted({number for number, _ in cells})):
-        name = "all" if number is None else label(number, every)
+        names = kinds.names(number, every) if kinds else ["all" if number is None else label(number, every)]
         mine = {queue: [it for (at, one), calls in cells.items() if one == queue and number in (None, at) for it in calls] for queue in queues}
-        yield [name, "all", *figures([it for calls in mine.values() for it in calls], within, same)]
+        yield [*names, "all", *figures([it for calls in mine.values() for it in calls], within, same, digits)]
         if len(queues) > 1:
-            yield from ([name, queue, *figures(calls, within, same)] for queue, calls in mine.items() if calls)
+            yield from ([*names, queue, *figures(calls, within, same, digits)] for queue, calls in mine.items() if calls)
 
 
 def recorded(trace: Trace, wait: str, abandoned: str | None = None) -> tuple[list[int], list[bool]]:

@@ -7,6 +7,7 @@ from typing import TYPE_CHECKING
 from ..agents.pools import pool_lines
 from ..files import text_of
 from ..progress import Progress
+from ..stations.columns import worked_warning
 from ..sweeps.days import by_calendar, by_ticks, days, shared_by
 from ..tables.nodes import table
 from ..tables.sheets import write_table
@@ -51,6 +52,8 @@ def main(args: Namespace) -> int:
         where = f"in {shared} of {len(pieces)} pieces" if args.every else f"on {shared} of {len(pieces)} days"
         why = f"{pool} has a roster, patience or priorities, so its waits are those of the whole trace"
         say(f"{why}; {where} they may depend on calls of another")
+    if warning := worked_warning(args.trace, trace.header):
+        say(warning)
     if left:
         say(f"{counted(left, 'record')} left out: before a day opens or after it closes" + ("" if pieces else "; no day is left"))
     if over:

@@ -10,20 +10,21 @@ from typing import TYPE_CHECKING
 from ..agents.queues import Queue
 from ..agents.rosters import patience_in
 from ..agents.staffing import Goal
-from ..agents.validation import recorded
+from ..agents.validation import compared, recorded, rows_of
 from ..files import judge_outputs, text_of, written
 from ..page.decisions import Case, Chart, Decision, Past, decision_page
+from ..page.levels import levels_of
 from ..page.parts import percent as percent_text
 from ..page.parts import in_words
 from ..progress import Progress
 from ..tables.decisions import Calls, Choice, Decider, recorded_of
-from ..tables.grids import loads_of, with_copies
+from ..tables.grids import loads_of, unchanged, with_copies
 from ..times.intervals import every_of, label
-from ..times.texts import SECOND, WEEKDAYS, given, length
+from ..times.texts import MINUTE, SECOND, WEEKDAYS, given, length
 from ..traces.trace import Trace
 from ..wording import counted
-from .grid import copying_of
-from .groups import group_of, group_words, queues_of, warn_of_idle_calls
+from .groups import group_of, group_words, priorities_of, queues_of, warn_of_idle_calls
+from .loads import copying_of
 from .messages import say
 from .options import calendar_of, calendar_words, every_words
 from .staff import goal_of, percent
@@ -31,6 +32,8 @@ from .staff import goal_of, percent
 if TYPE_CHECKING:
     from argparse import ArgumentParser, Namespace
     from collections.abc import Callable, Iterator, Sequence
+
+    from ..agents.groups import Group
 
 EXAMPLE = """mpplan decision model.txt trace.csv --node desk --goal 80/20 --cost 35/h --out decision.html
          mpplan decision model.txt calls.csv --node desk --roster roster.csv --wait wait --abandoned gone --shrinkage 30% --out decision.html"""
@@ -116,14 +119,19 @@ def _calls(args: Namespace, queue: Queue, trace: Trace, text: str, tick: int) ->
     return Calls(queue.arrivals, queue.demands, values and [values[job - 1] for job in queue.jobs], mine)
 
 
-def _past(args: Namespace, trace: Trace, queue: Queue, decider: Decider, calls: Calls, tick: int) -> Past | None:
+def _past(args: Namespace, trace: Trace, queue: Queue, decider: Decider, calls: Calls, queues: Sequence[str], group: Group | None) -> Past | None:
+    """Returns what was recorded, with its levels by time of day, beside those of a roster if there is one (Group)."""
     if not args.wait:
         return None
     waits, gone = recorded(trace, args.wait, args.abandoned)
     jobs = [job - 1 for job, is_mine in zip(queue.jobs, decider.chosen(calls)) if is_mine]
-    it = recorded_of([waits[at] for at in jobs], [gone[at] for at in jobs], decider.goal.within)
+    within, tick = decider.goal.within, decider.calendar.tick
+    it = recorded_of([waits[at] for at in jobs], [gone[at] for at in jobs], within)
     mean, p90 = (None if value is None else value * tick / SECOND for value in (it.mean, it.p90))
-    return Past(it.calls, it.gone, it.share, mean, p90)
+    cells = compared(queue, group, decider.days(calls), waits, gone, queues, decider.choice.has)
+    levels = levels_of(rows_of(cells, within, max(1, SECOND // tick), decider.every, 12))
+    shown = levels if group else [level.as_recorded() for level in levels]
+    return Past(it.calls, it.gone, it.share, mean, p90, shown, decider.every // MINUTE)
 
 
 def _cases(
@@ -144,9 +152,19 @@ def _cases(
             yield Case(case.name, result.hours, result.share)
         else:
             if case.longer is not None:
-                changed = calls.longer(case.longer // calendar.tick)
+                more = case.longer // calendar.tick
+                for line in unchanged(calls.services, more):
+                    say(f"{case.name}: {line}")
+                changed = calls.longer(more)
             else:
-                made = with_copies(trace, case.load or Fraction(1), copying_of(trace, calendar))
+                try:
+                    made = with_copies(trace, case.load or Fraction(1), copying_of(trace, calendar))
+                except ValueError as error:
+                    if args.what_if:
+                        raise
+                    # Nobody asked for it, and a trace of one day has no other day for the copies.
+                    say(f"the case of {case.name} is left out: {error}")
+                    continue
                 changed = _calls(args, Queue(args.model, made, args.node), made, text, calendar.tick)
             result = decider.result(decider.need(changed), changed)
             yield Case(f"{case.name}, and the goal is kept", result.hours, result.share, decider.result(numbers, changed).share)
@@ -156,6 +174,8 @@ def _cases(
 def _assumptions(args: Namespace, decider: Decider, shrinkage: Fraction, days: int) -> Iterator[str]:
     yield "The calls are those that came, one by one, with the time that each took; other weeks bring other calls."
     yield "Whoever is free takes the next caller. A call that has begun is completed, even if the person's time is over."
+    for number, name in enumerate([*args.first, *args.then]):
+        yield f"Calls to {name} are answered {'next' if number >= len(args.first) else 'first'}."
     yield f"Callers who wait give up after {args.patience}." if args.patience else "Callers who wait don't give up."
     yield f"The number of people changes only every {in_words(decider.every / SECOND)}, and is the same on all days of a weekday."
     if not shrinkage:
@@ -195,7 +215,9 @@ def main(args: Namespace) -> None:
     if args.weekday and not calendar.is_dated:
         raise ValueError("--weekday needs the date of time 0: give --start")
     queue = Queue(args.model, trace, args.node)
-    calls, decider = _calls(args, queue, trace, text, calendar.tick), Decider(calendar, Choice(args.date, args.weekday), every, Goal(share, within))
+    calls, choice = _calls(args, queue, trace, text, calendar.tick), Choice(args.date, args.weekday)
+    priorities = priorities_of(args, list(dict.fromkeys(queues_of(args, trace, text))))
+    decider = Decider(calendar, choice, every, Goal(share, within), priorities)
     chosen_days = [day for day in decider.days(calls) if decider.choice.has(day)]
     chosen = decider.chosen(calls)
     if not any(chosen):
@@ -204,9 +226,9 @@ def main(args: Namespace) -> None:
         numbers = decider.need(calls)
         progress(1)
         shown = list(_cases(args, text, trace, decider, calls, numbers, cases, lambda done: progress(done + 1)))
-    there = None
+    there, group, queues = None, None, queues_of(args, trace, text)
     if args.roster or args.agents:
-        agents, group = group_of(args, calendar, max(queue.arrivals), queues_of(args, trace, text))
+        agents, group = group_of(args, calendar, max(queue.arrivals), queues)
         result, there = decider.of_group(group, agents, calls), decider.there(agents, calls)
         shown.insert(0, Case("the roster", result.hours, result.share))
     charts = []
@@ -222,13 +244,13 @@ def main(args: Namespace) -> None:
         f"{period}: {chosen.count(True):,} calls.",
         per,
         (float(share), within * calendar.tick / SECOND),
-        _past(args, trace, queue, decider, calls, calendar.tick),
+        _past(args, trace, queue, decider, calls, queues, group),
         Case("as proposed", proposal.hours, proposal.share),
         shown,
         charts,
         cost,
         float(shrinkage),
-        list(_assumptions(args, decider, shrinkage, min(len(mine) for _, mine in decider.groups(calls)))),
+        list(_assumptions(args, decider, shrinkage, min(len(part.days) for part in decider.groups(calls)))),
         list(_left_out(args, trace, queue, chosen)),
     )
     with written(args.out) as file:

@@ -7,8 +7,8 @@ from typing import TYPE_CHECKING
 
 from ..files import all_written, judge_outputs, written
 from ..progress import uncollected
+from ..stations.columns import made_warning
 from ..traces.edit import edited
-from ..traces.trace import pool_warning
 from .messages import say
 
 if TYPE_CHECKING:
@@ -38,7 +38,7 @@ def main(args: Namespace) -> None:
             edits.writelines(made.edits())
         with contextlib.nullcontext(out) if out else written() as file:
             file.writelines(made.lines())
-    if warning := pool_warning(args.trace, made.trace.header):
+    if warning := made_warning(args.trace, made.trace.header):
         say(warning)
     for line in made.told:
         say(line)

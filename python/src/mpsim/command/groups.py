@@ -11,7 +11,8 @@ from ..exports.codes import codes_in
 from ..files import all_written, judge_outputs, text_of
 from ..limits import TRUNK
 from ..runs import run
-from ..tables.intervals import HEADS, Table
+from ..tables.intervals import Table
+from ..tables.visits import together
 from ..times.intervals import days_of, every_of
 from ..times.texts import given
 from ..traces.trace import Trace, locating_errors
@@ -30,12 +31,17 @@ if TYPE_CHECKING:
 def group_words(parser: ArgumentParser) -> None:
     """Declares the arguments that say who serves which calls."""
     parser.add_argument("--roster", metavar="FILE", help="who is there when: a CSV file with the columns agent, queues, from and to")
+    priority_words(parser)
+    says = "which of several free agents takes a call: the one who has been free longest (the default) or the first in the roster"
+    parser.add_argument("--choose", choices=[LONGEST_IDLE, FIRST], help=says)
+
+
+def priority_words(parser: ArgumentParser) -> None:
+    """Declares the arguments that choose the queue of a call, and which queues come first."""
     queue_word(parser)
     parser.add_argument("--first", action="append", default=[], metavar="QUEUE", help="serve calls of this queue first; may be repeated")
     says = "serve calls of this queue next; may be repeated, in this order"
     parser.add_argument("--then", action="append", default=[], metavar="QUEUE", help=says)
-    says = "which of several free agents takes a call: the one who has been free longest (the default) or the first in the roster"
-    parser.add_argument("--choose", choices=[LONGEST_IDLE, FIRST], help=says)
 
 
 def queue_word(parser: ArgumentParser) -> None:
@@ -55,6 +61,13 @@ def warn_of_idle_calls(queue: Queue) -> None:
         say(f"warning: {idle}")
 
 
+def print_mixed_at(queue: Queue, how: str) -> None:
+    """Prints if the calls of a queue are of several sources, and how to get the figures of each (str)."""
+    every = queue.trace.sources()
+    if line := together({queue.node: [every[job - 1] for job in queue.jobs]}):
+        say(f"{line}; {how}")
+
+
 def roster_words(parser: ArgumentParser) -> None:
     """Declares the arguments of `mpplan pool` for a roster, patience and priorities."""
     group_words(parser)
@@ -68,21 +81,28 @@ def roster_words(parser: ArgumentParser) -> None:
 
 def asks_for_group(args: Namespace) -> bool:
     """Returns whether a command's arguments ask for more than a number of agents."""
-    more = args.roster, args.patience, args.first, args.then, args.choose, args.queue, args.every, "=" in (args.agents or "")
+    more = args.roster, args.patience, args.first, args.then, args.choose, args.queue, args.every, args.by == "weekday", "=" in (args.agents or "")
     return any(more)
 
 
-def _priorities(args: Namespace, queues: Collection[str]) -> dict[str, int]:
+def priorities_of(args: Namespace, queues: Collection[str]) -> dict[str, int]:
+    """Returns the priorities (dict of str to int) that --first and --then give, as Group takes them. Raises ValueError for a queue that isn't among
+    `queues`."""
     found = dict.fromkeys(args.first, 1)
     for rank, name in enumerate(args.then, 2):
         if name in found:
             raise ValueError(f"{name} is in --first and --then, or twice in --then")
         found[name] = rank
     for name in found:
-        if name not in queues:
-            what = f"value {name!r} in {args.queue}" if args.queue else f"source {name!r}"
-            raise ValueError(f"no {what}; the trace has {', '.join(queues)}")
+        judge_queue(args, name, queues)
     return found
+
+
+def judge_queue(args: Namespace, name: str, queues: Collection[str]) -> None:
+    """Raises ValueError if no call has the queue of this name."""
+    if name not in queues:
+        what = f"value {name!r} in {args.queue}" if args.queue else f"source {name!r}"
+        raise ValueError(f"no {what}; the trace has {', '.join(queues)}")
 
 
 def _agents(args: Namespace, days: Calendar, last: int, queues: Sequence[str]) -> list[Agent]:
@@ -104,7 +124,7 @@ def group_of(args: Namespace, days: Calendar, last: int, queues: Sequence[str]) 
     agents = _agents(args, days, last, names)
     if not 1 <= len(agents) <= TRUNK:
         raise ValueError(f"a pool has 1 to {TRUNK} agents, not {len(agents)}")
-    return agents, Group(agents, _priorities(args, names), args.choose or LONGEST_IDLE)
+    return agents, Group(agents, priorities_of(args, names), args.choose or LONGEST_IDLE)
 
 
 def _judge(args: Namespace) -> None:
@@ -114,7 +134,7 @@ def _judge(args: Namespace) -> None:
         raise ValueError("give a model, a trace, and --roster or --agents")
     if args.agents and args.roster:
         raise ValueError("give --roster or --agents, not both")
-    if args.by != "trunk":
+    if args.by == "agents":
         raise ValueError(f"--by {args.by}: a pool with a roster, patience or priorities has --by trunk")
     if args.percentile or len(args.within or ()) > 1:
         raise ValueError("the table per interval has one --within, and the 90th percentile")
@@ -122,7 +142,7 @@ def _judge(args: Namespace) -> None:
 
 
 def rows_of_group(args: Namespace) -> list[Row]:
-    """Returns the header and the rows (lists) of the table of a pool with a roster, patience or priorities, as HEADS says, and writes the
+    """Returns the header and the rows (lists) of the table of a pool with a roster, patience or priorities, and writes the
     outputs that the arguments ask for. Raises what Queue does, and ValueError for invalid arguments, and if some calls are never served."""
     _judge(args)
     text = text_of(args.model)
@@ -151,4 +171,4 @@ def rows_of_group(args: Namespace) -> list[Row]:
             out_model.write(model)
     calls = queues, queue.arrivals, queue.demands, who, waits
     within = (args.within or [20])[0]
-    return [[*HEADS], *Table(days_of(days, last, every), calls, agents, within).rows(every, days.tick)]
+    return [*Table(days_of(days, last, every), calls, agents, within, args.by == "weekday").rows(every, days.tick)]

@@ -7,7 +7,7 @@ import re
 from typing import TYPE_CHECKING, NamedTuple
 
 from ..tables.sheets import STYLES
-from ..times.calendar import Calendar, settings_in, tick_of
+from ..times.calendar import Calendar, settings_in, tick_of, working_in
 from ..times.texts import given, iso, length
 
 if TYPE_CHECKING:
@@ -28,18 +28,19 @@ def calendar_words_in(args: Namespace) -> list[str]:
     return [f"--{name}" for name in ("tick", "start", "zone") if getattr(args, name) is not None]
 
 
-def calendar_of(args: Namespace, model: str | None = None) -> Calendar:
-    """Returns the Calendar defined by a command's arguments and a model's text (str or None). Raises ValueError if neither gives the length of a
-    tick."""
+def calendar_of(args: Namespace, model: str | None = None, needs: str = "--tick and --start") -> Calendar:
+    """Returns the Calendar defined by a command's arguments and a model's text (str or None). Raises ValueError, with the options (str) that are
+    needed, if neither gives the length of a tick."""
     tick, start, zone = settings_in(model or "")
     if not args.tick and tick is None:
         # A report doesn't contain its model.
         is_report = "reports" in args or "report" in args and args.trace is None
         where = "a --model" if is_report else "a model"
-        raise ValueError(f"the length of a tick is unknown: give --tick and --start, or {where} whose first lines mpplan prepare wrote")
+        raise ValueError(f"the length of a tick is unknown: give {needs}, or {where} whose first lines mpplan prepare wrote")
     if args.start:
         given("--start", iso, args.start)
-    return Calendar(given("--tick", tick_of, args.tick) if args.tick else tick, args.start or start, args.zone or zone)
+    per = given("--tick", tick_of, args.tick) if args.tick else tick
+    return Calendar(per, args.start or start, args.zone or zone, working_in(model or ""))
 
 
 def figure_words(parser: ArgumentParser, what: str = "waits", share: str = "report the share served within this many ticks (default: 20)") -> None:
@@ -135,6 +136,11 @@ def style_words(parser: ArgumentParser) -> None:
     """Declares the argument that chooses the style of a CSV table."""
     says = "for csv: excel-de has semicolons, decimal commas and a byte order mark, as spreadsheets in German expect; default: plain"
     parser.add_argument("--csv-style", choices=list(STYLES), default="plain", help=says)
+
+
+def parts_word(parser: ArgumentParser) -> None:
+    """Declares --by for a table of which each source or weekday may have rows of its own."""
+    parser.add_argument("--by", choices=["source", "weekday"], help="also a row per source or weekday; by default all are together")
 
 
 def report_words(parser: ArgumentParser, what: str = "a report with job lines") -> None:

@@ -11,8 +11,8 @@ from ..files import judge_outputs, text_of, written
 from ..page.network import unlike
 from ..sweeps.plans import labels_of
 from ..sweeps.results import Sweep, load
-from ..times.calendar import settings_in
-from ..times.texts import SECOND, moment
+from ..times.calendar import Calendar, settings_in
+from ..times.texts import SECOND, given, moment
 from ..wording import counted
 from .messages import say
 from .options import calendar_of, calendar_words, calendar_words_in, resolve_within, within_word
@@ -35,24 +35,43 @@ def words(parser: ArgumentParser) -> None:
     parser.add_argument("--out", metavar="FILE", required=True, help="the page; if the name ends in .svg, a drawing of the first report's network")
     parser.add_argument("--title", metavar="TEXT", help="title of the page; default: the name of the report")
     within_word(parser, "also show the share served within")
+    hour_word(parser)
     calendar_words(parser)
 
 
+def hour_word(parser: ArgumentParser) -> None:
+    """Declares the argument that chooses the jobs of a page."""
+    says = "show the single jobs of the hour that begins at this time: a date with a time, or a number of ticks; default: when most jobs come"
+    parser.add_argument("--hour", metavar="TIME", help=says)
+
+
+def hour_of(args: Namespace, text: str | None) -> int | None:
+    """Returns the tick (int, or None) of --hour, by a command's arguments and a model's text (str or None)."""
+    if args.hour is None:
+        return None
+    tick = int(args.hour) if args.hour.isascii() and args.hour.isdigit() else given("--hour", calendar_of(args, text).tick_of_date, args.hour)
+    if tick < 0:
+        raise ValueError(f"--hour {args.hour}: it is before time 0")
+    return tick
+
+
 class Axes(TypedDict, total=False):
-    """The options of a page that give its axes times of day: the seconds per tick, and the wall-clock time of time 0."""
+    """The options of a page that give its axes times of day: the seconds per tick, the wall-clock time of time 0, and the Calendar if ticks count
+    working time."""
 
     tick: float
     start: Optional[datetime]
+    working: Optional[Calendar]
 
 
 def axes(args: Namespace, text: str | None) -> Axes:
-    """Returns the options of a page given by a command's arguments and a model's text (str or None): the seconds per tick, and the wall-clock time of
-    time 0. Empty if nothing gives the length of a tick and no argument needs it."""
+    """Returns the options of a page given by a command's arguments and a model's text (str or None). Empty if nothing gives the length of a tick and
+    no argument needs it."""
     tick, start, _ = settings_in(text or "")
     if not (tick or calendar_words_in(args)):
         return {}
     days = calendar_of(args, text)
-    return {"tick": days.tick / SECOND, "start": moment(days.wall(0)) if args.start or start else None}
+    return {"tick": days.tick / SECOND, "start": moment(days.wall(0)) if args.start or start else None, "working": days if days.working else None}
 
 
 def _labelled(path: str, name: str) -> list[tuple[str, Report]]:
@@ -90,12 +109,12 @@ def main(args: Namespace) -> None:
                 words = "and its box shows the text of the model; give --model once per report"
                 say(f"warning: {other} of {label} doesn't have the number of servers of the model, {words}")
             labelled.append((label, report))
-    times = axes(args, texts[0])
+    times, hour = axes(args, texts[0]), hour_of(args, texts[0])
     if args.out.endswith(".svg"):
         with written(args.out) as file:
             file.write(page.drawing(labelled[0][1]))
         return
     labels = [label for label, _ in labelled]
     title = args.title or (labels[0] if len(labels) == 1 else None)
-    page.save(args.out, [it for _, it in labelled], labels, title, within=args.within, **times)
+    page.save(args.out, [it for _, it in labelled], labels, title, within=args.within, hour=hour, **times)
     print_pools([it for _, it in labelled])

@@ -39,8 +39,9 @@ def words(parser: ArgumentParser) -> None:
     says = "number of agents who share the queue: 12, or 8..15 for a row each, or by the time of day: 8:00=3,10:00=5,18:00=0"
     parser.add_argument("--agents", metavar="C", help=says)
     roster_words(parser)
-    says = "nodes of the pool: a delay and a trunk group (trunk, the default), or a server per agent (agents)"
-    parser.add_argument("--by", choices=["trunk", "agents"], default="trunk", help=says)
+    says = "nodes of the pool: a delay and a trunk group (trunk, the default), or a server per agent (agents); "
+    says += "weekday: rows per weekday in the table per interval"
+    parser.add_argument("--by", choices=["trunk", "agents", "weekday"], default="trunk", help=says)
     parser.add_argument("--out", metavar="FILE", help="write the trace, with the agent and the wait of each call as columns")
     parser.add_argument("--out-model", metavar="FILE", help="write the model with the pool")
     parser.add_argument("--report", metavar="FILE", help="read this report of a pool, written with --jobs, instead of running a model and a trace")
@@ -48,11 +49,11 @@ def words(parser: ArgumentParser) -> None:
     table_words(parser)
 
 
-def numbers_of(text: str) -> range:
-    """Returns the numbers (range) in `12` or `8..15`. Raises ValueError for another text."""
+def numbers_of(text: str, option: str = "--agents") -> range:
+    """Returns the numbers (range) in `12` or `8..15`, the value of an option (str). Raises ValueError for another text."""
     found = re.fullmatch(r"([1-9]\d{0,5})(?:\.\.([1-9]\d{0,5}))?", text)
     if not found or int(found[2] or found[1]) < int(found[1]):
-        raise ValueError(f"--agents {text}: expected a number such as 12, or a rising range such as 8..15")
+        raise ValueError(f"{option} {text}: expected a number such as 12, or a rising range such as 8..15")
     return range(int(found[1]), int(found[2] or found[1]) + 1)
 
 

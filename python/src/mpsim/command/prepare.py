@@ -7,6 +7,7 @@ import os
 from typing import TYPE_CHECKING, Any
 
 from ..exports.parts import KINDS
+from ..exports.plan import OUTSIDE
 from ..exports.prepare import prepare, prepare_parts
 from ..files import all_written, judge_outputs, written
 from ..runs import judged_text
@@ -15,6 +16,7 @@ from ..times.lengths import Lengths
 from ..times.zones import TWICE
 from ..wording import counted
 from .messages import say
+from .parser import parser_for
 from .recipes import Recipe, apply_recipe
 
 if TYPE_CHECKING:
@@ -50,6 +52,10 @@ def _times(add: Callable[..., object]) -> None:
     add("--tick", metavar="LENGTH", help="length of a tick, e.g. 1s, 100ms, 1ns or 1min; default: from the comments of --model, or 1s")
     begins = "time 0: hour (the last full hour before the first job, the default), day, first, a time of day such as 8:00, or an ISO 8601 time"
     add("--begin", metavar="WHEN", help=begins)
+    says = "count working time only, by a CSV file days,from,to with rows such as mon-fri,06:00,14:00; default: from the comments of --model"
+    add("--calendar", metavar="FILE", help=says)
+    says = "what to do with jobs that arrive outside of working time: move them to the next opening (the default), or refuse the export"
+    add("--outside", choices=list(OUTSIDE), help=says)
 
 
 def _columns(add: Callable[..., object]) -> None:
@@ -128,15 +134,25 @@ def _outputs(add: Callable[..., object]) -> None:
     add("--out", metavar="FILE", help="write the trace here; default: - (standard output)")
 
 
-def main(args: Namespace) -> None:
-    """Runs `mpplan prepare`."""
+def _options_of(args: Namespace) -> dict[str, Any]:
+    """Returns the options of the library that arguments give, with those of a recipe. Options that aren't given have the defaults of the library."""
     apply_recipe(args)
     own = "command", "main", "recipe", "export", "first_lines", "out_model", "out", "split_by"
-    # Options that aren't given have the defaults of the library.
-    options: dict[str, Any] = {name: value for name, value in vars(args).items() if name not in own and value is not None}
+    return {name: value for name, value in vars(args).items() if name not in own and value is not None}
+
+
+def recipe_options(path: str) -> dict[str, Any]:
+    """Returns the options of the library, but that of the model, in a recipe. Raises what the command does for an invalid one."""
+    options = _options_of(parser_for("prepare").parse_args(["prepare", "-", "--recipe", path]))
+    return {name: value for name, value in options.items() if name != "model"}
+
+
+def main(args: Namespace) -> None:
+    """Runs `mpplan prepare`."""
+    options = _options_of(args)
     # Standard output, as without --out.
     args.out = None if args.out == "-" else args.out
-    inputs = {"export": [args.export], "model": [args.model]}
+    inputs = {"export": [args.export], "model": [args.model], "calendar": [args.calendar]}
     judge_outputs([args.out, args.left_out, args.first_lines, args.out_model], inputs)
     if args.out_model and not args.model:
         raise ValueError("--out-model requires --model")
@@ -176,9 +192,7 @@ def _write(made: Prepared, model: str | None, lines: TextIO | None, out_model: T
         out.writelines(made.lines())
 
 
-def _write_parts(
-    args: Namespace, model: str | None, parts: Iterable[tuple[str, Prepared]], inputs: Mapping[str, Iterable[str | None]]
-) -> None:
+def _write_parts(args: Namespace, model: str | None, parts: Iterable[tuple[str, Prepared]], inputs: Mapping[str, Iterable[str | None]]) -> None:
     """Writes the trace of each part to a file of its own, whose name has that of the part before its suffix. A line that was printed for an earlier
     part isn't repeated."""
     said: set[str] = set()

@@ -35,9 +35,10 @@ class Recipe(GivenOnce):
             except ValueError as error:
                 raise ValueError(f"{values}: {name} = {quoted(str(value))}: {error}") from None
             action.required = False
-        if "model" in namespace.recipe:
-            # A path in a file is relative to that file.
-            namespace.recipe["model"] = os.path.join(os.path.dirname(values), namespace.recipe["model"])
+        for name in ("model", "calendar"):
+            if name in namespace.recipe:
+                # A path in a file is relative to that file.
+                namespace.recipe[name] = os.path.join(os.path.dirname(values), namespace.recipe[name])
 
 
 def _judged(action: argparse.Action, value: Any) -> Any:

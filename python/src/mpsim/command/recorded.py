@@ -7,7 +7,7 @@ from typing import TYPE_CHECKING
 from ..agents.groups import Agent
 from ..agents.validation import recorded
 from ..files import text_of
-from ..tables.intervals import HEADS, Table
+from ..tables.intervals import Table
 from ..times.intervals import days_of, every_of
 from ..traces.trace import Trace
 from ..tables.sheets import write_table
@@ -31,14 +31,15 @@ def words(parser: ArgumentParser) -> None:
     table_words(parser)
 
 
-def recorded_words(parser: ArgumentParser) -> None:
+def recorded_words(parser: ArgumentParser, is_required: bool = True) -> None:
     """Declares the arguments that name the columns of recorded waits."""
     says = "column with the recorded wait in ticks, for an abandoned call until the caller left"
-    parser.add_argument("--wait", required=True, metavar="COLUMN", help=says)
+    parser.add_argument("--wait", required=is_required, metavar="COLUMN", help=says)
     says = "column that is 0 for answered calls, and another number for abandoned ones; default: none was abandoned"
     parser.add_argument("--abandoned", metavar="COLUMN", help=says)
     within_word(parser, "report the share answered within 20 ticks (the default),")
     every_words(parser)
+    parser.add_argument("--by", choices=["weekday"], help="rows per weekday and interval; by default all days are together")
 
 
 def within_of(args: Namespace) -> int:
@@ -62,5 +63,5 @@ def main(args: Namespace) -> None:
     arrivals, modelled = [times[at] for at in kept], [int(not gone[at]) for at in kept]
     # Who answered isn't asked for: agent 1 stands for any.
     calls = [queues[at] for at in kept], arrivals, [0] * len(kept), modelled, [waits[at] for at in kept]
-    table = Table(days_of(days, max(arrivals, default=0), every), calls, [Agent([])], within_of(args))
-    write_table([HEADS[:-2], *(row[:-2] for row in table.rows(every, days.tick))], args.format, args.csv_style)
+    table = Table(days_of(days, max(arrivals, default=0), every), calls, [Agent([])], within_of(args), bool(args.by))
+    write_table([row[:-2] for row in table.rows(every, days.tick)], args.format, args.csv_style)

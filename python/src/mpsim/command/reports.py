@@ -2,18 +2,23 @@
 
 from __future__ import annotations
 
+import contextlib
 from typing import TYPE_CHECKING
 
 from ..agents.pools import pool_lines, pooled
+from ..errors import read_from
+from ..inputs import model_input
 from ..node_visits import NodeVisits, Visits
-from ..report import Report
-from ..runs import run
+from ..report import Reading, Report
+from ..runs import run, visits
 from ..tables.visits import places_of, sources_in, together, visits_to
 from .messages import say
 
 if TYPE_CHECKING:
     from argparse import Namespace
-    from collections.abc import Sequence
+    from collections.abc import Iterator, Sequence
+
+NO_JOBS = "the report has no job lines: run mpsim with --jobs"
 
 
 def report_of(args: Namespace) -> Report:
@@ -23,11 +28,31 @@ def report_of(args: Namespace) -> Report:
         return run(args.report, args.trace, jobs=True)
     report = Report.read(args.report)
     if not report.has_visits and report.jobs:
-        raise ValueError(f"{args.report}: the report has no job lines: run mpsim with --jobs")
+        raise ValueError(f"{args.report}: {NO_JOBS}")
     if not report.has_visits:
         # Without jobs there are no job lines.
         report.visits = Visits((node.name, NodeVisits(node.name)) for node in report.nodes)
     return report
+
+
+@contextlib.contextmanager
+def reading_of(args: Namespace) -> Iterator[Reading]:
+    """Opens the report with visits that a command's arguments name, as a Reading, which keeps no visits. Raises what `report_of` does, at the latest
+    at the end of the block."""
+    if args.trace is not None:
+        with visits(args.report, args.trace) as reading:
+            yield reading
+        return
+    with open(args.report, "rb") as stream, read_from(args.report):
+        reading = Reading(stream)
+        if not reading.has_jobs and reading.jobs:
+            raise ValueError(f"{args.report}: {NO_JOBS}")
+        yield reading
+
+
+def model_of(args: Namespace) -> str | None:
+    """Returns the text (str) of the model that a command's arguments name, if it can be read twice; None for a report."""
+    return model_input(args.report).text() if args.trace is not None else None
 
 
 def visits_of(report: Report, args: Namespace) -> list[NodeVisits]:

@@ -5,16 +5,20 @@ from __future__ import annotations
 import os
 from typing import TYPE_CHECKING
 
+from ..agents.queues import Queue
 from ..files import judge_outputs, text_of, written
 from ..progress import Progress
+from ..stations.columns import made_warning
 from ..tables.service import PERCENTS
 from ..tables.sheets import write_table
 from ..tables.spreads import spreads
+from ..tables.visits import parts_by
 from ..traces.resample import Days
-from ..traces.trace import Trace, pool_warning
+from ..traces.trace import Trace
 from ..wording import counted
+from .groups import print_mixed_at, warn_of_idle_calls
 from .messages import say
-from .options import Once, Time, calendar_of, calendar_words, percentile_word, resolve_within, table_words, ticks
+from .options import Once, Time, calendar_of, calendar_words, parts_word, percentile_word, resolve_within, table_words, ticks
 from .pool import numbers_of
 
 if TYPE_CHECKING:
@@ -41,6 +45,7 @@ def words(parser: ArgumentParser) -> None:
     says = "weekday (the default): a day is replaced by one of the same weekday; any: by any day; and for the table, as in mpplan service, the share"
     parser.add_argument("--within", type=group_or_ticks, action=Once, metavar="WHAT", help=f"{says} served within this time; may be repeated")
     percentile_word(parser)
+    parts_word(parser)
     calendar_words(parser)
     table_words(parser)
 
@@ -97,11 +102,17 @@ def main(args: Namespace) -> None:
     if args.out:
         first, last = _written(days, args)
         say(f"{counted(args.count, 'trace')} of {counted(len(days.numbers), 'day')}: {first} to {last}")
-        if warning := pool_warning(args.trace, trace.header):
+        if warning := made_warning(args.trace, trace.header):
             say(warning)
     if args.node:
         agents = numbers_of(args.agents) if args.agents else range(0)
         with Progress(args.count + 1, "runs") as progress:
             figures = args.within or (20,), args.percentile or PERCENTS
-            rows = list(spreads(text or "", days, args.node, args.count, args.seed, agents, *figures, progress))
+            parts = parts_by(args.by, trace, calendar) if args.by else None
+            rows = list(spreads(text or "", days, args.node, args.count, args.seed, agents, *figures, progress, parts))
         write_table(rows, args.format, args.csv_style)
+        if agents:
+            queue = Queue(text or "", trace, args.node[0])
+            warn_of_idle_calls(queue)
+            if args.by != "source":
+                print_mixed_at(queue, "--by source gives each")

@@ -8,10 +8,11 @@ from typing import TYPE_CHECKING
 
 from ..files import judge_outputs, text_of, written
 from ..limits import GREATEST_TIME, RECORDS
+from ..stations.columns import made_warning
 from ..times.calendar import settings_in
-from ..times.texts import DAY, given, length
+from ..times.texts import given, length
 from ..traces.scale import count_of, means, scaled
-from ..traces.trace import Trace, pool_warning
+from ..traces.trace import Trace
 from ..wording import counted
 from .messages import say
 from .options import calendar_of, calendar_words, calendar_words_in
@@ -66,7 +67,7 @@ def ratio(text: str) -> tuple[int, int]:
 
 def _shift_of(args: Namespace) -> tuple[int | None, Calendar | None]:
     """Returns the shift (int, ticks; None if none is given), and the Calendar by which copies keep their time of day (None if the shift isn't whole
-    days, or no zone is known)."""
+    days, or if no zone is known and all time counts)."""
     text = text_of(args.model) if args.model else None
     known = bool(calendar_words_in(args)) or settings_in(text or "")[0] is not None
     if args.model and not known:
@@ -82,7 +83,7 @@ def _shift_of(args: Namespace) -> tuple[int | None, Calendar | None]:
         shift = given("--shift", length, args.shift) // days.tick
     if shift < 1:
         raise ValueError(f"--shift {args.shift}: expected a positive number of ticks, such as those of a day or a week")
-    return shift, days if days and days.place.zone and shift * days.tick % DAY == 0 else None
+    return shift, days if days and days.keeps_clock(shift * days.tick) else None
 
 
 def main(args: Namespace) -> None:
@@ -103,6 +104,6 @@ def main(args: Namespace) -> None:
         raise ValueError(f"--by {args.by}: the time {last} is above the limit of {GREATEST_TIME}")
     with written(args.out) as file:
         file.writelines(made.texts())
-    if warning := pool_warning(args.trace, trace.header):
+    if warning := made_warning(args.trace, trace.header):
         say(warning)
     say(f"{counted(len(made.rows), 'record')} (from {len(trace.rows):,}): {means(k, n, way, shift, args.source, days)}")

@@ -12,12 +12,13 @@ from ..errors import Error
 from ..files import judge_outputs, written
 from ..parallel import in_order
 from ..progress import Progress
+from ..stations.columns import made_warning
 from ..sweeps.local import label_of, pools_again, scenarios_in, shares_of
 from ..sweeps.plans import Plan, files_of, sets_of
 from ..sweeps.results import Sweep
 from ..sweeps.shards import Folder, gather, one_line, rows_of, run_shard
 from ..tables.sheets import Writer
-from ..traces.trace import header_of, pool_warning
+from ..traces.trace import header_of
 from .machines import by_parallel, by_slurm
 from .messages import say
 from .options import positive, resolve_within, style_words, within_word
@@ -87,7 +88,7 @@ def _plan(args: Namespace) -> Plan:
                 why = f"{trace['path']} holds the waits at {names} for one number of agents, and the models have several"
                 raise ValueError(f"{why}: without --folder they are worked out again for each")
             say(f"the waits at {' and '.join(again)} are worked out again for each number of agents")
-        elif warning := pool_warning(trace["path"], header_of(trace["path"])):
+        elif warning := made_warning(trace["path"], header_of(trace["path"])):
             say(warning)
     return plan
 

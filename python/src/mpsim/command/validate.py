@@ -7,30 +7,33 @@ from typing import TYPE_CHECKING
 
 from ..agents.queues import Queue
 from ..agents.validation import HEADS, Trust, compared, recorded, rows_of, verdict
-from ..files import text_of
+from ..files import judge_outputs, text_of, written
+from ..page.levels import levels_page
 from ..tables.sheets import write_table
-from ..times.intervals import days_of, every_of
-from ..times.texts import SECOND, given
+from ..times.intervals import Kinds, days_of, every_of
+from ..times.texts import MINUTE, SECOND, given
 from ..traces.trace import Trace
-from .groups import group_of, group_words, queues_of
+from .groups import group_of, group_words, queues_of, warn_of_idle_calls
 from .messages import say
 from .options import calendar_of, calendar_words, resolve_within, table_words
+from .passages import judge_words, log_words, validate_log
 from .recorded import recorded_words, within_of
 
 if TYPE_CHECKING:
     from argparse import ArgumentParser, Namespace
 
-EXAMPLE = "mpplan validate model.txt calls.csv --node desk --roster roster.csv --wait wait --abandoned abandoned >gaps.csv"
+EXAMPLE = """mpplan validate model.txt calls.csv --node desk --roster roster.csv --wait wait --abandoned abandoned >gaps.csv
+         mpplan validate line.txt parts.csv --log mes.csv --recipe mes.toml --product type >gaps.csv"""
 
 
 def words(parser: ArgumentParser) -> None:
     """Declares the arguments of `mpplan validate`."""
-    parser.add_argument("model", help="a model with a server in the place of the agents")
-    parser.add_argument("trace", help="its trace, with the recorded waits as a column")
-    parser.add_argument("--node", required=True, metavar="NAME", help="the server to replace by the agents")
+    parser.add_argument("model", help="a model with a server in the place of the agents; with --log any model")
+    parser.add_argument("trace", help="its trace, with the recorded waits as a column; with --log that of the log")
+    parser.add_argument("--node", metavar="NAME", help="the server to replace by the agents")
     parser.add_argument("--agents", metavar="C", help="number of agents, or by the time of day: 8:00=3,10:00=5,18:00=0")
     group_words(parser)
-    recorded_words(parser)
+    recorded_words(parser, is_required=False)
     default = Trust()
     says = f"trust a model whose share of all calls differs by at most this many percentage points (default: {100 * default.overall:g})"
     parser.add_argument("--trust-overall", metavar="POINTS", help=says)
@@ -38,8 +41,10 @@ def words(parser: ArgumentParser) -> None:
     parser.add_argument("--trust-interval", metavar="POINTS", help=says)
     says = f"judge intervals with at least this many calls (default: {default.calls})"
     parser.add_argument("--trust-calls", type=int, default=default.calls, metavar="N", help=says)
+    parser.add_argument("--page", metavar="FILE", help="also write an HTML page with both shares over the day")
     calendar_words(parser)
     table_words(parser)
+    log_words(parser)
 
 
 def points(text: str) -> float:
@@ -59,6 +64,11 @@ def _trust_of(args: Namespace) -> Trust:
 
 def main(args: Namespace) -> None:
     """Runs `mpplan validate`."""
+    judge_words(args)
+    if args.log is not None:
+        validate_log(args, text_of(args.model))
+        return
+    judge_outputs([args.page], {"model": [args.model], "trace": [args.trace], "roster": [args.roster]})
     trust = _trust_of(args)
     if bool(args.roster) == bool(args.agents):
         raise ValueError("give --roster or --agents")
@@ -71,7 +81,19 @@ def main(args: Namespace) -> None:
     waits, gone = recorded(trace, args.wait, args.abandoned)
     last, queues = max(queue.arrivals, default=0), queues_of(args, trace, text)
     _, group = group_of(args, days, last, queues)
-    cells = compared(queue, group, days_of(days, last, every), waits, gone, queues)
-    rows = list(rows_of(cells, within_of(args), max(1, SECOND // days.tick), every))
-    say(verdict([row for row in rows if row[1] == "all"], trust))
-    write_table([HEADS, *rows], args.format, args.csv_style)
+    every_day = days_of(days, last, every)
+    kinds = Kinds(every_day, bool(args.by))
+    cells = compared(queue, group, every_day, waits, gone, queues, kinds=kinds)
+    within, same = within_of(args), max(1, SECOND // days.tick)
+    rows = list(rows_of(cells, within, same, every, kinds=kinds))
+    said = verdict([row for row in rows if row[-len(HEADS)] == "all"], trust)
+    say(said)
+    warn_of_idle_calls(queue)
+    write_table([[*kinds.heads, *HEADS], *rows], args.format, args.csv_style)
+    if args.page:
+        if args.by:
+            # The page has all days together.
+            cells = compared(queue, group, every_day, waits, gone, queues)
+        title = f"{args.node}: recorded and modelled"
+        with written(args.page) as file:
+            file.write(levels_page(list(rows_of(cells, within, same, every, 12)), title, said, within * days.tick / SECOND, every // MINUTE))

@@ -36,8 +36,9 @@ class Span(NamedTuple):
     size: int
 
 
-def ticks(plan: Plan, stamps: array[int], begin: str, made: Prepared) -> array[int]:
-    """Returns the times of the trace (array), in ticks from time 0."""
+def ticks(plan: Plan, rows: Rows, begin: str, made: Prepared) -> array[int]:
+    """Returns the times of the trace (array), in ticks from time 0: of all time, or of working time."""
+    stamps = rows.stamps
     readers = [reader.how for reader in plan.readers()]
     if any(reader.has_none for reader in readers) and any(reader.has_offsets for reader in readers) and not plan.place.name:
         raise ValueError("some times have an offset from UTC and others have none: give --zone for those")
@@ -51,17 +52,25 @@ def ticks(plan: Plan, stamps: array[int], begin: str, made: Prepared) -> array[i
             made.warned.append(f"times look like {looks}, but are read as ticks: give their --format")
         return _judged(stamps)
     first, is_utc = min(stamps), any(reader.has_offsets for reader in readers)
-    zero = _zero(plan, begin, first, is_utc)
-    if zero > first:
-        raise ValueError(f"{counted(sum(stamp < zero for stamp in stamps), 'record')} before --begin {begin}, which is to be time 0")
+    zero, counts = _zero(plan, begin, first, is_utc), stamps
+    if plan.place.working:
+        if is_utc and not plan.place.name:
+            raise ValueError("times have an offset from UTC, so the zone of the calendar's hours is unknown: give --zone")
+        counts = _worked(plan, rows, made)
+        # Work that is closed at time 0 begins at the next opening.
+        zero = plan.place.working.moment(plan.place.working.of(zero))
+    origin = plan.place.counted(zero)
+    if early := sum(count < origin for count in counts):
+        raise ValueError(f"{counted(early, 'record')} before --begin {begin}, which is to be time 0")
     if plan.has_day:
         made.zero = plan.place.shown(zero) + ("+00:00" if is_utc and not plan.place.name else "")
-    found = _judged(array("q", [(stamp - zero) // plan.per for stamp in stamps]))
+    found = _judged(array("q", [(count - origin) // plan.per for count in counts]))
     shown = made.zero or f"{zero // HOUR}:{zero // (60 * SECOND) % 60:02}:{zero // SECOND % 60:02}"
     made.told.append(f"time 0 is {shown}, a tick is {length_text(plan.per)}, the last record is at {max(found)}")
+    made.told += [f"ticks count working time: {plan.place.working}"] if plan.place.working else []
     # Most exports have only whole ticks.
-    is_even = set(map(mod, stamps, repeat(plan.per))) == {zero % plan.per}
-    if not is_even and (uneven := sum((stamp - zero) % plan.per > 0 for stamp in stamps)):
+    is_even = set(map(mod, counts, repeat(plan.per))) == {origin % plan.per}
+    if not is_even and (uneven := sum((count - origin) % plan.per > 0 for count in counts)):
         made.told.append(f"{counted(uneven, 'time')} between two ticks, rounded down")
     if not plan.has_day:
         back = sum(later < earlier - 12 * HOUR for earlier, later in zip(stamps, islice(stamps, 1, None)))
@@ -70,6 +79,32 @@ def ticks(plan: Plan, stamps: array[int], begin: str, made: Prepared) -> array[i
     elif not plan.place.name and max(stamps) - first > DAY:
         made.told.append(f"days are those of {'UTC' if is_utc else 'a clock that never changes'}: give --zone for another")
     return found
+
+
+def _worked(plan: Plan, rows: Rows, made: Prepared) -> array[int]:
+    """Returns the working time (array) at which records arrive; outside of it at the next opening, with a warning. Raises ValueError for such records
+    if they are refused."""
+    assert plan.place.working
+    outside = [at for at, stamp in enumerate(rows.stamps) if not plan.place.working.is_open(stamp)]
+    if outside:
+        first = f"the first is row {rows.row_of(outside[0])}, {plan.place.shown(rows.stamps[outside[0]])}"
+        what = f"{counted(len(outside), 'record')} of {len(rows.stamps):,} {'arrives' if len(outside) == 1 else 'arrive'} outside of working time"
+        if plan.outside == "refuse":
+            raise ValueError(f"{what} ({first}): --outside move counts them at the next opening")
+        made.warned.append(f"{what}, and {'is' if len(outside) == 1 else 'are'} counted at the next opening ({first})")
+    return array("q", map(plan.place.working.of, rows.stamps))
+
+
+def outside_notes(plan: Plan) -> list[str]:
+    """Returns notes on services that begin or end outside of working time."""
+    working = plan.place.working
+    if not working or not working.outside:
+        return []
+    first = min(working.outside)
+    nothing = sum(working.of(begin) == working.of(end) for begin, end in working.outside)
+    what = f"{counted(len(working.outside), 'different span')} of services or waits begin or end outside of working time, which isn't counted"
+    example = f"the first from {plan.place.shown(first[0])} to {plan.place.shown(first[1])}"
+    return [f"{what} ({example})" + (f"; {nothing:,} of them are wholly outside: 0 ticks" if nothing else "")]
 
 
 def _judged(ticks: array[int]) -> array[int]:

@@ -10,7 +10,7 @@ from collections import Counter
 from typing import TYPE_CHECKING
 
 from ..wording import counted
-from .streams import Stream, judge_text
+from .streams import LINE, Stream, judge_text
 from .table import Table
 
 if TYPE_CHECKING:
@@ -23,10 +23,6 @@ DELIMITERS = ";\t,|"
 SAMPLE, CHARACTERS = 1 << 15, 1 << 23
 # A field with more lines is reported: an unclosed quote makes one field of the rest.
 LINES = 20
-
-
-# A longer line isn't one of a table.
-LINE = 1 << 24
 
 
 def found_encoding(data: bytes | Stream) -> tuple[str, str | None]:

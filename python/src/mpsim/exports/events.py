@@ -30,8 +30,6 @@ EVENTS = 1 << 24
 # What an event does to its unit: it arrives, a service begins or ends, it gives up; or a whole step.
 ARRIVE, BEGIN, END, ABANDON, STEP = range(5)
 OPTIONS = "--arrive-event", "--begin-event", "--end-event", "--abandon-event"
-# Rows examined for a column that looks like one of units.
-SAMPLE = 2000
 
 
 class Made(NamedTuple):
@@ -52,6 +50,8 @@ class Log:
     ends: int | None
     # As a condition on rows, it is of no column.
     column = -1
+    # Whether the units are kept for `Units.passages`.
+    keeps = False
 
     def __init__(self, unit: int, steps: int | None, event: int | None, kinds: Mapping[str, int], route: str | None) -> None:
         self.unit, self.steps, self.event, self.kinds, self.route = unit, steps, event, kinds, route
@@ -129,12 +129,23 @@ class Incomplete(ValueError):
 
 class Unit(NamedTuple):
     """A unit: the index of its first event, when it arrives, its visits (list of pairs of a station and a length in nanoseconds or ticks), how long
-    it waited, and whether it gave up."""
+    it waited, whether it gave up, and when each visit begins and ends, in the time that counts (list of pairs of int, nanoseconds)."""
 
     first: int
     arrival: int
     visits: list[tuple[int, int]]
     wait: int
+    abandoned: bool
+    spans: list[tuple[int, int]]
+
+
+class Passage(NamedTuple):
+    """How a unit passed its stations: when it arrived, and the column, the begin and the end of each visit (list of tuples of str and two int), all
+    in the time that counts (nanoseconds, or ticks if the log has ticks); its codes by column (dict of str to int); and whether it gave up."""
+
+    arrival: int
+    visits: list[tuple[str, int, int]]
+    codes: dict[str, int]
     abandoned: bool
 
 
@@ -149,12 +160,13 @@ class Units(Rows):
         super().__init__(plan)
         self._log = log
         self._events, self.long, self._outside = rows, rows.long, 0
-        self._writer = rows._writer
+        self._writer, self._tick = rows._writer, 1 if plan.is_ticks else plan.per
         self.unwanted = rows.unwanted - sum(log.others.values())
         self._units, self._stations, self._kinds = rows.values[-3:]
         self._service = next((values for it, values in zip(plan.columns, rows.values) if _is_service(it)), array("q"))
         self._names = {number: text for text, number in log.units.codes.items()}
         found = list(self._gathered())
+        self._found = found if log.keeps else []
         if len(found) > RECORDS:
             raise ValueError(f"{len(found):,} units, but a trace has at most {RECORDS:,} records: choose a part with --from and --until")
         self._fill(found, [(it, values) for it, values in zip(plan.columns[:-3], rows.values) if not _is_service(it)])
@@ -192,6 +204,8 @@ class Units(Rows):
         log, kinds, stamps = self._log, self._kinds, self._events.stamps
         arrival = stamps[events[0]]
         visits: list[tuple[int, int]] = []
+        spans: list[tuple[int, int]] = []
+        count = self.plan.place.counted
         open_at: dict[int, tuple[int, int]] = {}
         gone: int | None = None
         begun: int | None = None
@@ -203,17 +217,20 @@ class Units(Rows):
                 raise Incomplete("an event after the unit gave up")
             if kind == STEP:
                 visits.append((station, self._service[event]))
+                spans.append((count(moment), count(moment) + self._service[event] * self._tick))
             elif kind == BEGIN:
                 if station in open_at:
                     raise Incomplete("a service begins twice before it ends")
                 open_at[station] = len(visits), moment
                 visits.append((station, moment))
+                spans.append((count(moment), count(moment)))
                 begun = moment if begun is None else begun
             elif kind == END:
                 if station not in open_at:
                     raise Incomplete("a service ends that hasn't begun")
                 at, begin = open_at.pop(station)
                 visits[at] = station, self._length(event, begin, moment)
+                spans[at] = spans[at][0], count(moment)
             elif kind == ABANDON:
                 gone = moment
         if open_at:
@@ -224,20 +241,19 @@ class Units(Rows):
             raise Incomplete("no service begins")
         until = begun if gone is None else gone
         wait = 0 if until is None or ABANDON not in log.kinds.values() else self._length(events[0], arrival, until)
-        return Unit(events[0], arrival, visits, wait, gone is not None)
+        return Unit(events[0], arrival, visits, wait, gone is not None, spans if log.keeps else [])
 
     def _length(self, event: int, begin: int, end: int) -> int:
         """Returns the ticks from one moment to another. Raises ValueError if they may be other moments of an hour that occurs twice."""
         least = other_length(self.plan.place, begin, end)
         if least is not None:
-            two = f"{self._ticks(least)} or {self._ticks(end - begin)} ticks"
+            two = f"{self._ticks(least)} or {self._ticks(self.plan.place.length(begin, end))} ticks"
             what = f"row {self._events.row_of(event)}: the service or the wait is {two} long, since an hour occurs twice"
             raise ValueError(f"{what}: give --twice order, for rows in order of time")
-        return self._ticks(end - begin)
+        return self._ticks(self.plan.place.length(begin, end))
 
     def _ticks(self, length: int) -> int:
-        tick = 1 if self.plan.is_ticks else self.plan.per
-        ticks = (2 * length + tick) // (2 * tick)
+        ticks = (2 * length + self._tick) // (2 * self._tick)
         if ticks > GREATEST_VALUE:
             raise Incomplete("a service above 2^36 ticks")
         return ticks
@@ -271,6 +287,7 @@ class Units(Rows):
             made.append((Made(ABANDONED), array("q", (unit.abandoned for unit in found))))
         if self._log.route:
             made.append(self._route_column(self._log.route, routes))
+        self._names_of = names
         made += self._absent(made, len(found))
         self.columns, self.values = [it for it, _ in made], [values for _, values in made]
         self.plan.judge_columns([it.name for it in self.columns])
@@ -343,6 +360,14 @@ class Units(Rows):
             more = "" if log.route else ": --route NAME writes the order as a column for a split"
             plan.warned.append(f"{counted(len(other), 'unit')} in another order of stations (the first is unit {quoted(name)}){more}")
 
+    def passages(self) -> Iterator[Passage]:
+        """Yields the Passage of each unit, in the order of the records."""
+        codes = [(it.name, values) for it, values in zip(self.columns, self.values) if isinstance(it, Code)]
+        for number, unit in enumerate(self._found):
+            visits = [(self._names_of[key], *span) for key, span in zip(_route(unit.visits), unit.spans)]
+            arrival = self.plan.place.counted(unit.arrival)
+            yield Passage(arrival, visits, {name: values[number] for name, values in codes}, unit.abandoned)
+
     def row_of(self, at: int) -> int:
         """Returns the number of the row with the first event of a record, by its index."""
         return self._events.row_of(self._firsts[at])
@@ -368,26 +393,3 @@ def _route(visits: Sequence[tuple[int, int]]) -> list[Visit]:
         counts[station] += 1
         found.append((station, counts[station]))
     return found
-
-
-def found_units(header: Sequence[str], sample: Sequence[Sequence[str]], used: Iterable[int]) -> str | None:
-    """Returns a hint (str) if rows look like events: a column, not one of those `used`, has each of its values in a few rows that differ in another
-    column of few values. Returns None otherwise.
-
-    >>> rows = [[str(at // 3), "cut drill pack".split()[at % 3]] for at in range(60)]
-    >>> found_units(["serial", "station"], rows, [])
-    "rows look like events, since most values of 'serial' are in several: --unit serial --steps station"
-    """
-    rows, known = sample[:SAMPLE], set(used)
-    texts = {at: [row[at].strip() for row in rows] for at in range(len(header)) if at not in known and header[at]}
-    counts = {at: Counter(column) for at, column in texts.items()}
-    for unit, seen in counts.items():
-        several = sum(count for count in seen.values() if count > 1)
-        if len(seen) < 5 or "" in seen or several < 0.8 * len(rows) or len(rows) > 20 * len(seen):
-            continue
-        for steps, kinds in counts.items():
-            pairs = len(set(zip(texts[unit], texts[steps])))
-            if steps != unit and 2 <= len(kinds) <= 64 and 2 * len(kinds) <= len(seen) and pairs >= 0.9 * len(rows):
-                which = f"--unit {header[unit]} --steps {header[steps]}"
-                return f"rows look like events, since most values of {header[unit]!r} are in several: {which}"
-    return None

@@ -79,6 +79,7 @@ class Expression:
                 found.append(item.later(row, begun[0]))
             at = self.column
             total += self._between(begun[0], found) if found else 0
+            self._note_outside(found)
             for sign, at, how in self.lengths:
                 if self.empty is not None and not row[at].strip():
                     total += sign * self.empty * self.tick
@@ -97,11 +98,18 @@ class Expression:
         self.rounded += total % self.tick > 0
         return ticks
 
+    def _note_outside(self, found: Sequence[int]) -> None:
+        """Notes moments of a row (list of int) outside of working time."""
+        working = self.times[0][1].zone.working if self.times else None
+        if working and any(not (working.is_end(moment) if sign > 0 else working.is_open(moment)) for (sign, _), moment in zip(self.times, found)):
+            working.outside.add((min(found), max(found)))
+
     def _between(self, arrival: int, found: Sequence[int]) -> int:
-        """Returns the sum of these moments (list of int) with their signs. In an hour that occurs twice each is the first not before the arrival, or
-        the second if the sum is below 0 otherwise. Raises Asks if the sum would be smaller with another arrival or another of these hours."""
+        """Returns the sum of these moments (list of int) with their signs, in the time that counts. In an hour that occurs twice each is the first
+        not before the arrival, or the second if the sum is below 0 otherwise. Raises Asks if the sum would be smaller with another arrival or another
+        of these hours."""
         total, zone = self._sum(found), self.times[0][1].zone
-        if not zone.name or 0 <= total < REPEATED:
+        if not zone.name or 0 <= total < REPEATED and not zone.working:
             return total
         both = [zone.both(moment) for moment in found]
         sums = {begin: self._sums(begin, both) for begin in zone.both(arrival)}
@@ -119,7 +127,8 @@ class Expression:
         return [self._sum(choice) for choice in choices]
 
     def _sum(self, moments: Sequence[int]) -> int:
-        return sum(sign * moment for (sign, _), moment in zip(self.times, moments))
+        counted = self.times[0][1].zone.counted
+        return sum(sign * counted(moment) for (sign, _), moment in zip(self.times, moments))
 
     def _ticks(self, length: Fraction) -> int:
         return int((2 * length + self.tick) // (2 * self.tick))

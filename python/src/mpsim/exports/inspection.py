@@ -5,7 +5,7 @@ from __future__ import annotations
 import os
 import re
 from array import array
-from collections.abc import Callable, Iterator, Sequence
+from collections.abc import Callable, Iterator, Mapping, Sequence
 from fractions import Fraction
 from typing import Any, NamedTuple, Optional, Union
 
@@ -18,6 +18,7 @@ from ..times.texts import DAY, HOUR, MINUTE, SECOND, Cache
 from ..times.zones import Zone
 from ..traces.trace import fields_up_to
 from ..wording import counted, quoted
+from .logs import log_options, queue_header
 from .opened import table_in
 from .prepare import FIELD, prepare
 from .streams import Stream
@@ -83,8 +84,11 @@ def inspected(export: Union[str, os.PathLike[str]], **file: Any) -> Inspection:
     try:
         with fields_up_to(FIELD), Stream(export) as stream:
             table = table_in(stream, **{name: value for name, value in file.items() if name != "decimal"})
+            if table.has_header and (header := queue_header(table.header)):
+                file["header"] = header
+                return inspected(export, **file)
             looks = [_Look(name, [row[at] for row in table.sample], decimal) for at, name in enumerate(table.header)]
-            notes = list(table.notes)
+            notes, sample = list(table.notes), table.sample
             notes += _read(table, looks)
     except ValueError as error:
         raise ValueError(f"{os.fspath(export)}: {error}") from None
@@ -93,14 +97,52 @@ def inspected(export: Union[str, os.PathLike[str]], **file: Any) -> Inspection:
     notes += [f"column {column.name!r} can't be told: {column.doubt}" for column in columns if column.doubt]
     options, why = _proposed(looks)
     if options is not None:
-        options, why = _tried(export, {**options, **{name: value for name, value in file.items() if value}})
+        given = {name: value for name, value in file.items() if value}
+        if gathered := _gathered(looks, sample, options):
+            notes.append(_of_units(gathered))
+        first, says = (None, "") if gathered is None else _tried(export, {**gathered, **given})
+        notes += [f"the rows can't be gathered: {says}"] if gathered and first is None else []
+        options, why = (first, says) if first else _tried(export, {**options, **given})
     return Inspection(columns, [*notes, *([f"{'no command can be proposed' if options is None else 'warning'}: {why}"] if why else [])], options)
+
+
+def _gathered(looks: Sequence[_Look], sample: Sequence[Sequence[str]], options: Mapping[str, Any]) -> Optional[dict[str, Any]]:
+    """Returns options that gather the rows of a log into records, made from those for a record per row; None if it isn't a log."""
+    clocks = [(at, look) for at, look in enumerate(looks) if look.name in (options["time"], options.get("date"))]
+    rows, moments = [], []
+    for row in sample:
+        parts = [look.value_of(row[at]) for at, look in clocks]
+        if None not in parts:
+            rows.append(row)
+            moments.append(sum(parts))
+    used = [at for at, look in enumerate(looks) if look.kind in ("time", "date", "time of day", "length") or look.name == options["time"]]
+    found = log_options([look.name for look in looks], rows, moments, used, "demand" in options or "end" in options)
+    if found is None:
+        return None
+    made = {name: options[name] for name in ("time", "date", "format") if name in options}
+    others = {*made.values(), *(value for value in found.values() if isinstance(value, str))}
+    _add_source(made, [look for look in looks if look.kind == "text" and look.name not in others])
+    if "event" in found:
+        return {**made, **found}
+    services = [look for look in looks if look.name + _unit(look) in options.get("demand", [])]
+    demand = [look.name + ("=service" if services[1:] else "") + _unit(look) for look in services]
+    steps = {name: options[name] for name in ("end", "answered", "where") if name in options}
+    return {**made, **found, **({"demand": demand} if demand else {}), **steps}
+
+
+def _of_units(options: Mapping[str, Any]) -> str:
+    """Returns a note on how rows are gathered into records."""
+    per = f"one record per {options['unit']!r}" + (f", one column per {options['steps']!r}" if "steps" in options else "")
+    if "event" not in options:
+        return f"rows look like steps: {per}; without --unit and --steps each row is a record"
+    begins, ends = (" or ".join(options[name]) for name in ("begin-event", "end-event"))
+    return f"rows look like events: {per}; a service begins with {begins} and ends with {ends}"
 
 
 def _tried(export: Union[str, os.PathLike[str]], options: dict[str, Any]) -> tuple[Optional[dict[str, Any]], str]:
     """Returns options of `prepare` as they work on an export, with the rows that may be left out, or None; and what to say about them."""
     try:
-        made = prepare(export, left_out_most="100%", **options)
+        made = prepare(export, left_out_most="100%", **{name.replace("-", "_"): value for name, value in options.items()})
     except ValueError as error:
         return None, str(error)
     left = sum(made.left.values())
@@ -119,12 +161,18 @@ class _Look:
         some = [text.strip() for text in texts if text.strip()]
         self.kind, self.form, self.doubt, self.read = _kind_of(name, some, decimal)
         self.empty, self.filled, self.unread = 0, 0, 0
+        # A day whose format can't be known, and no time of it.
+        self.is_day = bool(self.doubt) and not any(":" in text for text in some)
         self.texts: set[str] = set()
         self.values = array("q")
         self.least: Any = None
         self.greatest: Any = None
         self._seen = Cache(self._value)
         self.example = next((text for text in some if self._seen[text] is not None), some[0] if some else "")
+
+    def value_of(self, text: str) -> Any:
+        """Returns the value of a field; None if it can't be read."""
+        return self._seen[text.strip()]
 
     def _value(self, text: str) -> Any:
         try:
@@ -149,8 +197,12 @@ class _Look:
                 self.least = value
             if self.greatest is None or value > self.greatest:
                 self.greatest = value
-            if self.kind == "time":
+            if self.kind in ("time", "time of day"):
                 self.values.append(value)
+
+    def mean(self) -> float:
+        """Returns the mean of the values that were kept."""
+        return sum(self.values) / len(self.values)
 
     def column(self) -> Column:
         """Returns the Column."""
@@ -251,20 +303,23 @@ def _proposed(looks: Sequence[_Look]) -> tuple[Optional[dict[str, Any]], str]:
     """Returns the options of `prepare` for columns, or None and why there are none."""
     options: dict[str, Any] = {}
     clear = [look for look in looks if look.name and [other.name for other in looks].count(look.name) == 1]
-    times = sorted((look for look in clear if look.kind == "time" and look.values), key=lambda look: sum(look.values) / len(look.values))
-    days, clocks = ([look for look in clear if look.kind == kind] for kind in ("date", "time of day"))
+    times, clocks = (sorted((look for look in clear if look.kind == kind and look.values), key=_Look.mean) for kind in ("time", "time of day"))
+    days, doubts = [look for look in clear if look.kind == "date"], [look for look in looks if look.kind == "unknown" and look.is_day]
     if times:
         options["time"] = times[0].name
+    elif clocks and doubts and not days:
+        return None, f"the day of {clocks[0].name!r} is in {doubts[0].name!r}, whose format can't be told: --date-format"
     elif clocks:
         options["time"] = clocks[0].name
         if days:
             options["date"] = days[0].name
+        times = clocks
     else:
         epochs = ((look, form) for look in clear if look.kind == "number" for form, least, end in _EPOCHS if _is_within(look, least, end))
         look, form = next(epochs, (None, None))
         if look is None:
-            doubts = [look.doubt for look in looks if look.kind == "unknown"]
-            return None, "no column is a time" + (" for sure" if doubts else "; if one has ticks, name it with --time and --format ticks")
+            is_doubtful = any(other.kind == "unknown" for other in looks)
+            return None, "no column is a time" + (" for sure" if is_doubtful else "; if one has ticks, name it with --time and --format ticks")
         options.update({"time": look.name, "format": form})
     used = {options["time"], options.get("date")}
     _add_source(options, [look for look in clear if look.kind == "text" and look.name not in used])

@@ -5,6 +5,7 @@ from __future__ import annotations
 from typing import TYPE_CHECKING
 
 from ..times.texts import given
+from .columnar import Columnar
 from .delimited import Export
 from .fixed import Fixed, widths_in
 from .workbook import Workbook
@@ -23,8 +24,12 @@ def table_in(
     sheet: str | None = None,
     fixed: str | None = None,
 ) -> Table:
-    """Returns the table that a file contains (Export, Fixed or Workbook). The texts are options of `mpplan prepare`. Raises ValueError."""
-    if not stream.is_workbook:
+    """Returns the table that a file contains (Export, Fixed, Workbook or Columnar). The texts are options of `mpplan prepare`. Raises ValueError."""
+    if stream.form in ("parquet", "arrow"):
+        if encoding or delimiter or fixed or sheet is not None or skip or header is not None:
+            raise ValueError("--encoding, --delimiter, --fixed, --sheet, --skip and --header can't be used with a Parquet or Arrow file")
+        return Columnar(stream)
+    if stream.form == "text":
         if sheet is not None:
             raise ValueError(f"--sheet {sheet}: this isn't a spreadsheet")
         if fixed is None:

@@ -8,37 +8,40 @@ from difflib import get_close_matches
 from itertools import islice
 from typing import TYPE_CHECKING
 
-from ..limits import GREATEST_VALUE
+from ..limits import COLUMNS, GREATEST_VALUE
 from ..model import columns, sources
 from ..names import TAKEN, is_name, name_for
+from ..times.calendar import working_in
 from ..times.formats import found_format, judged_format
 from ..times.lengths import Lengths, found_decimal
 from ..times.moments import Moments
 from ..times.texts import clock, given, iso, length
+from ..times.working import WorkingTime, openings_in, read_openings
 from ..times.zones import Zone
 from ..wording import listed
 from .codes import codes_in
 from .conditions import parsed
-from .events import BEGIN, OPTIONS, Log, found_units
+from .events import BEGIN, OPTIONS, Log
 from .events import END as ENDS
 from .expressions import Expression, terms
+from .logs import found_units
 from .records import Dates, Numbers, Records, Times
+from .renames import rename_of
 from .values import ABANDONED, WAIT, Abandoned, Code, Constant, Demand, End, Sum, Wait
 
 if TYPE_CHECKING:
     from collections.abc import Iterable, Mapping, Sequence
     from typing import Union
 
+    from ..shapes import Path
     from .conditions import Condition
     from .events import Kind
     from .table import Table
 
     Column = Union[Demand, Sum, End, Expression, Constant, Code, Wait, Abandoned, Kind]
 
-# The most columns of a trace.
-COLUMNS = 16
-# The most sources listed in a message; a wrong column may have one per row.
-LISTED = 20
+# What becomes of jobs that arrive outside of working time, the default first.
+OUTSIDE = "move", "refuse"
 
 
 class Plan:
@@ -59,6 +62,20 @@ class Plan:
         self.gone = []
         self.known, self.log, self.is_ragged = codes_in(model or ""), None, False
         self._sample = export.sample
+
+    def working(self, calendar: Path | None, outside: str | None) -> None:
+        """Sets which time counts, by the calendar at a path, or else by that of the model; and what becomes of jobs that arrive outside of it: "move"
+        (to the next opening) or "refuse"."""
+        if outside not in (None, *OUTSIDE):
+            raise ValueError(f"--outside {outside}: expected one of {', '.join(OUTSIDE)}")
+        said = working_in(self.model or "")
+        openings = read_openings(calendar) if calendar is not None else openings_in(said) if said else None
+        if openings:
+            self.place.working = WorkingTime(openings, self.place)
+            self.notes += [] if calendar is not None else ["working time is that of the model"]
+        elif outside:
+            raise ValueError("--outside requires --calendar, or a model with working time")
+        self.outside = outside or OUTSIDE[0]
 
     def where(self, words: Iterable[str]) -> None:
         """Sets the conditions on rows. Formats are then detected from the rows that meet them."""
@@ -118,6 +135,9 @@ class Plan:
         self.has_day, self.is_ticks = not how.is_of_day or dates is not None, how.form == "ticks"
         if self.place.name and (self.is_ticks or not self.has_day):
             raise ValueError(f"column {time!r} has {'ticks' if self.is_ticks else 'no day'}, so --zone can't be used")
+        if self.place.working and (self.is_ticks or not self.has_day):
+            has = "ticks" if self.is_ticks else "no day"
+            raise ValueError(f"column {time!r} has {has}, so working time can't be counted: give --date, or a --model without working time")
         if date_format and not date:
             raise ValueError("--date-format requires --date")
         self.time = Times(column, how, self.place, dates)
@@ -315,7 +335,7 @@ class Plan:
         column: int | None = None
         only: str | None = source or "jobs"
         renamed: dict[str, str] = {}
-        for old, new in map(_renamed, rename):
+        for old, new in map(rename_of, rename):
             if old in renamed:
                 raise ValueError(f"--rename {old} is given twice")
             renamed[old] = new
@@ -374,25 +394,3 @@ class Plan:
             return given(option, clock, text)
         wall, offset = given(option, iso, text)
         return wall - offset if offset is not None else self.place.first(wall)
-
-    def judge_renames(self) -> list[str]:
-        """Checks the names given with --rename once all rows are read; names of sources whose rows were all left out are valid too. Returns a note
-        (str) for each name that no row has, since a list of names may cover many days. Raises ValueError if no row has any of them."""
-        if self.records.renamed.keys() <= self.records.names.keys():
-            return []
-        column = self.records.source
-        found = dict.fromkeys(row[column].strip() for row in self.export.rows()[0] if column < len(row)) if column is not None else {}
-        lacking = [old for old in self.records.renamed if old not in found]
-        if len(lacking) < len(self.records.renamed):
-            return [f"no source {old!r} for --rename" for old in lacking]
-        listed = [repr(item) for item in found if item]
-        more = f" and {len(listed) - LISTED} more" if listed[LISTED:] else ""
-        raise ValueError(f"no source {lacking[0]!r} for --rename; it has {', '.join(listed[:LISTED]) or 'none'}{more}")
-
-
-def _renamed(word: str) -> tuple[str, str]:
-    old, equals, new = word.rpartition("=")
-    if not equals or not is_name(new):
-        why = "is a lower-case letter, then lower-case letters, digits and underscores, at most 32" if new not in TAKEN else "isn't reserved"
-        raise ValueError(f"--rename {word}: expected OLD=NEW, where NEW {why}")
-    return old.strip(), new

@@ -9,28 +9,29 @@ from operator import eq, gt
 from typing import TYPE_CHECKING, NamedTuple
 
 from ..names import is_like, name_for
-from ..times.calendar import Calendar, length_text, settings_in, tick_of
-from ..times.texts import HOUR, SECOND, given
+from ..times.calendar import Calendar, length_text, settings_in, tick_of, working_in
+from ..times.texts import SECOND, given
 from ..times.zones import Zone
 from ..traces.trace import fields_up_to
 from ..wording import counted
-from .arrivals import judge_far, ticks
+from .arrivals import judge_far, outside_notes, ticks
 from .delimited import LINES
 from .events import EVENTS, Units
-from .expressions import Expression
 from .opened import table_in
+from .notes import note_values
 from .parts import Parts
 from .plan import Plan
+from .renames import judge_renames
 from .result import Prepared
 from .rows import Rows, TooManyLeft
 from .streams import Stream
-from .values import Abandoned, Code, Demand, End, Sum
 
 if TYPE_CHECKING:
-    from collections.abc import Collection, Iterable, Iterator, Sequence
+    from collections.abc import Collection, Iterable, Iterator, Mapping, Sequence
     from typing import TextIO
 
     from ..shapes import Path
+    from .events import Passage
     from .records import Records
     from .table import Table
 
@@ -84,6 +85,8 @@ class _Words(NamedTuple):
     end_event: str | Iterable[str]
     abandon_event: str | Iterable[str]
     route: str | None
+    calendar: Path | None
+    outside: str | None
 
 
 def prepare(
@@ -131,12 +134,14 @@ def prepare(
     end_event: str | Iterable[str] = (),
     abandon_event: str | Iterable[str] = (),
     route: str | None = None,
+    calendar: Path | None = None,
+    outside: str | None = None,
 ) -> Prepared:
     """Returns the trace (Prepared) made from an export, which is a path or bytes.
 
     The other arguments are the options of `mpplan prepare`, as texts, or lists of texts for those that may be repeated, except that `begins` is
     --from, `day` is a list of three, `model` is the text of a model, `left_out` is an open file for the rows left out, and `far` is a bool. Raises
-    OSError if the export can't be read, and ValueError for an invalid option, if another is needed, or if too few rows are left.
+    OSError if the export or the calendar can't be read, and ValueError for an invalid option, if another is needed, or if too few rows are left.
 
     >>> export = b"When;Who;Long\\n02.03.2026 08:00:17;Desk;1,5\\n02.03.2026 08:00:05;Desk;0,5\\n"
     >>> trace = prepare(export, "When", source="Who", demand="Long=talk:min")
@@ -164,11 +169,45 @@ def prepare_parts(export: Path | bytes | bytearray, time: str, by: str, **option
     >>> [(name, list(made.rows())) for name, made in prepare_parts(export, "When", "month", demand=["Long=talk"])]
     [('2026-03', [('jobs', 0, 60)]), ('2026-04', [('jobs', 5, 90)])]
     """
+    return _made(by, _words(export, time, options, "prepare_parts"))
+
+
+def passages(export: Path | bytes | bytearray, time: str, **options: object) -> tuple[list[Passage], Zone, list[str]]:
+    """Returns how the units of an event log passed its stations (list of Passage), the Zone of their times, and notes (list of str).
+
+    The arguments and the errors are those of `prepare`, with `unit`.
+
+    >>> log = b"when,id,what\\n2026-03-02 08:00:10,a,on\\n2026-03-02 08:00:30,a,off\\n"
+    >>> (found,), _, _ = passages(log, "when", unit="id", begin_event="on", end_event="off")
+    >>> [(name, (begin - found.arrival) // 10**9, (end - begin) // 10**9) for name, begin, end in found.visits]
+    [('service', 0, 20)]
+    """
+    words = _words(export, time, options, "passages")
+    name = "the export" if isinstance(words.export, (bytes, bytearray)) else os.fspath(words.export)
+    try:
+        with fields_up_to(FIELD), Stream(words.export) as stream:
+            table = table_in(stream, words.encoding, words.delimiter, words.skip, words.header, words.sheet, words.fixed)
+            plan = _planned(table, Zone(words.zone, words.twice), _tick(words.tick, words.model), words)
+            if plan.log is None:
+                raise ValueError("it isn't read as an event log: give unit, steps and the events")
+            plan.log.keeps = True
+            events, most = Rows(plan, words.left_out, EVENTS), given("--left-out-most", percent, words.left_out_most)
+            events.read()
+            units = Units(plan, plan.log, events)
+            units.judge_left(most)
+            left = [f"{counted(count, 'unit')} left out: {why}" for why, (count, _) in units.left.items()]
+            return list(units.passages()), plan.place, [*plan.warned, *left]
+    except ValueError as error:
+        raise (TooManyLeft if isinstance(error, TooManyLeft) else ValueError)(f"{name}: {error}") from None
+
+
+def _words(export: Path | bytes | bytearray, time: str, options: Mapping[str, object], caller: str) -> _Words:
+    """Returns the arguments of `prepare`, of which some are given. Raises TypeError, as a call of `caller`, for one that it doesn't have."""
     defaults = prepare.__kwdefaults__
     for name in options.keys() - defaults.keys():
-        raise TypeError(f"prepare_parts() got an unexpected argument {name!r}")
+        raise TypeError(f"{caller}() got an unexpected argument {name!r}")
     words: dict[str, object] = {**defaults, **options, "export": export, "time": time}
-    return _made(by, _Words._make(map(words.__getitem__, _Words._fields)))
+    return _Words._make(map(words.__getitem__, _Words._fields))
 
 
 def _made(by: str | None, words: _Words) -> Iterator[tuple[str, Prepared]]:
@@ -185,7 +224,7 @@ def _made(by: str | None, words: _Words) -> Iterator[tuple[str, Prepared]]:
                 return
             rows = Rows(plan, words.left_out, EVENTS if plan.log else None)
             rows.read()
-            unnamed = plan.judge_renames()
+            unnamed = judge_renames(plan.records, plan.export.rows()[0])
             rows.judge_left(most)
             repeats, read = _judge_repeats(rows, words.duplicates), [rows]
             if plan.log:
@@ -211,7 +250,7 @@ def _in_parts(plan: Plan, by: str, most: float, words: _Words) -> Iterator[tuple
         raise ValueError("--split-by can't be used with --unit: choose units by their arrivals with --from and --until")
     with Parts(plan, by, words.left_out) as rows:
         rows.read()
-        unnamed = plan.judge_renames()
+        unnamed = judge_renames(plan.records, plan.export.rows()[0])
         rows.judge(most, words.far)
         for part in rows.parts():
             made = _finished(plan, part, words.begin, _judge_repeats(part, words.duplicates), words.duplicates)
@@ -225,6 +264,7 @@ def _in_parts(plan: Plan, by: str, most: float, words: _Words) -> Iterator[tuple
 def _planned(table: Table, place: Zone, per: int, words: _Words) -> Plan:
     """Returns the Plan for a table."""
     plan = Plan(table, place, per, words.format, words.decimal, words.model)
+    plan.working(words.calendar, words.outside)
     plan.where(_each(words.where))
     plan.times(words.time, words.date, words.date_format, words.day, _each(words.answered))
     plan.values(_each(words.demand), _each(words.end), _each(words.constant), _each(words.code), words.empty)
@@ -264,12 +304,14 @@ def percent(text: str) -> float:
 def _finished(plan: Plan, rows: Rows, begin: str, repeats: str | None, duplicates: str | None) -> Prepared:
     """Returns the trace made from the rows read. `repeats` is a note on rows that repeat an earlier one, or None."""
     made = Prepared(["source", "time", *(column.name for column in rows.columns)], _order(plan, rows.sources), plan.per, plan.place.name)
+    made.working = str(plan.place.working) if plan.place.working else None
     made.told += [*plan.notes, *([repeats] if duplicates and repeats else [])]
     made.warned += [*plan.warned, *([repeats] if repeats and not duplicates else [])]
-    at = ticks(plan, rows.stamps, begin, made)
+    at = ticks(plan, rows, begin, made)
     made.told += plan.place.notes()
     _judge_zero(plan, made)
-    _note_values(plan, rows, made)
+    made.warned += outside_notes(plan)
+    note_values(plan, rows, made)
     made.texts = {new: old for old, new in plan.records.names.items() if new in made.names and not is_like(old, new)}
     made.told += [f"source {old!r} is called {new}" for old, new in plan.records.names.items() if old != new and new in made.names]
     made.warned += _alike(plan.records, made.names)
@@ -325,49 +367,11 @@ def _judge_zero(plan: Plan, made: Prepared) -> None:
     if plan.is_ticks or not start:
         return
     said, this = ((at and Calendar(plan.per, at, name).begin, name) for at, name in ((start, zone), (made.zero, made.zone)))
+    if made.working != (counts := working_in(plan.model or "")):
+        made.unlike.append(f"working time is {made.working}, but in the model it is {counts or 'all hours'}")
     if said != this:
         first, second = (f"{at or 'without a day'}{f' in {name}' if name else ''}" for at, name in ((made.zero, made.zone), (start, zone)))
         made.unlike.append(f"time 0 is {first}, but in the model, which hours, days and pages use, it is {second}")
-
-
-def _note_values(plan: Plan, rows: Rows, made: Prepared) -> None:
-    gone = sum(values.count(1) for it, values in zip(rows.columns, rows.values) if isinstance(it, Abandoned))
-    made.told += [f"{counted(gone, 'job')} that gave up"] if gone else []
-    served = plan.records.served
-    made.warned += [f"{counted(served, 'service')} above 0 of jobs that gave up: taken as 0"] if served else []
-    for it, values in zip(rows.columns, rows.values):
-        if isinstance(it, (Demand, Sum, End, Expression)) and (zeros := values.count(0) - gone):
-            name = plan.export.header[it.column]
-            keeps = "" if gone else f", --abandoned '{name}<=0' keeps them as jobs that gave up"
-            where = f": --where '{name}>0' leaves them out{keeps}" if isinstance(it, Demand) else ""
-            made.told.append(f"{it.name}: {counted(zeros, 'service')} of 0 ticks{where}")
-        if isinstance(it, (Demand, Sum, Expression)) and it.rounded:
-            made.told.append(f"{it.name}: {counted(it.rounded, 'different value')} between two ticks, rounded to the nearest")
-        elif isinstance(it, Code):
-            made.codes[it.name] = it.codes
-            made.told.append(f"{it.name}: " + _codes_text(it.codes.items()))
-            made.warned += _code_warnings(it)
-            if plan.model is not None and it.known is None:
-                made.unlike.append(f"{it.name}: the model doesn't say which word has which number, so another export may number them differently")
-        if not plan.is_ticks and any(isinstance(part, End) or getattr(part, "times", None) for part in getattr(it, "parts", [it])):
-            over = sum(value > 12 * HOUR // plan.per for value in values)
-            if over:
-                made.warned.append(f"{it.name}: {counted(over, 'service')} longer than 12 hours")
-
-
-def _codes_text(codes: Iterable[tuple[str, int]]) -> str:
-    """Lists the first few words and their numbers."""
-    return ", ".join(f"{number} is {word!r}" for word, number in islice(codes, LINES))
-
-
-def _code_warnings(column: Code) -> Iterator[str]:
-    """Yields warnings about a column of words (Code)."""
-    new = [item for item in column.codes.items() if column.known is not None and item[0] not in column.known]
-    if new:
-        yield f"{column.name}: the model has no number for {counted(len(new), 'word')}: {_codes_text(new)}"
-    count = len(set(column.codes.values()))
-    if count > 8:
-        yield f"{column.name} has {count:,} values, but a split by remainder has at most 8 outputs"
 
 
 def _sort(made: Prepared, rows: Rows, ticks: array[int]) -> None:

@@ -126,8 +126,9 @@ class Times:
             moment = than - 1
         return moment if moment >= than else self.zone.utc(midnight + DAY + value, self._seen, than)
 
-    def many_later(self, columns: Sequence[Sequence[str]], than: Sequence[int]) -> list[int]:
-        """Returns the moments (list of int) of rows, given as columns, at or after other ones. Raises Unread if one needs individual treatment."""
+    def many_later(self, columns: Sequence[Sequence[str]], than: Sequence[int]) -> Sequence[int]:
+        """Returns the moments (list or array of int) of rows, given as columns, at or after other ones. Raises Unread if one needs individual
+        treatment."""
         found = self.how.many(columns[self.column])
         if any(map(gt, than, found)):
             raise Unread("one by one")

@@ -6,7 +6,7 @@ from array import array
 from itertools import chain
 from typing import TYPE_CHECKING
 
-from ..times.calendar import first_lines, with_settings
+from ..times.calendar import first_lines, with_settings, with_working, working_line
 from ..wording import table_of
 from .codes import line_of, with_codes, word_of
 
@@ -25,7 +25,8 @@ class Prepared:
     `header` (list of str) has the column names; `sources` (list of str), `times` (array of int, ticks) and `values` (list of arrays of int) are the
     records in output order; `names` are the sources in the order of the model. `told` and `warned` (lists of str) say what was done, `unlike` (list
     of str) where the first lines of the model differ from those of this trace, and `left` (dict) how many rows were left out, by reason. `tick` (int,
-    nanoseconds), `zero` (ISO 8601 text or None) and `zone` (str or None) define the ticks; `codes` has the number of each word by column (dict of
+    nanoseconds), `zero` (ISO 8601 text or None), `zone` (str or None) and `working` (text of openings, or None if all hours count) define the ticks;
+    `codes` has the number of each word by column (dict of
     dicts), `texts` the text of each source whose name doesn't show it (dict)."""
 
     codes: dict[str, dict[str, int]]
@@ -36,6 +37,7 @@ class Prepared:
     left: dict[str, int]
     texts: dict[str, str]
     zero: str | None
+    working: str | None
     times: array[int]
     values: list[array[int]]
 
@@ -43,6 +45,7 @@ class Prepared:
         self.header, self.names, self.tick, self.zone, self.codes = header, names, tick, zone, {}
         self.sources, self.times, self.values = [], array("q"), [array("q") for _ in header[2:]]
         self.told, self.warned, self.unlike, self.left, self.texts, self.zero = [], [], [], {}, {}, None
+        self.working = None
 
     def __repr__(self) -> str:
         return f"<Prepared of {len(self)} records, columns {', '.join(self.header)}>"
@@ -72,14 +75,16 @@ class Prepared:
             yield text
 
     def first_lines(self) -> str:
-        """Returns the first lines of a model for this trace. `mpplan days`, `hours` and others take the tick and time 0 from them, the next
-        `prepare` the codes."""
+        """Returns the first lines of a model for this trace. `mpplan days`, `hours` and others take the tick, time 0 and working time from them,
+        the next `prepare` the codes."""
         codes = [f"# {name} is {word_of(text)}" for name, text in self.texts.items()] + [line_of(*item) for item in self.codes.items()]
-        return first_lines(self.tick, self.zero, self.zone, self.header[2:], self.names, filter(None, codes))
+        working = [working_line(self.working)] if self.working else []
+        return first_lines(self.tick, self.zero, self.zone, self.header[2:], self.names, [*working, *filter(None, codes)])
 
     def model(self, text: str) -> str:
         """Returns a model's text with the tick, time 0 and codes of this trace in its first lines."""
         text = with_settings(text, self.tick, self.zero, self.zone)
+        text = with_working(text, self.working) if self.working else text
         for name, codes in self.codes.items():
             text = with_codes(text, name, codes)
         return text

@@ -160,7 +160,7 @@ class Rows:
         lists: list[Any] = [self.sources, self.stamps, *self.values]
         for column, more in zip(lists, columns):
             column.extend(more)
-        self._hashes.extend(hash(tuple(row)) for row in rows)
+        self._hashes.extend([hash(tuple(row)) for row in rows])
         if len(self.stamps) > self._most:
             what, cut = ("records, the limit of a trace", ", or cut it with --split-by month") if self.plan.log is None else ("events", "")
             raise ValueError(f"more than {self._most:,} {what}: choose a part with --from, --until or --where{cut}")

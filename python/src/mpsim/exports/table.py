@@ -9,7 +9,7 @@ from typing import TYPE_CHECKING
 from ..wording import listed, quoted
 
 if TYPE_CHECKING:
-    from collections.abc import Iterable, Sequence
+    from collections.abc import Iterable, Iterator, Sequence
 
     from ..shapes import Reader
 
@@ -72,3 +72,18 @@ class Table:
                 return self.column(column), found[1], found[2] or None
         name = re.split("[=:]", word)[0]
         raise ValueError(f"no column {quoted(name)}; it has {listed(self.header)}{self._hint(name)}")
+
+
+class Counted:
+    """An iterator of rows that counts them, as a CSV reader counts lines."""
+
+    def __init__(self, rows: Iterator[list[str]]) -> None:
+        self._rows, self.line_num = rows, 0
+
+    def __iter__(self) -> Counted:
+        return self
+
+    def __next__(self) -> list[str]:
+        row = next(self._rows)
+        self.line_num += 1
+        return row

@@ -24,8 +24,8 @@ WAIT, ABANDONED = "wait", "abandoned"
 
 
 def other_length(zone: Zone, begin: int, end: int) -> int | None:
-    """Returns the nanoseconds (int) between two moments if they would be fewer with one of them in the other of two hours that the clock of a Zone
-    shows alike; None if they wouldn't, or if the order of the rows says which hour it is.
+    """Returns the nanoseconds (int) that count between two moments if they would be fewer with one of them in the other of two hours that the clock
+    of a Zone shows alike; None if they wouldn't, or if the order of the rows says which hour it is.
 
     >>> from mpsim.times.zones import Zone
     >>> other_length(Zone("Europe/Berlin", "first"), 1792889700 * 10**9, 1792894080 * 10**9) // 10**9
@@ -33,8 +33,9 @@ def other_length(zone: Zone, begin: int, end: int) -> int | None:
     """
     if not zone.name or end - begin < REPEATED or zone.twice not in ("first", "second"):
         return None
-    least = min(last - first for first in zone.both(begin) for last in zone.both(end) if first <= last)
-    return least if least < end - begin else None
+    counted = zone.counted
+    least = min(counted(last) - counted(first) for first in zone.both(begin) for last in zone.both(end) if first <= last)
+    return least if least < counted(end) - counted(begin) else None
 
 
 class Demand:
@@ -116,9 +117,9 @@ class End:
             raise Unread("before the service begins")
         least = other_length(self.times.zone, begin, end)
         if least is not None:
-            lengths = f"{self._ticks(least)} or {self._ticks(end - begin)} ticks"
+            lengths = f"{self._ticks(least)} or {self._ticks(self.times.zone.length(begin, end))} ticks"
             raise Asks(f"the service is {lengths} long, since an hour occurs twice: give --twice order, for rows in order of --time or of --end")
-        return self._ticks(end - begin)
+        return self._ticks(self.times.zone.length(begin, end))
 
     def _ticks(self, length: int) -> int:
         ticks = (2 * length + self.tick) // (2 * self.tick)
@@ -130,8 +131,9 @@ class End:
         """Returns the ticks (list of int) of rows, given as columns. Raises Unread if one needs individual treatment."""
         if self.empty is not None:
             raise Unread("one by one")
-        lengths = list(map(sub, self.times.many_later(columns, begun[self.begin]), begun[self.begin]))
-        is_doubtful = self.times.zone.twice in ("first", "second") and max(lengths) >= REPEATED
+        ends, zone = self.times.many_later(columns, begun[self.begin]), self.times.zone
+        lengths = list(map(zone.length, begun[self.begin], ends)) if zone.working else list(map(sub, ends, begun[self.begin]))
+        is_doubtful = zone.twice in ("first", "second") and (zone.working is not None or max(lengths) >= REPEATED)
         if is_doubtful or max(lengths) >= GREATEST_VALUE * self.tick:
             raise Unread("one by one")
         double, half = 2 * self.tick, self.tick

@@ -3,14 +3,16 @@
 from __future__ import annotations
 
 import contextlib
-from datetime import date, datetime, time, timedelta
+from datetime import datetime
 from itertools import islice
 from typing import TYPE_CHECKING
 
-from .table import Table
+from .cells import text_of
+from .table import Counted, Table
 
 if TYPE_CHECKING:
     from collections.abc import Iterator
+    from typing import Any
 
     from ..shapes import Reader
     from .streams import Stream
@@ -52,7 +54,7 @@ class Workbook(Table):
     def _all(self) -> Iterator[list[str]]:
         """Yields the rows after those to skip as texts, without empty cells at their end beyond the header."""
         for row in self._sheet.iter_rows(min_row=self._skip + 1, values_only=True):
-            yield list(map(text_of, row))
+            yield list(map(_text_of, row))
 
     @property
     def size(self) -> int:
@@ -64,7 +66,7 @@ class Workbook(Table):
         rows, width = self._all(), len(self.header)
         if self.has_header:
             next(rows, None)
-        return _Counted(_fitted(row, width) for row in rows), self._skip + 1 + self.has_header
+        return Counted(_fitted(row, width) for row in rows), self._skip + 1 + self.has_header
 
 
 @contextlib.contextmanager
@@ -72,12 +74,14 @@ def _unsized() -> Iterator[None]:
     """Keeps openpyxl, within the block, from reading each sheet that doesn't begin with its size to its end: the size isn't used."""
     from openpyxl.worksheet._read_only import ReadOnlyWorksheet
 
-    before = ReadOnlyWorksheet._get_size
-    ReadOnlyWorksheet._get_size = lambda _: None
+    # Type stubs of openpyxl don't have this method.
+    sheets: Any = ReadOnlyWorksheet
+    before = sheets._get_size
+    sheets._get_size = lambda _: None
     try:
         yield
     finally:
-        ReadOnlyWorksheet._get_size = before
+        sheets._get_size = before
 
 
 def _fitted(row: list[str], width: int) -> list[str]:
@@ -87,48 +91,6 @@ def _fitted(row: list[str], width: int) -> list[str]:
     return row + [""] * (width - len(row)) if row else row
 
 
-class _Counted:
-    """An iterator of rows that counts them, as a CSV reader counts lines."""
-
-    def __init__(self, rows: Iterator[list[str]]) -> None:
-        self._rows, self.line_num = rows, 0
-
-    def __iter__(self) -> _Counted:
-        return self
-
-    def __next__(self) -> list[str]:
-        row = next(self._rows)
-        self.line_num += 1
-        return row
-
-
-def text_of(value: object) -> str:
-    """Returns the text of a cell.
-
-    >>> text_of(datetime(2026, 3, 2, 8, 0, 17)), text_of(timedelta(seconds=3725)), text_of(3.0), text_of(None)
-    ('2026-03-02T08:00:17', '1:02:05', '3', '')
-    """
-    if value is None:
-        return ""
-    if isinstance(value, datetime) and value < MARCH:
-        value -= DAY_0
-    if isinstance(value, (datetime, date, time)):
-        return value.isoformat()
-    if isinstance(value, timedelta):
-        seconds, rest = divmod(value // timedelta(microseconds=1), 10**6)
-        return f"{seconds // 3600}:{seconds // 60 % 60:02}:{seconds % 60:02}" + (f".{rest:06}" if rest else "")
-    if isinstance(value, float):
-        return str(int(value)) if value.is_integer() and abs(value) < 1 << 53 else _number_text(repr(value))
-    return str(value)
-
-
-def _number_text(text: str) -> str:
-    """Returns the text of a number with a fraction, which can't be mistaken for thousands, nor for a rounded number if it is small.
-
-    >>> _number_text("1.125"), _number_text("1.5e-05")
-    ('1.1250', '0.000015')
-    """
-    digits, _, power = text.partition("e-")
-    if power:
-        return f"{float(text):.{len(digits.partition('.')[2]) + int(power)}f}"
-    return text + "0" * (text[-4:-3] == ".")
+def _text_of(value: object) -> str:
+    """Returns the text of a cell."""
+    return text_of(value - DAY_0 if isinstance(value, datetime) and value < MARCH else value)

@@ -6,7 +6,7 @@ from datetime import datetime, timedelta
 from typing import TYPE_CHECKING, NamedTuple, Optional, Union, cast
 
 from ..model import columns as columns_named, nodes_of
-from ..times.calendar import length_text, settings_in, tick_of
+from ..times.calendar import length_text, settings_in, tick_of, working_in
 from ..times.texts import HOUR, SECOND, UNITS, at_utc, given, iso, nanos
 from .columns import Column, is_missing
 
@@ -31,6 +31,9 @@ def in_ticks(columns: Mapping[str, Column], text: str, clock: Clock) -> dict[str
     kinds = {column.kind for column in columns.values()}
     if kinds <= {"other"}:
         return {name: column.values for name, column in columns.items()}
+    if columns["time"].kind == "moment" and (working := working_in(text)):
+        use = "make the trace with mpsim.exports.prepare, or give times in ticks"
+        raise ValueError(f"the model counts working time ({working}), which dates in 'time' can't be turned into: {use}")
     per = _tick(columns, text, clock)
     zero = _zero(columns["time"], text, clock) if columns["time"].kind == "moment" else 0
     found = {}

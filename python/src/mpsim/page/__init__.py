@@ -10,35 +10,42 @@ from typing import TYPE_CHECKING
 
 from ..agents.pools import beside_pools, pool_lines
 from ..files import written
+from ..times.texts import DAY, SECOND
 from .colours import in_light, style
 from .flows import flows
 from .network import arguments_of, network, network_of_model, nodes_that_are_drawn
-from .pictures import NUMBERS, pictures_of
+from .pictures import NUMBERS, pictures_of, stays_of
 from .parts import part, policy, shown_text
+from .stations import intervals_for, station_names, stations_of
 from .tables import columns_of, exits_table, facts, legend, nodes_table
+from .units import units_of, visits_for
 
 if TYPE_CHECKING:
-    from collections.abc import Iterable, Sequence
+    from collections.abc import Iterable, Mapping, Sequence
     from datetime import datetime
     from fractions import Fraction
 
     from ..lines import Node
+    from ..node_visits import NodeVisits
     from ..report import Report
     from ..shapes import Path
+    from ..times.calendar import Calendar
     from .tables import Column
 
-SCRIPTS = "figures.js", "pictures.js", "page.js"
+SCRIPTS = "figures.js", "pictures.js", "stations.js", "units.js", "page.js"
 
 
 def _first_node(nodes: Sequence[Node]) -> str:
-    """Returns the node to select first: the one with waits and the longest p90, else the busiest, or one with servers."""
-    return max(nodes, key=lambda item: (item.p90 or 0, item.max or 0, item.lost, item.util or 0, item.util is not None)).name
+    """Returns the node to select first: the one with the greatest utilisation, else the one with the longest waits."""
+    return max(nodes, key=lambda item: (item.util or 0, item.util is not None, item.p90 or 0, item.max or 0, item.lost)).name
 
 
 def _exact(value: object) -> object:
-    """Returns a figure for the script; as text if a double can't hold it."""
-    if isinstance(value, list):
+    """Returns figures for the script; as text if a double can't hold them."""
+    if isinstance(value, (list, tuple)):
         return [_exact(item) for item in value]
+    if isinstance(value, dict):
+        return {name: _exact(item) for name, item in value.items()}
     return str(value) if isinstance(value, int) and value >= 1 << 53 else value
 
 
@@ -56,12 +63,14 @@ def _data(
     start: datetime | None,
     chosen: str,
     within: int | None,
+    working: Calendar | None,
+    hour: int | None,
 ) -> dict[str, object]:
     """Returns the script's data: the figures and charts of the nodes of each run (`lines`, lists of Node), in the order of the columns, and the node
-    to select first. `labels` are lists of texts."""
+    to select first. `labels` are lists of texts; `working` is the Calendar of working time, or None."""
     runs = []
-    for label, report, mine in zip(labels, reports, lines):
-        nodes = nodes_that_are_drawn(report)
+    for number, (label, report, mine) in enumerate(zip(labels, reports, lines)):
+        nodes, stays = nodes_that_are_drawn(report), stays_of(report, mine)
         runs.append(
             {
                 "label": ", ".join(label),
@@ -70,12 +79,10 @@ def _data(
                 "span": report.span,
                 "kinds": {item.name: item.kind for item in mine},
                 "nodes": {item.name: _exact([column.of(report, item) for column in columns]) for item in mine},
-                "pictures": {
-                    node: {picture: {name: _exact(it) for name, it in parts.items()} for picture, parts in both.items()}
-                    for node, both in pictures_of(report, mine, NUMBERS // len(reports), tick).items()
-                },
+                "pictures": _exact(pictures_of(mine, stays, report.span, NUMBERS // len(reports), tick)),
                 "asked": {node.name: arguments_of(node) for node in nodes},
                 "flows": {f"{name}.{output}": count for (name, output), count in flows(nodes, report).items()},
+                **_over_time(report, stays, number, len(reports), tick, start, hour),
             }
         )
     return {
@@ -86,6 +93,35 @@ def _data(
         "tick": None if tick is None else float(tick),
         "date": start and start.date().isoformat(),
         "start": start.hour * 3600 + start.minute * 60 + start.second if start else 0,
+        **({"working": _stretches(working, max(report.span for report in reports))} if working else {}),
+    }
+
+
+def _stretches(days: Calendar, last: int) -> list[list[int]]:
+    """Returns the stretches of working time up to a tick: the first tick of each, and its wall-clock time in seconds after the midnight before time
+    0."""
+    midnight = days.wall(0) // DAY * DAY
+    return [[tick, (wall - midnight) // SECOND] for tick, wall in days.stretches(last)]
+
+
+def _over_time(
+    report: Report,
+    stays: Mapping[str, NodeVisits],
+    number: int,
+    runs: int,
+    tick: float | Fraction | None,
+    start: datetime | None,
+    hour: int | None,
+) -> dict[str, object]:
+    """Returns the stations over time and the units of a run by its number; False each for a run past those that a page has room for, and None if
+    there is nothing to show."""
+    stations = {name: stays[name] for name in station_names(report, stays)}
+    count, with_stations = intervals_for(len(stations), runs)
+    visits, with_units = visits_for(runs)
+    return {
+        "has": report.has_visits,
+        "line": number < with_stations and _exact(stations_of(report, stations, count, tick)),
+        "units": number < with_units and _exact(units_of(report, stations, visits, tick, start, hour)),
     }
 
 
@@ -100,6 +136,8 @@ def page(
     tick: float | Fraction | None = None,
     start: datetime | None = None,
     within: int | None = None,
+    working: Calendar | None = None,
+    hour: int | None = None,
 ) -> str:
     """Returns the page (str) of a report, or of several side by side, under their labels (by default 1, 2 and so on). The network and the rows of the
     tables are those of the first; figures follow the selected run. A pool is one node: the figures under its name are those of the whole. If all
@@ -107,8 +145,9 @@ def page(
     each combination of the others.
 
     With `tick`, the seconds per tick (a number), axes show times of day; with `start`, the local datetime of time 0, also dates. With `within` (int,
-    ticks), the share of all arrivals served within that time becomes a figure; each report then needs its visits. Raises ValueError if there is no
-    report.
+    ticks), the share of all arrivals served within that time becomes a figure; each report then needs its visits. With `working`, a Calendar whose
+    ticks count working time, times of day are those of its clock. With `hour` (int, ticks), the page shows the single jobs of the hour that begins
+    then, instead of the one in which most jobs come. Raises ValueError if there is no report.
     """
     reports = list(reports)
     if not reports:
@@ -119,7 +158,7 @@ def page(
     title = shown_text(title or (f"{len(reports)} runs" if is_several else "Run"))
     columns, lines = columns_of(reports, within), [beside_pools(report) for report in reports]
     chosen = _first_node(lines[0])
-    data = _data(reports, lines, parts, columns, tick, start, chosen, within)
+    data = _data(reports, lines, parts, columns, tick, start, chosen, within, working, hour)
     script = "(() => {\n'use strict';\n" + "".join(map(part, SCRIPTS)) + "})();\n"
     svg = network(first, lines[0], chosen)
     return Template(part("page.html")).substitute(
@@ -131,6 +170,8 @@ def page(
         runs=f'<label>Run <select id="run">{_options(names)}</select></label>' if is_several else "",
         network=Template(part("network.html")).substitute(legend=legend(), svg=svg) if svg else "",
         compared=part("compared.html") if is_several else "",
+        stations=part("stations.html") if any(report.has_visits for report in reports) else "",
+        units=part("units.html") if any(report.has_visits for report in reports) else "",
         nodes=_options([line.name for line in lines[0]], chosen),
         tables=nodes_table(first, lines[0], columns),
         exits="" if is_several else exits_table(first),
@@ -148,9 +189,11 @@ def save(
     tick: float | Fraction | None = None,
     start: datetime | None = None,
     within: int | None = None,
+    working: Calendar | None = None,
+    hour: int | None = None,
 ) -> None:
     """Writes a page, completely or not at all. Takes what `page` takes, and also raises OSError."""
-    text = page(reports, labels, title, tick, start, within)
+    text = page(reports, labels, title, tick, start, within, working, hour)
     with written(os.fspath(path)) as file:
         file.write(text)
 

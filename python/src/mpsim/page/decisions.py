@@ -5,21 +5,25 @@ from __future__ import annotations
 from html import escape
 from typing import List, NamedTuple, Optional, Sequence, Tuple
 
-from .parts import in_words, percent, sheet
+from .levels import Level, level_chart
+from .parts import in_words, part, percent, sheet
 
 # A chart's width and height, the room for its scale and its times, and the heights of the two.
-WIDE, HIGH, LEFT, BOTTOM, TOP = 460, 150, 30, 20, 8
+WIDE, HIGH, LEFT, BOTTOM, TOP = 340, 108, 24, 20, 8
 
 
 class Past(NamedTuple):
     """What was recorded: the calls and how many callers gave up (int), the share answered in time (float, or None), and the mean and the 90th
-    percentile of the waits of the others, in seconds (float, or None)."""
+    percentile of the waits of the others, in seconds (float, or None); the levels by time of day (Level, the first of the whole day), in intervals of
+    `every` minutes (int)."""
 
     calls: int
     gone: int
     share: Optional[float]
     mean: Optional[float]
     p90: Optional[float]
+    levels: Sequence[Level] = ()
+    every: int = 30
 
 
 class Chart(NamedTuple):
@@ -90,14 +94,14 @@ def decision_page(it: Decision) -> str:
     parts = [
         f"<p>{escape(it.period)}</p>",
         _section("The goal", f"<p>{escape(goal)}.</p>"),
-        _section("What was", _past(it.past, seconds)),
+        _section("What was", _past(it.past, share, seconds)),
         _section("What is proposed", f'<p class="answer">{_proposal(it)}{escape(peak)}</p>'),
         _section("Who is needed when", _charts(it.charts)),
         _section("What if", _cases(it)),
         _section("What this assumes", _list(it.assumptions)),
         _section("What was left out", _list(it.left_out)),
     ]
-    return sheet(it.title, "".join(parts))
+    return sheet(it.title, "".join(parts), script=part("steps.js"))
 
 
 def _section(head: str, body: str) -> str:
@@ -113,13 +117,26 @@ def _list(texts: Sequence[str]) -> str:
     return "<ul>" + "".join(f"<li>{escape(it)}</li>" for it in texts) + "</ul>"
 
 
-def _past(past: Optional[Past], seconds: float) -> str:
+def _past(past: Optional[Past], share: float, seconds: float) -> str:
     if past is None:
         return "<p>How long callers waited wasn't recorded, or isn't part of this page.</p>"
     text = f"{past.calls:,} people called. {of_100(past.share)} were answered within {in_words(seconds)}; {past.gone:,} gave up before."
     if past.mean is not None and past.p90 is not None:
         text += f" Those who were answered waited {in_words(past.mean)} on average, and 90 of 100 of them at most {in_words(past.p90)}."
-    return f"<p>{escape(text)}</p>"
+    return _levels(past, share, f"<p>{escape(text)}</p>") if past.levels else f"<p>{escape(text)}</p>"
+
+
+def _levels(past: Past, goal: float, text: str) -> str:
+    """Returns a text beside the chart of the levels, with how far the recorded ones and those of the roster agree over the whole day."""
+    whole = next((it for it in past.levels if it.minute is None), None)
+    legend = "Solid line with dots: answered in time. Bars: calls. Dotted line: the goal."
+    if whole and whole.modelled is not None:
+        legend = legend.replace(" Bars", " Dashed line with squares: the same by this page's method. Bars")
+        text += f"<p>To check the method, the roster was given the same calls: it answers {of_100(whole.modelled)} in time. "
+        text += "If both lines are close, the numbers below can be trusted.</p>"
+    chart = level_chart(past.levels, past.every, "Answered in time", goal)
+    told = '<output aria-live="polite"></output>'
+    return f'<div class="beside"><div>{text}<p class="legend">{legend}</p>{told}</div><div class="levels">{chart}</div></div>'
 
 
 def _paid(it: Decision, hours: float) -> float:
@@ -168,7 +185,8 @@ def _charts(charts: Sequence[Chart]) -> str:
     figures = "".join(_chart(chart, first, last, max(most, 1)) for chart in charts)
     legend = "Bars: the people who are needed." + (" Line: the people whom the roster has." if any(chart.there for chart in charts) else "")
     tables = "".join(_numbers(chart, first, last) for chart in charts)
-    return f'<p class="legend">{legend}</p><div class="charts">{figures}</div><details><summary>The same in numbers</summary>{tables}</details>'
+    told = '<output aria-live="polite"></output>'
+    return f'<p class="legend">{legend}</p>{told}<div class="charts">{figures}</div><details><summary>The same in numbers</summary>{tables}</details>'
 
 
 def _chart(chart: Chart, first: int, last: int, most: float) -> str:
@@ -185,7 +203,8 @@ def _chart(chart: Chart, first: int, last: int, most: float) -> str:
         has = f", the roster has {_people(chart.there[at])}" if chart.there else ""
         said = f"{chart.name} {chart.times[at]}: {_people(chart.need[at])} needed{has}"
         bar = f'x="{across(at) + 0.5:.1f}" y="{up(chart.need[at]):.1f}" width="{max(wide - 1, 1):.1f}" height="{TOP + high - up(chart.need[at]):.1f}"'
-        bars.append(f'<rect class="need" {bar}><title>{escape(said)}</title></rect>')
+        band = f'<rect class="band" x="{across(at):.1f}" y="{TOP}" width="{wide:.1f}" height="{high}"/>'
+        bars.append(f'<g class="step"><title>{escape(said)}</title>{band}<rect class="need" {bar}/></g>')
     marks = [f'<text x="{across(at):.1f}" y="{HIGH - 5}">{chart.times[at]}</text>' for at in range(first, last, step)]
     for value in range(0, int(most) + 1, max(1, int(most) // 4)):
         marks.append(f'<line x1="{LEFT}" x2="{WIDE}" y1="{up(value):.1f}" y2="{up(value):.1f}"/><text x="2" y="{up(value) + 4:.1f}">{value}</text>')
@@ -194,8 +213,8 @@ def _chart(chart: Chart, first: int, last: int, most: float) -> str:
         path = "".join(f"{'M' if at == first else 'L'}{across(at):.1f} {up(chart.there[at]):.1f}H{across(at + 1):.1f}" for at in range(first, last))
         line = f'<path class="there" d="{path}"/>'
     says = f"{chart.name}: people needed" + (" and in the roster" if chart.there else "") + " by time of day"
-    svg = f'<svg viewBox="0 0 {WIDE} {HIGH}" role="img" aria-label="{escape(says)}"><g class="axis">{"".join(marks)}</g>{"".join(bars)}{line}</svg>'
-    return f"<figure><h3>{escape(chart.name)}</h3>{svg}</figure>"
+    svg = f'<svg viewBox="0 0 {WIDE} {HIGH}" role="img" tabindex="0" data-steps="" aria-label="{escape(says)}. Step through it with the arrow keys.">'
+    return f'<figure><h3>{escape(chart.name)}</h3>{svg}<g class="axis">{"".join(marks)}</g>{"".join(bars)}{line}</svg></figure>'
 
 
 def _numbers(chart: Chart, first: int, last: int) -> str:

@@ -36,8 +36,20 @@ def step(util: float | None) -> int:
     return 0 if util is None else min(int(util * STEPS), STEPS - 1) + 1
 
 
-def _shortened(text: str, most: int) -> str:
-    return text if len(text) <= most else text[: most - 1] + "…"
+def _shortened(text: str, most: int, last: int = 0) -> str:
+    """Returns a text of at most this many letters; the `last` ones stay."""
+    return text if len(text) <= most else text[: most - 1 - last] + "…" + text[len(text) - last :]
+
+
+# The letters that are narrower or wider than most, for an estimate of a text's width; its factors are a little above those of common fonts.
+WIDTHS = {**dict.fromkeys("ijl ,.'|:", 0.36), **dict.fromkeys("frt/_-", 0.5), **dict.fromkeys("mwMW%", 1.05)}
+ROOM = WIDE - 20
+
+
+def fitted(text: str, size: float) -> str:
+    """Returns the attributes (str) that fit a text of this size into a box if it may be wider; as `fitted` of figures.js does."""
+    is_wide = sum(WIDTHS.get(letter, 0.72) for letter in text) * size > ROOM
+    return f' textLength="{ROOM}" lengthAdjust="spacingAndGlyphs"' if is_wide else ""
 
 
 def arguments_of(node: ModelNode) -> str:
@@ -135,12 +147,13 @@ def _box(line: Node | None, node: ModelNode, place: tuple[float, float], is_chos
     x, middle = place
     top, said, left = middle - HIGH / 2, escape(said_of(line) if line else f"{node.name}, {arguments_of(node)}"), x + INDENT.get(node.kind, 10)
     parts = [f'<title>{said}</title><rect class="box" x="{x}" y="{top:.1f}" width="{WIDE}" height="{HIGH}" rx="{ROUND.get(node.kind, 8)}"/>']
-    rows = ("name", 18, _shortened(node.name, 14)), ("kind", 33, arguments_of(node)), ("figures", 46, figures_of(line) if line else "")
-    parts += [f'<text class="{kind}" x="{left}" y="{top + down:.1f}">{escape(text)}</text>' for kind, down, text in rows]
+    name = ("name long", 17, _shortened(node.name, 20, 8), 11.0) if len(node.name) > 14 else ("name", 18, node.name, 13.0)
+    rows = name, ("kind", 32, arguments_of(node), 10.5), ("figures", 45, figures_of(line) if line else "", 11.0)
+    parts += [f'<text class="{kind}" x="{left}" y="{top + down:.1f}"{fitted(text, size)}>{escape(text)}</text>' for kind, down, text, size in rows]
     if line and line.util is not None:
-        parts.append(f'<text class="load" x="{x + WIDE - 10}" y="{top + 18:.1f}" text-anchor="end">{int(100 * line.util + 0.5)} %</text>')
-        bar = f'x="{x + 10}" y="{top + 51:.1f}" height="5" rx="2.5"'
-        parts.append(f'<rect class="rail" {bar} width="{WIDE - 20}"/><rect class="meter" {bar} width="{(WIDE - 20) * min(line.util, 1):.1f}"/>')
+        parts.append(f'<text class="load" x="{x + WIDE - 10}" y="{top + 57:.1f}" text-anchor="end">{int(100 * line.util + 0.5)} %</text>')
+        bar, wide = f'x="{x + 10}" y="{top + 51:.1f}" height="5" rx="2.5"', ROOM - 40
+        parts.append(f'<rect class="rail" {bar} width="{wide}"/><rect class="meter" {bar} width="{wide * min(line.util, 1):.1f}"/>')
     button = "" if is_still else f' tabindex="0" role="button" aria-pressed="{str(is_chosen).lower()}" aria-label="{said}"'
     kinds = f"node load{step(line.util if line else None)}{' marked' if is_chosen else ''}"
     return f'<g class="{kinds}" data-node="{node.name}"{button}>{"".join(parts)}</g>'

@@ -3,7 +3,7 @@ const data = JSON.parse(document.getElementById('data').textContent);
 const by = id => document.getElementById(id);
 const valuesOf = (run, node) => data.runs[run].nodes[node] || data.columns.map(() => null);
 const figureOf = (run, node) => name => valuesOf(run, node)[data.columns.indexOf(name)];
-const state = { run: 0, node: data.node, figure: data.columns[0] };
+const state = { run: 0, node: data.node, figure: data.columns[0], window: 0, batch: 0 };
 
 // The first figure shown is one that differs between the runs: the requested share, or else one of these.
 if (data.columns[0] === 'in') {
@@ -11,10 +11,12 @@ if (data.columns[0] === 'in') {
   state.figure = ['p90', 'share lost', 'mean wait', 'util'].find(differs) || 'p90';
 }
 
+// Waits are in seconds, minutes and hours if the page knows the length of a tick; in tables they are in ticks.
+const WAITS = ['mean wait', 'p50', 'p90', 'p99', 'max'];
 function showCards() {
   by('cards').replaceChildren(...valuesOf(state.run, state.node).map((value, at) =>
     html('div', { class: 'card', 'data-figure': data.columns[at], 'data-v': value ?? '' },
-      html('b', {}, shown(value)), html('span', {}, data.columns[at]))));
+      html('b', {}, value !== null && WAITS.includes(data.columns[at]) ? waitOf(value, data) : shown(value)), html('span', {}, data.columns[at]))));
 }
 
 function showPictures() {
@@ -27,8 +29,47 @@ function showPictures() {
   }
   const figures = [mine.time ? overTime(mine.time, span, data) : html('p', {}, 'This node has no waits of its own.')];
   if (mine.number) figures.push(numberOverTime(mine.number, span, data));
-  if (mine.waits && mine.waits.wait.length) figures.push(byWait(mine.waits, figureOf(state.run, state.node), data.within));
+  if (mine.waits && mine.waits.wait.length) figures.push(byWait(mine.waits, figureOf(state.run, state.node), data.within, data));
   by('pictures').replaceChildren(...figures);
+}
+
+// The stations over time, and the jobs one by one; a page has room for those of some runs.
+const lacks = (found, what) => html('p', {}, !data.runs[state.run].has ? 'This report has no lines of jobs (--jobs, or jobs=True).'
+  : found === false ? `This page has no room for the ${what} of this run: make a page of it alone.` : 'No job stays anywhere.');
+let onStations = () => {}, onUnits = () => {};
+function showStations() {
+  const { line, span } = data.runs[state.run];
+  by('stations').replaceChildren();
+  by('stations-said').textContent = '';
+  onStations = () => {};
+  if (!line) return by('stations').append(lacks(line, 'stations'));
+  const made = stripsOf(line, Number(span), data, name => figureOf(state.run, name)('util'), state.node, node => choose({ node }));
+  by('stations').append(...made.rows);
+  by('stations-said').textContent = made.text;
+  onStations = made.onKey;
+  markStation();
+}
+function markStation() {
+  document.querySelectorAll('#stations .strip').forEach(it => it.classList.toggle('marked', it.dataset.strip === state.node));
+}
+function showUnits() {
+  const { units, span, kinds } = data.runs[state.run];
+  document.querySelector('[data-told=units]').textContent = '';
+  by('units').replaceChildren();
+  by('units-said').textContent = '';
+  onUnits = () => {};
+  if (!units) return by('units').append(lacks(units, 'jobs'));
+  const windows = windowsOf(units), begin = windows[Math.min(state.window, windows.length - 1)], made = unitsOf(units, state.batch, begin, Number(span), data, kinds);
+  by('units').append(...made.rows);
+  by('units-said').textContent = made.text;
+  onUnits = made.onKey;
+  const option = (text, is) => html('option', is ? { selected: '' } : {}, text);
+  by('window').replaceChildren(...windows.map((it, at) => option(timesTold(it, it + Number(units.width), Number(span), data), at === state.window)));
+  by('batch').replaceChildren(...Array.from({ length: Math.max(1, made.batches) }, (_, at) => option(`${at * ROWS + 1} to ${(at + 1) * ROWS}`, at === state.batch)));
+}
+function beginUnits() {
+  const { units } = data.runs[state.run];
+  Object.assign(state, { window: units ? Math.max(0, windowsOf(units).indexOf(Number(units.chosen))) : 0, batch: 0 });
 }
 
 function showCompared() {
@@ -58,6 +99,7 @@ function show() {
   });
   showCards();
   showPictures();
+  if (by('stations')) markStation();
   if (by('compared')) showCompared();
 }
 
@@ -78,8 +120,8 @@ function refillBoxes() {
     const name = box.dataset.node, figure = figureOf(state.run, name), util = figure('util'), part = kind => box.querySelector(kind);
     box.classList.remove(...[0, 1, 2, 3, 4, 5].map(step => `load${step}`));
     box.classList.add(`load${stepOf(util)}`);
-    part('.kind').textContent = asked[name] ?? '–';
-    part('.figures').textContent = nodes[name] ? figuresOf(kinds[name], figure) : '–';
+    fitted(part('.kind'), asked[name] ?? '–', 10.5);
+    fitted(part('.figures'), nodes[name] ? figuresOf(kinds[name], figure) : '–', 11);
     const said = nodes[name] ? saidOf(name, kinds[name], figure) : `${name}, not in this run`;
     box.setAttribute('aria-label', said);
     part('title').textContent = said;
@@ -108,8 +150,16 @@ function choose(change) {
     refillTable();
     refillBoxes();
     refillLines();
+    showRun();
   }
   show();
+}
+// What depends on the run only.
+function showRun() {
+  if (!by('stations')) return;
+  beginUnits();
+  showStations();
+  showUnits();
 }
 
 // Clicks, keys and choices.
@@ -125,6 +175,12 @@ document.querySelectorAll('g.node').forEach(box => {
 document.querySelectorAll('#nodes tbody tr').forEach(row => row.addEventListener('click', () => choose({ node: row.dataset.node })));
 by('node').addEventListener('change', event => choose({ node: event.target.value }));
 by('theme').addEventListener('change', event => { document.documentElement.dataset.theme = event.target.value; });
+if (by('stations')) {
+  by('stations').addEventListener('keydown', event => onStations(event));
+  by('units').addEventListener('keydown', event => onUnits(event));
+  by('window').addEventListener('change', event => { Object.assign(state, { window: event.target.selectedIndex, batch: 0 }); showUnits(); });
+  by('batch').addEventListener('change', event => { state.batch = event.target.selectedIndex; showUnits(); });
+}
 if (by('run')) {
   by('run').addEventListener('change', event => choose({ run: event.target.selectedIndex }));
   by('figure').append(...data.columns.map(it => html('option', it === state.figure ? { selected: '' } : {}, it)));
@@ -140,4 +196,5 @@ document.addEventListener('click', event => {
   cell.setAttribute('aria-sort', isUp ? 'ascending' : 'descending');
   body.append(...sorted([...body.rows], row => row.cells[at].dataset.v ?? row.cells[at].textContent, isUp));
 });
+showRun();
 show();

@@ -49,11 +49,14 @@ def sheet(title: str, body: str, data: str = "{}", script: str = "") -> str:
 
 
 def spoken(seconds: float) -> str:
-    """Returns a time for reading, in the two largest units.
+    """Returns a time for reading, in the two largest units; less than a minute with tenths of a second, unless there are none.
 
-    >>> spoken(0), spoken(12.4), spoken(75), spoken(3600), spoken(7325)
-    ('0 s', '12 s', '1 min 15 s', '1 h 0 min', '2 h 2 min')
+    >>> spoken(0), spoken(1.5), spoken(12.04), spoken(75), spoken(3600), spoken(7325)
+    ('0 s', '1.5 s', '12 s', '1 min 15 s', '1 h 0 min', '2 h 2 min')
     """
+    tenths = int(10 * seconds + 0.5)
+    if tenths < 600 and tenths % 10:
+        return f"{tenths / 10} s"
     whole = int(seconds + 0.5)
     if whole < 60:
         return f"{whole} s"
@@ -65,8 +68,8 @@ def spoken(seconds: float) -> str:
 def in_words(seconds: float) -> str:
     """Returns a time for reading, in words.
 
-    >>> in_words(1), in_words(20), in_words(75), in_words(7260)
-    ('1 second', '20 seconds', '1 minute 15 seconds', '2 hours 1 minute')
+    >>> in_words(1), in_words(1.5), in_words(20), in_words(75), in_words(7260)
+    ('1 second', '1.5 seconds', '20 seconds', '1 minute 15 seconds', '2 hours 1 minute')
     """
     words: list[str] = []
     for count, unit in zip(*[iter(spoken(seconds).split())] * 2):

@@ -17,7 +17,7 @@ function picture(name, says, x, y, places, read) {
   const label = `${says}. Step through it with the arrow keys.`;
   const root = svg('svg', { viewBox: `0 0 ${WIDE} ${HIGH}`, role: 'img', tabindex: 0, 'aria-label': label, 'data-picture': name });
   const grid = svg('g', { class: 'grid' }), axis = svg('g', { class: 'axis' });
-  for (const value of stepsOf(0, y.high, 5)) {
+  for (const value of stepsOf(0, y.high, 5, y.calendar)) {
     grid.append(svg('line', { x1: LEFT, x2: WIDE - RIGHT, y1: up(value), y2: up(value) }));
     axis.append(svg('text', { x: LEFT - 6, y: up(value) + 4, 'text-anchor': 'end' }, y.text(value)));
   }
@@ -49,16 +49,20 @@ function picture(name, says, x, y, places, read) {
   return { root, told, across, up };
 }
 
+// The seconds on the clock from time 0 to a tick.
+const secondsFor = (span, calendar) => secondsAt(span, calendar) - secondsAt(0, calendar);
+
 // Waits over time: a step per interval, a gap if no job departed; below them bars of arrivals, and of those that were lost or held.
 function timesTold(begin, end, span, calendar) {
-  const time = tick => clock(tick, calendar, span * calendar.tick > DAY ? 'both' : 'time');
+  const time = tick => clock(tick, calendar, secondsFor(span, calendar) > DAY ? 'both' : 'time');
   return `${time(begin)} to ${time(end)}`;
 }
 function pieceTold({ width, came, lost, p50, p90, max }, at, span, calendar) {
   const gone = lost[at] ? `, ${shown(lost[at])} lost or held` : '';
   const text = `${timesTold(at * width, (at + 1) * width, span, calendar)}: ${shown(came[at])} arrived${gone}`;
   if (p50[at] === null) return text;
-  return `${text}; half waited ${shown(p50[at])} or less, 9 of 10 ${shown(p90[at])} or less, the longest wait was ${shown(max[at])}`;
+  const [half, most, longest] = [p50, p90, max].map(it => waitOf(it[at], calendar));
+  return `${text}; half waited ${half} or less, 9 of 10 ${most} or less, the longest wait was ${longest}`;
 }
 function stairs(values, width, across, up) {
   let path = '', isOpen = false, end = null;
@@ -73,7 +77,7 @@ function stairs(values, width, across, up) {
   return { path, end };
 }
 const timeAxis = (end, calendar, name) => ({ low: 0, high: end, calendar, name,
-  text: value => clock(value, calendar, end * calendar.tick < 4 * DAY ? 'time' : 'date') });
+  text: value => clock(value, calendar, secondsFor(end, calendar) < 4 * DAY ? 'time' : 'date') });
 // Lines over time, from pairs of a name and a class, each with its name at its end.
 function drawLines(p, series, kinds) {
   const ends = [];
@@ -92,7 +96,7 @@ function overTime(series, span, calendar) {
   const { width, came, lost } = series, end = came.length * width;
   const top = Math.max(1, ...series.max.map(Number)), most = Math.max(1, ...came);
   const axis = timeAxis(end, calendar, calendar.tick ? 'time of arrival' : 'arrival, ticks');
-  const p = picture('time', 'Waits by time of arrival', axis, { high: top, text: shown }, came.map((_, at) => (at + .5) * width),
+  const p = picture('time', 'Waits by time of arrival', axis, { high: top, calendar: { tick: calendar.tick, start: 0 }, text: it => waitOf(it, calendar) }, came.map((_, at) => (at + .5) * width),
     at => pieceTold(series, at, span, calendar));
   const bar = (value, kind, at) => {
     const high = 46 * value / most, wide = Math.max(p.across(width) - p.across(0) - .4, .6);
@@ -101,7 +105,7 @@ function overTime(series, span, calendar) {
   came.forEach((value, at) => { bar(value, 'came', at); bar(lost[at], 'lost', at); });
   drawLines(p, series, [['max', 'max'], ['p90', 'p90'], ['p50', 'p50']]);
   const bars = `Bars: arrivals${lost.some(it => it) ? ', and in the darker colour how many of them were lost or held' : ''}.`;
-  return html('figure', {}, html('h3', {}, 'Waits over time'), p.root, p.told, html('figcaption', {}, `Intervals of ${shown(width)} ticks. Lines: the waits, in ticks. ${bars}`));
+  return html('figure', {}, html('h3', {}, 'Waits over time'), p.root, p.told, html('figcaption', {}, `Intervals of ${lengthOf(width, calendar)}. Lines: the waits${calendar.tick ? '' : ', in ticks'}. ${bars}`));
 }
 
 // The number in the node over time: the mean and the maximum of each interval. The last interval ends with the run; the axis is that of the waits.
@@ -116,16 +120,17 @@ function numberOverTime(series, span, calendar) {
     at => numberTold(series, at, span, calendar));
   drawLines(p, series, [['max', 'max'], ['mean', 'p50']]);
   return html('figure', {}, html('h3', {}, 'Number in the node over time'), p.root, p.told,
-    html('figcaption', {}, `The mean and the maximum in each interval of ${shown(width)} ticks. Lost jobs don't count.`));
+    html('figcaption', {}, `The mean and the maximum in each interval of ${lengthOf(width, calendar)}. Lost jobs don't count.`));
 }
 
 // The share by wait, of those that departed; and a field for a time, with the shares of arrivals and of departures served within it. It begins with
 // the time that the page was made for, if there is one.
-function byWait(waits, figure, within) {
+function byWait(waits, figure, within, { tick }) {
   const { came, wait, count } = waits, departed = count[count.length - 1], high = Number(wait[wait.length - 1]) || 1;
-  const p = picture('waits', 'Share of those that departed, by wait', { low: 0, high, name: 'wait, ticks', text: shown },
+  const text = it => waitOf(it, { tick }), axis = { low: 0, high, name: tick ? 'wait' : 'wait, ticks', text, calendar: { tick, start: 0 } };
+  const p = picture('waits', 'Share of those that departed, by wait', axis,
     { high: 1, text: it => `${Math.round(100 * it)} %` }, wait.map(Number),
-    at => `${percent(count[at] / departed)} waited ${shown(wait[at])} or less`);
+    at => `${percent(count[at] / departed)} waited ${text(wait[at])} or less`);
   const isStep = wait.length < 60;
   const path = wait.map((it, at) => {
     const x = p.across(Number(it)).toFixed(1), y = p.up(count[at] / departed).toFixed(1);
@@ -138,7 +143,7 @@ function byWait(waits, figure, within) {
     // Each on its own line, so that none covers another.
     const x = p.across(Number(value)), isLast = x > WIDE - RIGHT - 60, y = FLOOR - 44 + 17 * at;
     p.root.append(svg('g', { class: 'mark' }, svg('line', { x1: x, x2: x, y1: TOP, y2: FLOOR }),
-      svg('text', { x: isLast ? x - 4 : x + 4, y, 'text-anchor': isLast ? 'end' : 'start' }, `${name} ${shown(value)}`)));
+      svg('text', { x: isLast ? x - 4 : x + 4, y, 'text-anchor': isLast ? 'end' : 'start' }, `${name} ${text(value)}`)));
   });
   const field = html('input', { type: 'number', min: 0, step: 1, id: 'ticks', size: 8, value: within ?? figure('p50') ?? Math.round(high / 2) });
   const ofAll = html('b', { id: 'of-all' }), ofDeparted = html('b', { id: 'of-departed' });

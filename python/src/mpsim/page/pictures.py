@@ -12,7 +12,7 @@ from ..lines import PASSED
 from ..node_visits import HELD, LOST, percentile_of
 
 if TYPE_CHECKING:
-    from collections.abc import Iterable, Sequence
+    from collections.abc import Iterable, Mapping, Sequence
 
     from ..lines import Node
     from ..node_visits import NodeVisits
@@ -74,15 +74,30 @@ def number_over_time(visits: NodeVisits, span: int, width: int) -> dict[str, obj
     """
     begins = array("q", (arrive for arrive, wait in zip(visits.arrive, visits.raw_wait) if wait != LOST))
     ends = array("q", sorted(span if wait == HELD else depart for depart, wait in zip(visits.raw_depart, visits.raw_wait) if wait != LOST))
-    means, greatest, came, gone = [], [], 0, 0
+    greatest, came, gone = [], 0, 0
     for begin in range(0, span, width):
         end, first, before = min(begin + width, span), came, gone
         came, gone = bisect_left(begins, end, first), bisect_left(ends, end, before)
-        # A visit present at the beginning counts for the whole interval, less the time after its departure; an arrival counts from its time on.
-        within = (first - before) * (end - begin) + (came - first - gone + before) * end - sum(begins[first:came]) + sum(ends[before:gone])
-        means.append(round(within / (end - begin), 3))
         greatest.append(_greatest(begins, ends, begin, range(first, came), before))
-    return {"width": width, "mean": means, "max": greatest}
+    return {"width": width, "mean": [round(it, 3) for it in means_of(begins, ends, span, width)], "max": greatest}
+
+
+def means_of(begins: Sequence[int], ends: Sequence[int], span: int, width: int) -> list[float]:
+    """Returns the mean number present (list of float) in time intervals of one width (int, ticks), the last of which ends with the span, from the
+    times at which stays begin and those at which they end (both sorted sequences of int, in ticks).
+
+    >>> from mpsim.page.pictures import means_of
+    >>> means_of([0, 2], [3, 8], 8, 4)
+    [1.25, 1.0]
+    """
+    means, came, gone = [], 0, 0
+    for begin in range(0, span, width):
+        end, first, before = min(begin + width, span), came, gone
+        came, gone = bisect_left(begins, end, first), bisect_left(ends, end, before)
+        # A stay present at the beginning counts for the whole interval, less the time after its end; a new one counts from its begin on.
+        within = (first - before) * (end - begin) + (came - first - gone + before) * end - sum(begins[first:came]) + sum(ends[before:gone])
+        means.append(within / (end - begin))
+    return means
 
 
 def _greatest(begins: Sequence[int], ends: Sequence[int], begin: int, numbers: range, gone: int) -> int:
@@ -108,21 +123,27 @@ def distribution(visits: NodeVisits, most: int) -> dict[str, object]:
     return {"came": len(visits), "wait": kept, "count": [bisect_right(waits, item) for item in kept]}
 
 
-def pictures_of(report: Report, nodes: Iterable[Node], numbers: int, tick: float | Fraction | None = None) -> dict[str, dict[str, dict[str, object]]]:
-    """Returns the charts of those nodes (list of Node) of a report where jobs can stay and did arrive, by name, with about this many numbers in all.
-    `tick` is the seconds per tick, if known."""
-    if not report.has_visits:
-        return {}
-    waited = {node.name: node.kind not in WITHOUT_WAITS for node in nodes if node.kind not in PASSED}
-    drawn = [visit for visit in visits_at(report, waited) if len(visit)]
+def stays_of(report: Report, nodes: Iterable[Node]) -> dict[str, NodeVisits]:
+    """Returns the visits to those nodes (list of Node) of a report where jobs can stay, by name; none if the report has no visits."""
+    names = [node.name for node in nodes if node.kind not in PASSED]
+    return dict(zip(names, visits_at(report, names))) if report.has_visits else {}
+
+
+def pictures_of(
+    nodes: Iterable[Node], stays: Mapping[str, NodeVisits], span: int, numbers: int, tick: float | Fraction | None = None
+) -> dict[str, dict[str, dict[str, object]]]:
+    """Returns the charts of those nodes (list of Node) where jobs did arrive, by name, from the visits that `stays_of` returns and the span of the
+    report (int, ticks), with about this many numbers in all. `tick` is the seconds per tick, if known."""
+    waited = {node.name: node.kind not in WITHOUT_WAITS for node in nodes if node.name in stays}
+    drawn = [stays[name] for name in waited if len(stays[name])]
     each = numbers // max(len(drawn), 1)
     pieces, waits = (min(max(each // share, LEAST), most) for share, most in ((10, PIECES), (7, WAITS)))
     found: dict[str, dict[str, dict[str, object]]] = {}
     for item in drawn:
         count, mine = max(min(pieces, len(item) // VISITS), 10), found.setdefault(item.node, {})
         if waited[item.node]:
-            mine["time"] = over_time(item, report.span, count, tick)
+            mine["time"] = over_time(item, span, count, tick)
             mine["waits"] = distribution(item, waits)
-        if report.span:
-            mine["number"] = number_over_time(item, report.span, width_of(report.span, count, tick))
+        if span:
+            mine["number"] = number_over_time(item, span, width_of(span, count, tick))
     return found

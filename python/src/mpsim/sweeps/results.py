@@ -7,8 +7,9 @@ from collections.abc import Hashable
 from typing import TYPE_CHECKING, Dict, NamedTuple, Optional
 
 from ..errors import Error, ReportError, error_of, read_from
+from ..inputs import stream_of
 from ..lines import PASSED
-from ..report import Reading, Report, stream_of, with_model
+from ..report import Reading, Report, with_model
 from ..wording import counted, table_of
 
 if TYPE_CHECKING:

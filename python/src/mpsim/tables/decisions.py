@@ -2,19 +2,19 @@
 
 from __future__ import annotations
 
-from typing import TYPE_CHECKING, Callable, Dict, List, NamedTuple, Optional, Sequence, Tuple
+from typing import TYPE_CHECKING, Dict, List, NamedTuple, Optional, Sequence, Tuple
 
 from ..agents.groups import Agent, Group
-from ..agents.staffing import Goal, Interval, calls_of, groups_of, least, with_numbers
+from ..agents.plans import Part, Plan
+from ..agents.staffing import Goal, Interval, calls_of, least, with_numbers
 from ..node_visits import percentile_of
 from ..times.intervals import Day, days_of
 from ..times.texts import HOUR
+from .grids import longer
 
 if TYPE_CHECKING:
-    from ..agents.staffing import Waiting
+    from ..agents.staffing import SpanCalls
     from ..times.calendar import Calendar
-
-    DayCalls = Tuple[Day, List[List[Waiting]]]
 
 
 class Calls(NamedTuple):
@@ -27,8 +27,9 @@ class Calls(NamedTuple):
     queues: Optional[Sequence[str]] = None
 
     def longer(self, more: int) -> "Calls":
-        """Returns the calls with services that are longer by this many ticks (shorter if it is below 0), at least 0."""
-        return self._replace(services=[max(0, it + more) for it in self.services])
+        """Returns the calls with services that are longer by this many ticks (shorter if it is below 0), as `mpsim.tables.grids.longer` makes
+        them."""
+        return self._replace(services=longer(self.services, more))
 
 
 class Choice(NamedTuple):
@@ -51,7 +52,8 @@ class Result(NamedTuple):
 
 
 class Decider:
-    """Judges numbers of agents by a Goal, for the chosen days of a Calendar, in intervals of this length (int, nanoseconds).
+    """Judges numbers of agents by a Goal, for the chosen days of a Calendar, in intervals of this length (int, nanoseconds), with the priorities of
+    queues that Group takes.
 
     >>> from fractions import Fraction
     >>> from mpsim.times.calendar import Calendar
@@ -59,41 +61,47 @@ class Decider:
     >>> calls = Calls([0, 10, 20, 100], [60] * 4)
     >>> numbers = decider.need(calls)
     >>> numbers, decider.result(numbers, calls), decider.result(decider.changed(numbers, -1), calls)
-    ({'all days': [2, 0]}, Result(hours=24.0, share=0.75), Result(hours=12.0, share=0.25))
+    ({'': [0, 0], 'all days': [2, 0]}, Result(hours=24.0, share=0.75), Result(hours=12.0, share=0.25))
     """
 
-    def __init__(self, calendar: "Calendar", choice: Choice, every: int, goal: Goal) -> None:
-        self.calendar, self.choice, self.every, self.goal = calendar, choice, every, goal
+    def __init__(self, calendar: "Calendar", choice: Choice, every: int, goal: Goal, priorities: Optional[Dict[str, int]] = None) -> None:
+        self.calendar, self.choice, self.every, self.goal, self.priorities = calendar, choice, every, goal, priorities
 
     def days(self, calls: Calls) -> List[Day]:
         """Returns the days of some calls, chosen or not."""
         return days_of(self.calendar, max(calls.arrivals, default=0), self.every)
 
-    def groups(self, calls: Calls) -> List[Tuple[str, Sequence[DayCalls]]]:
-        """Returns the groups of chosen days that get the same numbers: pairs of a name and what `least` takes."""
-        every_day = self.days(calls)
-        pairs = zip(every_day, calls_of(self.every, every_day, calls.arrivals, calls.services, calls.patience))
-        chosen = [it for it in pairs if self.choice.has(it[0])]
-        return groups_of(chosen, self.calendar.is_dated, self.choice.date)[1]
+    def plan(self, calls: Calls) -> Plan:
+        """Returns the Plan of the chosen days of some calls."""
+        return Plan(self.days(calls), self.choice.date, self.choice.weekday)
 
-    def need(self, calls: Calls, tell: Callable[[int], None] = lambda done: None) -> Dict[str, List[int]]:
-        """Returns the least numbers of agents that reach the goal (list of int, per interval), by the names of groups of days. `tell` is called with
-        the number of groups done."""
-        found = {}
-        for done, (name, mine) in enumerate(self.groups(calls)):
-            found[name] = [it.agents for it in least(mine, self.goal)]
-            tell(done + 1)
-        return found
+    def groups(self, calls: Calls) -> List[Part]:
+        """Returns the kinds of chosen days, which get the same numbers each (list of Part)."""
+        return self.plan(calls).parts
+
+    def _stretches(self, plan: Plan, calls: Calls) -> "List[SpanCalls]":
+        queues = calls.queues if self.priorities else None
+        return [*zip(plan.stretches, calls_of(plan.stretches, calls.arrivals, calls.services, calls.patience, queues))]
+
+    def need(self, calls: Calls) -> Dict[str, List[int]]:
+        """Returns the least numbers of agents that reach the goal (list of int, per interval), by the names of kinds of days. What is needed on the
+        day before is part of the numbers, by the name "" (`Plan`)."""
+        plan = self.plan(calls)
+        found = [it.agents for it in least(self._stretches(plan, calls), self.goal, None, self.priorities)]
+        return {"": found[: plan.every], **{part.name: [*plan.of(part, found)] for part in plan.parts}}
 
     def changed(self, numbers: Dict[str, List[int]], more: int) -> Dict[str, List[int]]:
         """Returns numbers with this many agents more, or fewer, in each interval that has any."""
         return {name: [max(0, it + more) if it else 0 for it in mine] for name, mine in numbers.items()}
 
     def intervals(self, numbers: Dict[str, List[int]], calls: Calls) -> Dict[str, Tuple[int, List[Interval]]]:
-        """Returns the number of days and what happens in each interval, by the names of groups of days, with numbers of agents from other calls. A
-        group without numbers has no agents."""
-        nobody = [0] * (24 * HOUR // self.every)
-        return {name: (len(mine), with_numbers(mine, self.goal, numbers.get(name, nobody))) for name, mine in self.groups(calls)}
+        """Returns the number of days and what happens in each interval, by the names of kinds of days, with numbers of agents from other calls. A
+        kind without numbers has no agents."""
+        plan, nobody = self.plan(calls), [0] * (24 * HOUR // self.every)
+        by_place = {0: "", **{part.place: part.name for part in plan.parts}}
+        counts = [count for place in range(len(plan.stretches[0].begins) // plan.every) for count in numbers.get(by_place.get(place, "-"), nobody)]
+        found = with_numbers(self._stretches(plan, calls), self.goal, counts, self.priorities)
+        return {part.name: (len(part.days), [*plan.of(part, found)]) for part in plan.parts}
 
     def result(self, numbers: Dict[str, List[int]], calls: Calls) -> Result:
         """Returns the Result of numbers of agents for some calls."""
@@ -102,11 +110,11 @@ class Decider:
 
     def hours(self, numbers: Dict[str, List[int]]) -> float:
         """Returns the hours of work in one day of each group."""
-        return sum(sum(mine) for mine in numbers.values()) * self.every / HOUR
+        return sum(sum(mine) for name, mine in numbers.items() if name) * self.every / HOUR
 
     def there(self, agents: Sequence[Agent], calls: Calls) -> Dict[str, List[float]]:
-        """Returns the mean number of agents of a roster in each interval (list of float), by the names of groups of days."""
-        return {name: self._mean(agents, [day for day, _ in mine]) for name, mine in self.groups(calls)}
+        """Returns the mean number of agents of a roster in each interval (list of float), by the names of kinds of days."""
+        return {part.name: self._mean(agents, part.days) for part in self.groups(calls)}
 
     def _mean(self, agents: Sequence[Agent], days: Sequence[Day]) -> List[float]:
         found = []

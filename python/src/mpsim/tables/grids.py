@@ -17,6 +17,7 @@ from .service import PERCENTS, heads
 if TYPE_CHECKING:
     from ..shapes import ModelInput, Row
     from ..times.calendar import Calendar
+    from .visits import Parts
 
 # The most cells of a grid.
 CELLS = 10_000
@@ -62,16 +63,40 @@ def load_text(load: Fraction) -> str:
     return f"{float(100 * load):.10g}%"
 
 
+def longer(services: Sequence[int], more: int) -> List[int]:
+    """Returns service times (list of int, ticks) that are longer, or shorter, by this many ticks, at least 0. Those of 0 stay 0: nobody served these
+    calls.
+
+    >>> longer([9, 2, 0], -5), longer([9, 2, 0], 5)
+    ([4, 0, 0], [14, 7, 0])
+    """
+    return [max(0, value + more) if value else 0 for value in services]
+
+
+def unchanged(services: Sequence[int], more: int) -> Iterator[str]:
+    """Yields the lines (str) on service times of 0, which `longer` doesn't change, and on those that it shortens to 0, if there are any.
+
+    >>> list(unchanged([9, 2, 0], -5))
+    ['1 of 3 calls needs 0 ticks and stays so', '1 of 3 calls becomes one of 0 ticks']
+    """
+    zeros, shortened = services.count(0), sum(0 < value <= -more for value in services)
+    of = f"of {counted(len(services), 'call')}"
+    if zeros:
+        yield f"{zeros:,} {of} {'needs 0 ticks and stays' if zeros == 1 else 'need 0 ticks and stay'} so"
+    if shortened:
+        yield f"{shortened:,} {of} {'becomes one' if shortened == 1 else 'become ones'} of 0 ticks"
+
+
 def with_longer(trace: Trace, column: str, more: int) -> Trace:
-    """Returns a trace whose values in a column are longer (or shorter) by this many ticks, at least 0. Raises ValueError for an unknown column, and
-    for a value above the limit.
+    """Returns a trace whose values in a column are longer (or shorter) by this many ticks, as `longer` makes them. Raises ValueError for an unknown
+    column, and for a value above the limit.
 
     >>> with_longer(Trace("t.csv", ["source", "time", "talk"], [["door", "0", "9"], ["door", "1", "2"]]), "talk", -5).numbers("talk")
     [4, 0]
     """
-    made = [max(0, value + more) for value in trace.numbers(column)]
-    if (longest := max(made, default=0)) > GREATEST_VALUE:
-        raise ValueError(f"{trace.path}: column {column}: {longest} is above the limit of {GREATEST_VALUE}")
+    made = longer(trace.numbers(column), more)
+    if (greatest := max(made, default=0)) > GREATEST_VALUE:
+        raise ValueError(f"{trace.path}: column {column}: {greatest} is above the limit of {GREATEST_VALUE}")
     return trace.with_values(**{column: made})
 
 
@@ -98,10 +123,11 @@ def grid(
     within: Sequence[int] = (20,),
     percents: Sequence[float] = PERCENTS,
     tell: Callable[[int], None] = lambda done: None,
+    parts: "Optional[Parts]" = None,
 ) -> Iterator[Row]:
-    """Yields the header and the rows (lists) of a table of pools in place of a server, a row per load and number of agents: the load, as text, and
-    what `mpsim.tables.pools.staffing` returns. Each load is another trace, and each cell is pooled and run again. `tell` is called with the number of
-    cells done. Raises what `Queue` does, and ValueError for too many records.
+    """Yields the header and the rows (lists) of a table of pools in place of a server, a row per load and number of agents, with Parts also a row per
+    part: the load, as text, and what `mpsim.tables.pools.staffing` returns. Each load is another trace, and each cell is pooled and run again. `tell`
+    is called with the number of cells done. Raises what `Queue` does, and ValueError for too many records.
 
     >>> trace = Trace("t.csv", ["source", "time", "talk"], [["door", "0", "9"], ["door", "2", "4"], ["door", "20", "4"]])
     >>> model = "model 1\\nsource door\\nserver desk talk from door\\n"
@@ -111,12 +137,12 @@ def grid(
     100% 1 0.7083 3 3 0 0 2.333 7 7 0.666667 0.666667
     100% 2 0.3541 3 3 0 0 0.0 0 0 1.0 1.0
     """
-    yield ["load", "agents", "util", *heads(within, percents)]
+    yield ["load", "agents", *([parts.head] if parts else []), "util", *heads(within, percents)]
     done = 0
     for load in loads:
-        rows = staffing(Queue(model, with_copies(trace, load, copying), node), agents, within, percents)
-        next(rows)
-        for row in rows:
+        queue = Queue(model, with_copies(trace, load, copying), node)
+        for many in agents:
+            _, *rows = staffing(queue, [many], within, percents, parts=parts)
             done += 1
             tell(done)
-            yield [load_text(load), *row]
+            yield from ([load_text(load), *row] for row in rows)

@@ -7,7 +7,7 @@ from typing import TYPE_CHECKING
 
 from ..limits import FOREVER
 from ..node_visits import percentile_of
-from ..times.intervals import label
+from ..times.intervals import Kinds
 from ..times.texts import SECOND
 
 if TYPE_CHECKING:
@@ -17,12 +17,13 @@ if TYPE_CHECKING:
     from ..shapes import Row
     from ..times.intervals import Day
 
-HEADS = "from", "queue", "offered", "answered", "abandoned", "within", "mean_wait", "p90", "agents", "occupancy"
+# The names of the kind of an interval come first (`mpsim.times.intervals.Kinds`).
+HEADS = "queue", "offered", "answered", "abandoned", "within", "mean_wait", "p90", "agents", "occupancy"
 
 
 class Table:
-    """What a group did per interval of the day, over all days (list of Day): from the calls (sequences of queue, arrival, service, agent
-    and wait, in ticks) and the agents (list of Agent)."""
+    """What a group did per interval of the day, over all days (list of Day), or of each weekday: from the calls (sequences of queue, arrival,
+    service, agent and wait, in ticks) and the agents (list of Agent). Raises ValueError for weekdays without dates."""
 
     cells: dict[tuple[int, str], list[tuple[int, int]]]
     used: set[int]
@@ -33,10 +34,14 @@ class Table:
         calls: tuple[Sequence[str], Sequence[int], Sequence[int], Sequence[int], Sequence[int]],
         agents: Sequence[Agent],
         within: int,
+        by_weekday: bool = False,
     ) -> None:
-        self.days, self.within, self.count = days, within, len(days[0].begins) - 1
+        self.within, self.kinds = within, Kinds(days, by_weekday)
+        # Of each interval of each day, the ticks at which it begins and ends, and its kind.
         self.begins = [tick for day in days for tick in day.begins[:-1]]
-        self.there, self.worked, self.cells = [0] * self.count, [0] * self.count, {}
+        self.ends = [tick for day in days for tick in day.begins[1:]]
+        self.kind = [self.kinds.of(day, number) for day in days for number in range(self.kinds.each)]
+        self.there, self.worked, self.cells = [0] * self.kinds.count, [0] * self.kinds.count, {}
         # The intervals of days, by their place among all, in which there is an agent or a call.
         self.used = set()
         end = days[-1].begins[-1]
@@ -46,7 +51,7 @@ class Table:
         for queue, arrive, service, who, wait in zip(*calls):
             at = bisect_right(self.begins, arrive) - 1
             self.used.add(at)
-            self.cells.setdefault((at % self.count, queue), []).append((who, wait))
+            self.cells.setdefault((self.kind[at], queue), []).append((who, wait))
             if who:
                 begin, until = arrive + wait, arrive + wait + service
                 for first, last in agents[who - 1].intervals:
@@ -57,26 +62,29 @@ class Table:
         at = bisect_right(self.begins, begin) - 1
         while begin < end:
             until = min(end, self.begins[at + 1] if at + 1 < len(self.begins) else FOREVER)
-            sums[at % self.count] += until - begin
+            sums[self.kind[at]] += until - begin
             self.used.add(at)
             begin, at = until, at + 1
 
     def rows(self, every: int, tick: int) -> Iterator[Row]:
-        """Yields a row (list, as in HEADS) per interval with calls or agents, for the length of intervals and of a tick (int, nanoseconds): the time
-        of day; the queue, "all" or its name; how many calls were offered, answered and abandoned; the share of all that was answered within `within`
-        ticks; the mean wait and the 90th percentile of those answered, in seconds; the mean number of agents, over the days with an agent or a call
-        in the interval; and the share of their time that they worked."""
-        queues = list(dict.fromkeys(queue for _, queue in self.cells))
-        for number in range(self.count):
-            mine = {queue: self.cells.get((number, queue), []) for queue in sorted(queues)}
+        """Yields the header and a row (lists, as in HEADS) per interval with calls or agents, for the length of intervals and of a tick (int,
+        nanoseconds): the weekday, if it is by weekday; the time of day; the queue, "all" or its name; how many calls were offered, answered and
+        abandoned; the share of all that was answered within `within` ticks; the mean wait and the 90th percentile of those answered, in seconds; the
+        mean number of agents, over the days with an agent or a call in the interval; and the share of their time that they worked."""
+        yield [*self.kinds.heads, *HEADS]
+        queues, spans = sorted({queue for _, queue in self.cells}), [0] * self.kinds.count
+        for at in self.used:
+            spans[self.kind[at]] += self.ends[at] - self.begins[at]
+        for number in range(self.kinds.count):
+            mine = {queue: self.cells.get((number, queue), []) for queue in queues}
             every_call = [it for calls in mine.values() for it in calls]
             if every_call or self.there[number]:
-                spans = sum(day.begins[number + 1] - day.begins[number] for at, day in enumerate(self.days) if at * self.count + number in self.used)
-                agents = round(self.there[number] / spans, 2) if spans and any(self.there) else None
+                names = self.kinds.names(number, every)
+                agents = round(self.there[number] / spans[number], 2) if spans[number] and any(self.there) else None
                 occupancy = round(self.worked[number] / self.there[number], 4) if self.there[number] else None
-                yield [label(number, every), "all", *self._figures(every_call, tick), agents, occupancy]
+                yield [*names, "all", *self._figures(every_call, tick), agents, occupancy]
                 if len(queues) > 1:
-                    yield from ([label(number, every), queue, *self._figures(calls, tick), None, None] for queue, calls in mine.items() if calls)
+                    yield from ([*names, queue, *self._figures(calls, tick), None, None] for queue, calls in mine.items() if calls)
 
     def _figures(self, calls: Sequence[tuple[int, int]], tick: int) -> Row:
         waits = sorted(wait for agent, wait in calls if agent)

@@ -30,7 +30,7 @@ def rows(report: Report, of: str = "nodes", nodes: Collection[str] = ()) -> Iter
     if of == "visits" and not report.has_visits and report.jobs:
         raise ValueError("the report has no job lines: run mpsim with --jobs")
     if of == "visits":
-        return (list(visit) for visits in (visits_at(report, names) if report.has_visits else ()) for visit in visits)
+        return (row for visits in (visits_at(report, names) if report.has_visits else ()) for row in visits.rows())
     if of == "exits":
         return (list(item) for item in report.exits if not nodes or item.name in nodes)
     return ([*with_pool[:-1], None if with_pool.util is None else f"{with_pool.util:.4f}"] for with_pool in with_pools(report, nodes).values())

@@ -48,9 +48,12 @@ class Writer:
 
     def writerows(self, rows: Iterable[Iterable[object]]) -> None:
         """Writes several rows (iterable of iterables)."""
-        self._writer.writerows(list(map(self._cell, row)) for row in rows)
+        # Most values are numbers, which need no care.
+        self._writer.writerows([value if type(value) is int else self._cell(value) for value in row] for row in rows)
 
     def _cell(self, value: object) -> object:
+        if isinstance(value, str) and value.isalpha():
+            return value
         if self._mark != "." and (isinstance(value, float) or isinstance(value, str) and _NUMBER.fullmatch(value)):
             return str(value).replace(".", self._mark)
         return safe(value)

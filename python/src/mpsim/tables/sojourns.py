@@ -2,23 +2,20 @@
 
 from __future__ import annotations
 
-from array import array
 from bisect import bisect_right
-from itertools import compress, repeat
-from typing import TYPE_CHECKING, Any, NamedTuple
+from itertools import chain
+from typing import TYPE_CHECKING, NamedTuple
 
-from ..agents.pools import visits_in
-from ..node_visits import HELD, percentile_of
+from ..leaving import leaving
+from ..node_visits import numpy_for, percentile_of
 from .service import PERCENTS
 
 if TYPE_CHECKING:
     from collections.abc import Iterator, Sequence
 
-    from ..report import Report
+    from ..report import Reading, Report
     from ..shapes import Row
-
-# With fewer visits, importing numpy takes longer than it saves.
-MANY = 1 << 16
+    from ..traces.groups import Groups
 
 
 class Ways(NamedTuple):
@@ -44,9 +41,10 @@ class Sojourn(NamedTuple):
     sojourn: int
 
 
-def sojourns(report: Report) -> Iterator[Sojourn]:
-    """Yields the way (Sojourn) of each job of a report with visits, in the order of records. A forked job is done when its last part leaves; of
-    several nodes left at that time, the last in the report counts. A job with a part that a join holds to the end has no sojourn and is left out.
+def sojourns(report: Report | Reading) -> Iterator[Sojourn]:
+    """Returns the way (Sojourn) of each job of a report with visits, or of a Reading, in the order of records. A forked job is done when its last
+    part leaves; of several nodes left at that time, the last in the report counts. A job with a part that a join holds to the end has no sojourn and
+    is left out.
 
     >>> import mpsim
     >>> from mpsim.tables.sojourns import sojourns
@@ -57,14 +55,13 @@ def sojourns(report: Report) -> Iterator[Sojourn]:
     2 out False 9
     3 desk True 0
     """
-    names = [node.name for node in report.nodes]
-    for job, source, came, end, sojourn in zip(*ways(report)):
-        yield Sojourn(job, names[source], came, names[end // 2], bool(end % 2), sojourn)
+    every, names = ways(report), [node.name for node in report.nodes]
+    return (Sojourn(job, names[source], came, names[end // 2], bool(end % 2), sojourn) for job, source, came, end, sojourn in zip(*every))
 
 
-def ways(report: Report) -> Ways:
+def ways(report: Report | Reading) -> Ways:
     """Returns the ways (Ways) of the jobs of a report with visits, as `sojourns` defines them, computed with numpy if there are many visits and it is
-    installed.
+    installed. Of a Reading (`mpsim.visits`) only the visits after which jobs may leave are read.
 
     >>> import mpsim
     >>> from mpsim.tables.sojourns import ways
@@ -72,104 +69,86 @@ def ways(report: Report) -> Ways:
     >>> [list(column) for column in ways(report)]
     [[1, 2], [0, 0], [0, 1], [2, 3], [4, 0]]
     """
-    numpy = _numpy() if visits_in(report).count() >= MANY else None
-    return _ways_by(numpy, report) if numpy else _ways(report)
+    return Ways(*leaving(report).ways())
 
 
-def _numpy() -> Any:
-    """Returns numpy, or None if it isn't installed."""
-    try:
-        import numpy
-    except ImportError:
-        return None
-    return numpy
-
-
-def _ways(report: Report) -> Ways:
-    """Does what `ways` does with Python alone."""
-    count = report.jobs + 1
-    came, source = array("q", [-1]) * count, array("b", [0]) * count
-    gone, end = array("q", [-1]) * count, array("h", [0]) * count
-    stays, every = bytearray(b"\1") * count, visits_in(report)
-    # Nodes are in the order of the network: a job visits later nodes later, and leaves at the last of its visits with the latest end.
-    for number, node in enumerate(report.nodes):
-        visits = every[node.name]
-        if node.kind == "source":
-            for job, arrive in zip(visits.job, visits.arrive):
-                came[job], source[job] = arrive, number
-        departs: Sequence[int] = visits.raw_depart
-        if visits.raw_wait and min(visits.raw_wait) < 0:
-            for job, wait in zip(visits.job, visits.raw_wait):
-                if wait == HELD:
-                    stays[job] = 0
-            departs = [arrive if wait < 0 else depart for arrive, wait, depart in zip(visits.arrive, visits.raw_wait, visits.raw_depart)]
-        for job, wait, depart in zip(visits.job, visits.raw_wait, departs):
-            if depart >= gone[job]:
-                gone[job], end[job] = depart, 2 * number + (wait < 0)
-    stays[0] = 0
-    jobs, sources, arrivals, ends, departures = (array("q", compress(column, stays)) for column in (range(count), source, came, end, gone))
-    return Ways(jobs, sources, arrivals, ends, array("q", map(int.__sub__, departures, arrivals)))
-
-
-def _ways_by(numpy: Any, report: Report) -> Ways:
-    """Does what `ways` does with numpy."""
-    count = report.jobs + 1
-    came, source = numpy.full(count, -1), numpy.zeros(count, int)
-    gone, end = numpy.full(count, -1), numpy.zeros(count, int)
-    stays, every = numpy.ones(count, bool), visits_in(report)
-    for number, node in enumerate(report.nodes):
-        visits = every[node.name]
-        job, arrive, wait, depart = (numpy.asarray(column) for column in (visits.job, visits.arrive, visits.raw_wait, visits.raw_depart))
-        if node.kind == "source":
-            came[job], source[job] = arrive, number
-        stays[job[wait == HELD]] = False
-        lost = wait < 0
-        depart = numpy.where(lost, arrive, depart)
-        # Of several visits of a job, the last with the latest end counts: it comes last in this order, and numpy keeps the last of them.
-        order = numpy.argsort(depart, kind="stable")
-        order = order[depart[order] >= gone[job[order]]]
-        gone[job[order]], end[job[order]] = depart[order], 2 * number + lost[order]
-    stays[0] = False
-    kept = numpy.flatnonzero(stays)
-    columns = kept, source[kept], came[kept], end[kept], gone[kept] - came[kept]
-    return Ways(*(column.tolist() for column in columns))
-
-
-def table(report: Report, by: str = "both", within: Sequence[int] = (), percents: Sequence[float] = PERCENTS) -> Iterator[Row]:
-    """Yields the header and the rows (lists) of a table of a report with visits, in the order of its nodes. Rows are per source and node where jobs
-    left (`by` "both"), per source ("source"), per node ("end"), or for all jobs ("all"). Each has the number of jobs, the mean of their sojourns to
-    three decimals, percentiles and the longest, and the share of at most each of `within` ticks, to six decimals. Rows by node list lost jobs
-    separately.
+def table(report: Report | Reading, by: str | Groups = "both", within: Sequence[int] = (), percents: Sequence[float] = PERCENTS) -> Iterator[Row]:
+    """Yields the header and the rows (lists) of a table of a report with visits, or of a Reading, in the order of its nodes. Rows are per source and
+    node where jobs left (`by` "both"), per source ("source"), per node ("end"), for all jobs ("all"), or per group of records (Groups of
+    `traces.groups`). Each has the number of jobs, the mean of their sojourns to three decimals, percentiles and the longest, and the share of at most
+    each of `within` ticks, to six decimals. Rows by node list lost jobs separately. Others have their number, `lost`: sojourns are those of the jobs
+    that weren't lost, and shares are those of all. Raises ValueError if the groups are those of another number of records.
 
     >>> import mpsim
     >>> from mpsim.tables.sojourns import table
-    >>> report = mpsim.run("model 1\\nsource door\\nserver desk =4 from door\\n", [("door", 0), ("door", 0)], jobs=True)
-    >>> for row in table(report, within=[4], percents=[90]):
-    ...     print(*row)
+    >>> report = mpsim.run("model 1\\nsource door\\nloss desk 2 =4 from door\\n", [("door", 0), ("door", 0), ("door", 0)], jobs=True)
+    >>> for by in "both", "source":
+    ...     for row in table(report, by, within=[4], percents=[90]):
+    ...         print(*row)
     source left_at how jobs mean_sojourn p90 max within_4
     door desk left 2 6.0 8 8 0.5
+    door desk lost 1 0.0 0 0 1.0
+    source jobs lost mean_sojourn p90 max within_4
+    door 3 1 6.0 8 8 0.333333
     """
-    is_by_source, is_by_end = by in ("both", "source"), by in ("both", "end")
+    names, figures = [node.name for node in report.nodes], ["mean_sojourn", *(f"p{percent:.15g}" for percent in percents), "max"]
+    figures += [f"within_{item}" for item in within]
     every = ways(report)
-    found: dict[tuple[int, int], list[int]] = {}
-    unknown = repeat(0)
-    for key, sojourn in zip(zip(every.source if is_by_source else unknown, every.end if is_by_end else unknown), every.sojourn):
-        if key in found:
-            found[key].append(sojourn)
-        else:
-            found[key] = [sojourn]
-    heads = ["source"] * is_by_source + ["left_at", "how"] * is_by_end
-    yield [*heads, "jobs", "mean_sojourn", *(f"p{percent:.15g}" for percent in percents), "max", *(f"within_{item}" for item in within)]
-    names = [node.name for node in report.nodes]
-    for (source, end), times in sorted(found.items()):
-        times.sort()
-        shown = [names[source]] * is_by_source + [names[end // 2], "lost" if end % 2 else "left"] * is_by_end
-        shares = [round(bisect_right(times, item) / len(times), 6) for item in within]
-        yield [*shown, len(times), round(sum(times) / len(times), 3), *(percentile_of(times, percent) for percent in percents), times[-1], *shares]
+    if by in ("both", "end"):
+        yield [*(["source"] if by == "both" else []), "left_at", "how", "jobs", *figures]
+        for key, times in grouped([every.source, every.end] if by == "both" else [every.end], every.sojourn):
+            shown: Row = [names[key[0]]] if by == "both" else []
+            yield [*shown, names[key[-1] // 2], "lost" if key[-1] % 2 else "left", len(times), *_figures(times, len(times), within, percents)]
+        return
+    head, labels, column = _groups(by, names, every, report.jobs)
+    yield [*head, "jobs", "lost", *figures]
+    found = dict(grouped([column, [end % 2 for end in every.end]], every.sojourn))
+    for number in sorted({key[0] for key in found}):
+        times, lost = found.get((number, 0), []), len(found.get((number, 1), []))
+        yield [*labels[number : number + len(head)], len(times) + lost, lost, *_figures(times, len(times) + lost, within, percents)]
 
 
-def each(report: Report) -> Iterator[Row]:
-    """Yields the header and the rows (lists) of a table with a row per job."""
-    yield ["job", "source", "came", "left_at", "how", "sojourn"]
-    for sojourn in sojourns(report):
-        yield [sojourn.job, sojourn.source, sojourn.came, sojourn.left_at, "lost" if sojourn.lost else "left", sojourn.sojourn]
+def _groups(by: str | Groups, names: list[str], every: Ways, jobs: int) -> tuple[list[str], list[str], Sequence[int]]:
+    """Returns the head of the column of groups, if there is one, their labels, and the number of each job's group."""
+    if by == "source":
+        return ["source"], names, every.source
+    if isinstance(by, str):
+        return [], [], [0] * len(every.job)
+    if len(by.numbers) != jobs:
+        raise ValueError(f"the column {by.name!r} has {len(by.numbers)} values, but {jobs} jobs were run")
+    return [by.name], by.labels, [by.numbers[job - 1] for job in every.job]
+
+
+def _figures(times: list[int], jobs: int, within: Sequence[int], percents: Sequence[float]) -> Row:
+    """Returns the figures of sojourns in rising order, and shares of this many jobs."""
+    shares = [round(bisect_right(times, item) / jobs, 6) for item in within]
+    if not times:
+        return [*(None for _ in (0, 1, *percents)), *shares]
+    return [round(sum(times) / len(times), 3), *(percentile_of(times, percent) for percent in percents), times[-1], *shares]
+
+
+def grouped(keys: Sequence[Sequence[int]], times: Sequence[int]) -> list[tuple[tuple[int, ...], list[int]]]:
+    """Returns pairs of a key (tuple of int) and its times in rising order (list of int), in the order of the keys. `keys` has one or two columns of
+    numbers below 2^31.
+
+    >>> from mpsim.tables.sojourns import grouped
+    >>> grouped([[1, 0, 1]], [9, 5, 4])
+    [((0,), [5]), ((1,), [4, 9])]
+    """
+    numpy = numpy_for(len(times))
+    if not numpy:
+        found: dict[tuple[int, ...], list[int]] = {}
+        for key, time in zip(zip(*keys), times):
+            found.setdefault(key, []).append(time)
+        return sorted((key, sorted(mine)) for key, mine in found.items())
+    columns, every = [numpy.asarray(column, "i8") for column in keys], numpy.asarray(times)
+    codes = sum(column << 31 * at for at, column in enumerate(reversed(columns)))
+    order = numpy.lexsort((every, codes))
+    begins = [0, *(numpy.flatnonzero(numpy.diff(codes[order])) + 1).tolist(), len(order)]
+    return [(tuple(int(column[order[begin]]) for column in columns), every[order[begin:end]].tolist()) for begin, end in zip(begins, begins[1:])]
+
+
+def each(report: Report | Reading) -> Iterator[Row]:
+    """Returns the header and the rows (lists) of a table with a row per job."""
+    rows = ([it.job, it.source, it.came, it.left_at, "lost" if it.lost else "left", it.sojourn] for it in sojourns(report))
+    return chain([["job", "source", "came", "left_at", "how", "sojourn"]], rows)

@@ -6,12 +6,12 @@ from typing import TYPE_CHECKING, Callable, Dict, Iterator, List, Optional, Sequ
 
 from ..agents.queues import Queue
 from ..agents.waits import model_pools, recomputed, rostered_pools
-from ..node_visits import percentile_of
+from ..node_visits import NodeVisits, percentile_of
 from ..runs import run
 from ..traces.resample import Days
 from ..traces.trace import Trace
-from .service import PERCENTS, figures, figures_of, heads
-from .visits import places_of, visits_to
+from .service import PERCENTS, figures_of, heads
+from .visits import Parts, places_of, visits_to
 
 if TYPE_CHECKING:
     from ..shapes import Row
@@ -31,11 +31,12 @@ def spreads(
     within: Sequence[int] = (20,),
     percents: Sequence[float] = PERCENTS,
     tell: Callable[[int], None] = lambda done: None,
+    parts: Optional[Parts] = None,
 ) -> Iterator[Row]:
     """Yields the header and the rows (lists, as in HEADS) of a table with a row per node, number of agents and figure: the figure in the trace
     itself, and percentiles of it over this many resampled traces with this seed. With numbers of agents, the one node is a server that pools replace,
-    as `mpplan pool` does; pools in the model are pooled again for each trace. `tell` is called with the number of runs done. Raises what `mpsim.run`
-    does, and ValueError for a pool with a roster, patience or priorities.
+    as `mpplan pool` does; pools in the model are pooled again for each trace. With Parts each has a row for "all", and one per part. `tell` is called
+    with the number of runs done. Raises what `mpsim.run` does, and ValueError for a pool with a roster, patience or priorities.
 
     >>> from mpsim.times.calendar import Calendar
     >>> rows = [["door", str(time), "9"] for time in (10, 86400, 86401, 86402)]
@@ -57,29 +58,26 @@ def spreads(
         raise ValueError(f"{special[0]} is a pool with a roster, patience or priorities: run mpplan pool for each trace")
     # Found by the trace itself: with the waits of other days a trunk group may lose calls.
     known = [] if agents else model_pools(model.encode(errors="surrogateescape"), days.trace)
-    seen: Dict[Tuple[str, Optional[int]], List[Row]] = {}
+    seen: Dict[Tuple[str, Optional[int], str], List[Row]] = {}
     for number in range(count + 1):
         tell(number)
         trace = days.resampled(seed, number) if number else days.trace
-        for key, row in _figures(model, recomputed(trace, known), nodes, agents, within, percents):
-            seen.setdefault(key, []).append(row)
-    yield list(HEADS)
-    for (node, many), (own, *others) in seen.items():
+        for visits, many, used in _visits(model, recomputed(trace, known), nodes, agents):
+            for name, mine in [("all", visits), *(parts.each(visits, used) if parts else ())]:
+                seen.setdefault((visits.node, many, name), []).append([*figures_of(mine, mine.raw_wait, within, percents)])
+    yield [*HEADS[:2], *([parts.head] if parts else []), *HEADS[2:]]
+    for (node, many, part), (own, *others) in seen.items():
         for at, name in enumerate(heads(within, percents)):
             values = sorted(value for row in others if isinstance(value := row[at], (int, float)))
             found: Row = [values[percentile_of(range(len(values)), percent)] for percent in SPREAD] if values else [None] * len(SPREAD)
-            yield [node, many, name, own[at], *found]
+            yield [node, many, *([part] if parts else []), name, own[at], *found]
 
 
-def _figures(
-    model: str, trace: Trace, nodes: Sequence[str], agents: Sequence[int], within: Sequence[int], percents: Sequence[float]
-) -> Iterator[tuple[tuple[str, int | None], Row]]:
-    """Yields a node and a number of agents, or None, and the figures there, for a trace."""
+def _visits(model: str, trace: Trace, nodes: Sequence[str], agents: Sequence[int]) -> Iterator[tuple[NodeVisits, int | None, Trace]]:
+    """Yields the visits to each node, the number of agents or None, and the trace, for a trace."""
     if agents:
         queue = Queue(model, trace, nodes[0])
-        for many in agents:
-            yield (nodes[0], many), [*figures(queue.visits(many).raw_wait, within, percents)]
+        yield from ((queue.visits(many), many, trace) for many in agents)
         return
     report = run(model.encode(errors="surrogateescape"), trace.lines(), jobs=True)
-    for visits in visits_to(report, places_of(report, nodes)):
-        yield (visits.node, None), [*figures_of(visits, visits.raw_wait, within, percents)]
+    yield from ((visits, None, trace) for visits in visits_to(report, places_of(report, nodes)))

@@ -2,16 +2,20 @@
 
 from __future__ import annotations
 
-from typing import TYPE_CHECKING
+from bisect import bisect_right
+from typing import TYPE_CHECKING, Callable, List, NamedTuple, Optional, Tuple
 
 from ..agents.pools import names_of, pooled, pools, queue_name, visits_at
 from ..lines import PASSED
 from ..node_visits import FIELDS, NodeVisits, Visits
+from ..times.texts import WEEKDAYS
+from ..traces.trace import Trace
 
 if TYPE_CHECKING:
-    from collections.abc import Collection, Iterable, Sequence
+    from collections.abc import Collection, Iterable, Iterator, Sequence
 
     from ..report import Report
+    from ..times.calendar import Calendar
 
 
 class Passing(NodeVisits):
@@ -69,6 +73,59 @@ def of_source(visits: NodeVisits, sources: dict[int, str], names: Sequence[str])
         column = getattr(visits, name)
         getattr(found, name).extend([column[at] for at in kept])
     return found
+
+
+class Parts(NamedTuple):
+    """What a table has rows of, beside all visits: the name of the column (`head`), the names in order (list of str), and the name of each visit,
+    from some NodeVisits and the trace (Trace) of their run."""
+
+    head: str
+    names: List[str]
+    of: Callable[[NodeVisits, Trace], List[str]]
+
+    def each(self, visits: NodeVisits, trace: Trace) -> Iterator[Tuple[str, NodeVisits]]:
+        """Yields each name and its visits, which may be none.
+
+        >>> from mpsim.times.calendar import Calendar
+        >>> visits, days = NodeVisits("desk"), Calendar(10**9, "2026-03-02T00:00")
+        >>> for name, column in zip(FIELDS, ([1, 2, 3], [0, 86500, 9], [0, 0, 5], [1, 1, 1])):
+        ...     getattr(visits, name).extend(column)
+        >>> trace = Trace("t.csv", ["source", "time"], [["b", "0"], ["a", "86500"], ["b", "9"]])
+        >>> for parts in parts_by("source", trace), parts_by("weekday", trace, days):
+        ...     print(parts.head, [(name, list(mine.job)) for name, mine in parts.each(visits, trace)])
+        source [('a', [2]), ('b', [1, 3])]
+        weekday [('Monday', [1, 3]), ('Tuesday', [2])]
+        """
+        places: dict[str, list[int]] = {name: [] for name in self.names}
+        for at, name in enumerate(self.of(visits, trace)):
+            places[name].append(at)
+        for name, kept in places.items():
+            found = type(visits)(visits.node)
+            for field in FIELDS:
+                column = getattr(visits, field)
+                getattr(found, field).extend([column[at] for at in kept])
+            yield name, found
+
+
+def parts_by(by: str, trace: Trace, days: Optional[Calendar] = None) -> Parts:
+    """Returns the Parts of visits of traces like this one: by "source", or by "weekday" in a Calendar, with all weekdays up to the last record.
+    Raises ValueError for weekdays without dates."""
+    if by == "source":
+
+        def sources(visits: NodeVisits, trace: Trace) -> List[str]:
+            every = trace.sources()
+            return [every[job - 1] for job in visits.job]
+
+        return Parts(by, sorted(set(trace.sources())), sources)
+    if days is None or not days.is_dated:
+        raise ValueError("--by weekday needs the date of time 0: give --start")
+    calendar = days
+
+    def weekdays(visits: NodeVisits, trace: Trace) -> List[str]:
+        begins, names = calendar.parts("weekday", max(visits.arrive, default=0))
+        return [names[bisect_right(begins, arrive) - 1] for arrive in visits.arrive]
+
+    return Parts(by, sorted(set(calendar.parts("weekday", max(trace.times(), default=0))[1]), key=WEEKDAYS.index), weekdays)
 
 
 def together(names: dict[str, Iterable[str]]) -> str | None:

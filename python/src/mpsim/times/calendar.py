@@ -6,6 +6,7 @@ import re
 from typing import TYPE_CHECKING
 
 from .texts import DAY, HOUR, MINUTE, SECOND, UNITS, WEEKDAYS, given, iso, length, moment
+from .working import WorkingTime, openings_in
 from .zones import Zone
 
 if TYPE_CHECKING:
@@ -66,6 +67,29 @@ def with_settings(text: str, tick: int, start: str | None, zone: str | None) -> 
     return with_line(text, _SETTINGS, _settings(tick, start, zone))
 
 
+_WORKING = r"# working time is ([^\r\n]+?)"
+
+
+def working_line(text: str) -> str:
+    """Returns the comment of a model that says when time counts, from the text of openings. `working_in` reads it back."""
+    return f"# working time is {text}"
+
+
+def working_in(text: str) -> str | None:
+    """Returns the text of the openings in whose hours the ticks of a model count; None if they count all hours.
+
+    >>> working_in("model 1\\n# working time is mon-fri 06:00-14:00\\nsource door\\n")
+    'mon-fri 06:00-14:00'
+    """
+    found = re.search(rf"^{_WORKING}\r?$", text, re.M)
+    return found[1] if found else None
+
+
+def with_working(text: str, working: str) -> str:
+    """Returns a model's text with these openings in its first lines."""
+    return with_line(text, _WORKING, working_line(working))
+
+
 def with_line(text: str, pattern: str, line: str) -> str:
     """Returns a model's text with the first line that matches a pattern replaced by a comment. If no line matches, the comment goes after the version
     line and the comments that follow it."""
@@ -82,15 +106,19 @@ def with_line(text: str, pattern: str, line: str) -> str:
 
 class Calendar:
     """The day and hour of each tick. `tick` (int) is in nanoseconds, `start` an ISO 8601 text, `zone` a name. Without a start, time 0 is a midnight.
-    Days change at midnight of the zone. Raises ValueError for an invalid value, and for a zone without a start.
+    Days change at midnight of the zone. With `working`, a text of openings such as "mon-fri 06:00-14:00", ticks count working time only: a tick that
+    follows the last one of a shift is at the next opening. Raises ValueError for an invalid value, and for a zone or working time without a start.
 
     >>> from mpsim.times.calendar import Calendar
     >>> days = Calendar(10**9, "2026-03-28T00:00:00+01:00", "Europe/Berlin")
     >>> days.parts("day", 200000)
     ([0, 86400, 169200], ['2026-03-28', '2026-03-29', '2026-03-30'])
+    >>> shifts = Calendar(10**9, "2026-03-06T06:00", None, "mon-fri 06:00-14:00")
+    >>> shifts.shown(8 * 3600 - 1), shifts.shown(8 * 3600)
+    ('2026-03-06T13:59:59', '2026-03-09T06:00:00')
     """
 
-    def __init__(self, tick: int | None, start: str | None = None, zone: str | None = None) -> None:
+    def __init__(self, tick: int | None, start: str | None = None, zone: str | None = None, working: str | None = None) -> None:
         if tick is None:
             raise ValueError("the length of a tick is unknown; a model whose first lines `mpplan prepare` wrote gives it")
         self.tick, self.place, self.is_dated = tick, Zone(zone), start is not None
@@ -99,14 +127,59 @@ class Calendar:
         wall, offset = given("time 0,", iso, start) if start else (0, None)
         # With an offset but no zone there are no clock changes: moments are wall-clock times.
         self.begin = wall - offset if offset is not None and zone else wall if offset is not None or not zone else self.place.first(wall)
+        if working and not self.is_dated:
+            raise ValueError("working time needs the date of time 0: give --start")
+        self.working = WorkingTime(openings_in(working), self.place) if working else None
+        self._zero = self.working.of(self.begin) if self.working else self.begin
+
+    def moment(self, tick: int) -> int:
+        """Returns the moment of a tick (int, nanoseconds)."""
+        value = self._zero + tick * self.tick
+        return self.working.moment(value) if self.working else value
+
+    def shown(self, tick: int) -> str:
+        """Returns the ISO 8601 text of a tick, with its offset if there is a zone."""
+        return self.place.shown(self.moment(tick))
+
+    def keeps_clock(self, nanos: int) -> bool:
+        """Returns whether records that are moved by this length need this calendar to keep their time of day: whole days on a clock that changes or
+        that counts working time."""
+        return (self.place.zone is not None or self.working is not None) and nanos % DAY == 0
 
     def wall(self, tick: int) -> int:
         """Returns the wall-clock time of a tick, in nanoseconds since 1970."""
-        return self.place.wall(self.begin + tick * self.tick)
+        return self.place.wall(self.moment(tick))
 
     def tick_at(self, value: int) -> int:
         """Returns the first tick at or after a moment."""
-        return -((self.begin - value) // self.tick)
+        return -((self._zero - (self.working.of(value) if self.working else value)) // self.tick)
+
+    def stretches(self, last: int) -> list[tuple[int, int]]:
+        """Returns the stretches of working time up to tick `last` (list of pairs): the first tick of each, and its wall-clock time. Without working
+        time there is one.
+
+        >>> [it for it, _ in Calendar(10**9, "2026-03-06T12:00", None, "mon-fri 06:00-14:00").stretches(40000)]
+        [0, 7200, 36000]
+        """
+        begins = self.working.openings_between(self.begin, self.moment(last)) if self.working else []
+        return [(tick, self.wall(tick)) for tick in sorted({0, *map(self.tick_at, begins)})]
+
+    def tick_of_date(self, text: str) -> int:
+        """Returns the first tick at or after a date with a time, an ISO 8601 text; of a time that occurs twice, the first. It may be below 0. Raises
+        ValueError for another text, and without the date of time 0.
+
+        >>> from mpsim.times.calendar import Calendar
+        >>> Calendar(10**9, "2026-03-02T08:00").tick_of_date("2026-03-02 09:00")
+        3600
+        """
+        return self.tick_at(self.moment_of_date(text))
+
+    def moment_of_date(self, text: str) -> int:
+        """Returns the moment (int, nanoseconds) of a date with a time, as `tick_of_date` reads it, also while it is closed. Raises the same."""
+        if not self.is_dated:
+            raise ValueError(f"the date {text} needs the date of time 0: give --start")
+        wall, offset = iso(text)
+        return self.place.first(wall) if offset is None else wall - offset if self.place.zone else wall
 
     def midnights(self, last: int) -> Iterator[tuple[int, int, int]]:
         """Yields each day from that of tick 0 to that of tick `last`: its number, the moment at which it begins, and the moment at which the next

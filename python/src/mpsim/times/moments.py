@@ -9,7 +9,7 @@ from functools import partial
 from operator import add, itemgetter, methodcaller
 from typing import TYPE_CHECKING
 
-from . import months
+from . import clocks, months
 from .formats import is_of_day
 from .texts import DAY, HOUR, LONGEST, SECOND, SPREADSHEET, Asks, Cache, Unread, at_utc, clock, excel, gtfs, hmm, hmmss
 from .texts import iso_day, iso_rest, nanos, rfc_day, rfc_rest, there
@@ -23,7 +23,7 @@ if TYPE_CHECKING:
     Parts = Tuple[Callable[[str], Sequence[str]], Callable[[str], int], Callable[[str], Tuple[int, Optional[int]]]]
 
 _MIDNIGHT = nanos(datetime(1900, 1, 1))
-# Formats that clock() reads like strptime, in a twelfth of the time.
+# Formats that clock() reads in a twelfth of the time. Unlike strptime it takes times without the seconds or the fraction that a format names.
 _PLAIN_CLOCKS = "%H:%M", "%H:%M:%S", "%H:%M:%S.%f", "%I:%M %p", "%I:%M:%S %p"
 
 
@@ -52,17 +52,22 @@ def _day_as(form: str) -> Callable[[str], int]:
     return lambda text: nanos(read(text))
 
 
-def _half_day(text: str) -> int:
-    """Returns the nanoseconds since midnight of a time with AM or PM, such as `1:30 pm`. Raises Unread."""
-    if not re.search("[AaPp]\\.?\\s?[Mm]", text):
+def _clock_of(form: str, text: str) -> int:
+    """Returns the nanoseconds since midnight of a time that has no more than a format from _PLAIN_CLOCKS, and AM or PM if the format has it. Raises
+    Unread."""
+    has_half = bool(re.search("[AaPp]\\.?\\s?[Mm]", text))
+    if "%p" in form and not has_half:
         raise Unread("a time without AM or PM")
+    if text.count(":") > form.count(":") or "%f" not in form and re.search(r":\d\d[.,]", text) or has_half and "%p" not in form:
+        raise Unread(f"not of the format {form}")
     return clock(text)
 
 
 def _clock_as(form: str) -> Callable[[str], tuple[int, int | None]]:
     as_given = _read_as(form)
-    read = (_half_day if "%p" in form else clock) if form in _PLAIN_CLOCKS else lambda text: nanos(as_given(text)) - _MIDNIGHT
-    return lambda text: (read(text), None)
+    if form in _PLAIN_CLOCKS:
+        return lambda text: (_clock_of(form, text), None)
+    return lambda text: (nanos(as_given(text)) - _MIDNIGHT, None)
 
 
 def _since_midnight(read: Callable[[str], tuple[int, int | None]]) -> Callable[[str], int]:
@@ -121,6 +126,8 @@ class Moments:
         self.has_offsets, self.has_none, self.halves = form in ("unix", "unixms"), False, set()
         self._unit = {"ticks": 1, "unix": SECOND, "unixms": SECOND // 1000}.get(form, 0)
         self._seen, self._parts = {}, _parts_of(form)
+        # What may be between the day and hh:mm:ss, if the format is of these two.
+        self._marks = "T " if form == "iso" else " " if self._parts and form.endswith(" %H:%M:%S") else ""
         if self._parts:
             self._split, self._read_day, self._read_rest = self._parts
             self._walls, self._rests = Cache(self._read_day), Cache(self._met)
@@ -198,13 +205,16 @@ class Moments:
         since, offset = self._rests[rest]
         return self.zone.utc(self._walls[day] + since, self._seen, than, until) if offset is None else self._walls[day] + since - offset
 
-    def many(self, texts: Sequence[str]) -> list[int]:
-        """Returns the moments (list of int) of texts that need no individual treatment; raises Unread if one may. Each text takes two cache look-ups
-        and a sum."""
+    def many(self, texts: Sequence[str]) -> Sequence[int]:
+        """Returns the moments (list or array of int) of texts that need no individual treatment; raises Unread if one may. Those that end in hh:mm:ss
+        are read all at once; other texts take two cache look-ups and a sum each."""
         if self._unit:
             return self._many_numbers(texts, self._unit)
         if not self._parts or self.is_of_day:
             raise Unread("one by one")
+        if self._marks and (found := clocks.moments(texts, self._caches[False][0].__getitem__, self._marks)):
+            self.has_none = True
+            return found
         days, rests = self._cut(texts)
         days_of, rest_of = self._caches[self._rests[rests[0]][1] is not None]
         return list(map(add, map(days_of.__getitem__, days), map(rest_of.__getitem__, rests)))

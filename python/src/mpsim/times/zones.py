@@ -11,6 +11,8 @@ if TYPE_CHECKING:
     from collections.abc import Iterator
     from datetime import datetime, tzinfo
 
+    from .working import WorkingTime
+
 QUARTER = 15 * MINUTE
 TWICE = {
     "first": "as the first",
@@ -21,7 +23,8 @@ TWICE = {
 
 class Zone:
     """A time zone by its name (str), such as Europe/Berlin. Without a name, every day has 24 hours and moments are wall-clock times. `twice` says
-    which hour is meant when clocks are set back. Raises ValueError for a zone that this machine doesn't know.
+    which hour is meant when clocks are set back. `working` (WorkingTime or None) says which time counts. Raises ValueError for a zone that this
+    machine doesn't know.
 
     >>> from mpsim.times.zones import Zone
     >>> Zone("Europe/Berlin").shown(1772438417 * 10**9)
@@ -33,6 +36,7 @@ class Zone:
 
     def __init__(self, name: str | None = None, twice: str | None = None) -> None:
         self.name, self.twice, self.zone, self.again = name, twice, None, {}
+        self.working: WorkingTime | None = None
         self._whole_days, self._shifts = Cache(self.whole_day), Cache(self._shift)
         if name:
             from zoneinfo import ZoneInfo
@@ -41,6 +45,14 @@ class Zone:
                 self.zone = ZoneInfo(name)
             except (LookupError, ValueError, OSError):
                 raise ValueError(f"this machine has no time zone {name!r}; their names look like Europe/Berlin") from None
+
+    def counted(self, value: int) -> int:
+        """Returns the time that counts at a moment (int, nanoseconds from any beginning): the moment itself, or the working time."""
+        return self.working.of(value) if self.working else value
+
+    def length(self, begin: int, end: int) -> int:
+        """Returns the time that counts between two moments (int, nanoseconds): all of it, or the working time."""
+        return self.working.length(begin, end) if self.working else end - begin
 
     def _both(self, wall: int) -> tuple[int, int]:
         """Returns the two moments with this wall-clock time, which are the same except when clocks are set back. When clocks are set forward over it,

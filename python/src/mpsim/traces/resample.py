@@ -33,6 +33,9 @@ class Days:
         times = trace.times()
         days_until(calendar, max(times, default=0))
         found = list(calendar.midnights(max(times, default=0)))
+        if calendar.working:
+            # A day without working time replaces no other, and isn't replaced.
+            found = [day for day in found if calendar.tick_at(day[1]) < calendar.tick_at(day[2])]
         begins = [calendar.tick_at(begin) for _, begin, _ in found]
         self.numbers = [day for day, _, _ in found]
         self.records: List[List[int]] = [[] for _ in found]

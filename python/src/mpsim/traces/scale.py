@@ -118,9 +118,7 @@ def around(time: int, count: int, shift: int, first: int, last: int, told: tuple
     return [front + ((time - front) // shift + copy) % rounds * shift for copy in range(count)]
 
 
-def scaled(
-    trace: Trace, k: int, n: int, way: str, shift: int | None = None, only: Collection[str] = (), days: Calendar | None = None
-) -> Trace:
+def scaled(trace: Trace, k: int, n: int, way: str, shift: int | None = None, only: Collection[str] = (), days: Calendar | None = None) -> Trace:
     """Returns the trace (Trace) with k/n of the load of another, in order of time; `way` is "times", "twins" or "shift". With `days`, a Calendar, a
     shift keeps the time of day.
 
@@ -155,7 +153,11 @@ def means(k: int, n: int, way: str, shift: int | None = None, only: Collection[s
     'each record has one copy, 86400 ticks later; copies past the end wrap round to the start'
     """
     of = f" of {' or of '.join(only)}" if only else ""
-    by = f"{shift} ticks" if days is None or not shift else f"{counted(shift * days.tick // DAY, 'day')} by the clock of {days.place.name}"
+    by = (
+        f"{shift} ticks"
+        if days is None or not shift
+        else f"{counted(shift * days.tick // DAY, 'day')} by the clock of {days.place.name or 'the calendar'}"
+    )
     if k == n:
         return "each record is kept as it was"
     if way == "times":

@@ -1,0 +1,119 @@
+"""The columns that the modules of this package, and pools, write into a trace: which they are, and whether they hold."""
+
+from __future__ import annotations
+
+from typing import TYPE_CHECKING
+
+from ..agents.networks import in_front
+from ..agents.pools import queue_name
+from ..model import nodes_of
+from ..node_visits import NodeVisits
+from ..traces.trace import pool_warning
+
+if TYPE_CHECKING:
+    from collections.abc import Iterable, Iterator, Mapping, Sequence
+
+    from ..model import ModelNode
+    from ..report import Report
+
+
+def held_name(machine: str) -> str:
+    """Returns the column with the time that a part spends at a machine of a line: its work, and the time for which it stays blocked."""
+    return f"{machine}_held"
+
+
+def down_name(node: str, stage: int | None = None) -> str:
+    """Returns the column with the service times of a node, or of a stage of a tandem (int, from 1), that include repairs."""
+    return f"{node}_down" if stage is None else f"{node}_{stage}_down"
+
+
+def batch_name(node: str) -> str:
+    """Returns the column with the number of the batch in which a unit is, from 1."""
+    return f"{node}_batch"
+
+
+def fill_name(node: str) -> str:
+    """Returns the delay in which units wait until their batch begins; the name differs from that of a pool's queue."""
+    return f"{node}_fill"
+
+
+def judge_names(node: str, names: Iterable[str]) -> None:
+    """Raises ValueError if one of these names (iterable of str), which are made from a node's, is too long for a node or a column."""
+    for name in names:
+        if len(name) > 32:
+            raise ValueError(f"the name {name!r} is longer than 32 characters: give {node} a shorter name")
+
+
+def _made(node: ModelNode) -> str | None:
+    """Returns what worked out the columns that a node reads: a pool, a batch, a line or a breakdown; None if nothing did."""
+    words = node.arguments.split()
+    name = node.name.removesuffix(queue_name(""))
+    if node.kind == "delay" and node.name == queue_name(name) and words == [f"{name}_wait"]:
+        return f"the queue at {name}"
+    if node.kind == "delay" and node.name.endswith(fill_name("")) and words == [f"{node.name.removesuffix(fill_name(''))}_wait"]:
+        return f"the oven {node.name.removesuffix(fill_name(''))}"
+    if node.kind == "split" and words[:1] == ["cut"] and words[1].endswith("_agent"):
+        return f"the pool at {words[1].removesuffix('_agent')}"
+    if node.kind == "server" and words == [held_name(node.name)]:
+        return f"the line of {node.name}"
+    if any(word in (down_name(node.name), *(down_name(node.name, stage) for stage in range(1, 5))) for word in words):
+        return f"the breakdown at {node.name}"
+    return None
+
+
+def ovens_in(text: str) -> list[str]:
+    """Returns the ovens (list of str) in a model's text whose batches `mpplan batch` worked out.
+
+    >>> from mpsim.stations.columns import ovens_in
+    >>> ovens_in("model 2\\nsource units\\ndelay oven_fill oven_wait from units\\ntrunk oven 2 =20 from oven_fill\\n")
+    ['oven']
+    """
+    return [node.name.removesuffix(fill_name("")) for node in nodes_of(text) if (_made(node) or "").startswith("the oven ")]
+
+
+def judge_order(nodes: Mapping[str, ModelNode], name: str, what: str) -> None:
+    """Raises ValueError if columns that were worked out before are read at the node of this name, or downstream of it: they hold only for the times
+    at which jobs come there. `nodes` are those of the model by name (dict of ModelNode); `what` (str) is what is to be worked out at the node."""
+    for item in nodes.values():
+        made = _made(item)
+        if made and name in in_front(nodes, [item.name]):
+            where = f"is downstream of {name}" if item.name != name else f"is at {name}"
+            raise ValueError(f"{made} {where}: its columns hold only for the times at which jobs come there; work out {what} at {name} first")
+
+
+def judge_departures(report: Report, departs: Mapping[str, Sequence[int]]) -> None:
+    """Raises ValueError if the jobs that some nodes serve leave them at other times, in a report with visits (Report), than those worked out
+    (sequences of int by the name of the node, in order of arrival)."""
+    for name, times in departs.items():
+        # A network without jobs has no job lines.
+        visits = report.visits[name] if report.has_visits and report.visits else NodeVisits(name)
+        if list(times) != [end for end, wait in zip(visits.raw_depart, visits.raw_wait) if wait >= 0]:
+            raise ValueError(f"jobs leave {name} at other times than those worked out: this is a mistake in mpplan")
+
+
+def worked_warning(path: str, header: Sequence[str]) -> str | None:
+    """Returns a warning (str) about a trace with columns that `mpplan line`, `down` or `batch` may have written, given by its path and header; None
+    for any other trace.
+
+    >>> from mpsim.stations.columns import worked_warning
+    >>> worked_warning("parts.csv", ["source", "time", "mill", "mill_held"])
+    'warning: parts.csv has columns that mpplan worked out (mill_held): they hold only for this trace; change it first, then work them out again'
+    >>> worked_warning("parts.csv", ["source", "time", "mill"])
+    """
+    if not (found := list(_worked(header[2:]))):
+        return None
+    why = "they hold only for this trace; change it first, then work them out again"
+    return f"warning: {path} has columns that mpplan worked out ({', '.join(found)}): {why}"
+
+
+def made_warning(path: str, header: Sequence[str]) -> str | None:
+    """Returns a warning (str) about a trace with columns that `mpplan` worked out, for a pool or as `worked_warning` finds them, given by its path
+    and header; None for any other trace."""
+    return pool_warning(path, header) or worked_warning(path, header)
+
+
+def _worked(names: Sequence[str]) -> Iterator[str]:
+    for name in names:
+        base, _, end = name.rpartition("_")
+        if base and (end in ("held", "down") or end == "batch" and f"{base}_wait" in names):
+            yield name
