@@ -12,6 +12,7 @@ import subprocess
 import sys
 import time
 import unittest
+import unittest.mock
 
 from commands import InFolder, planner
 from ground import DESK, EXAMPLES, PYTHON, ROOT, SOURCES, Test, text_of
@@ -229,6 +230,20 @@ class Files(InFolder):
                 file.write("half")
                 raise error
             self.assertEqual((text_of(path), os.listdir(self.folder)), ("before\n", ["a"]))
+
+    def test_ctrl_c_as_a_file_is_begun(self):
+        path = self.file("a", "before\n")
+        for call in "fchmod", "stat":
+            with unittest.mock.patch(f"mpsim.files.os.{call}", side_effect=KeyboardInterrupt), self.assertRaises(KeyboardInterrupt), written(path):
+                self.fail("it was opened")
+            self.assertEqual((text_of(path), os.listdir(self.folder)), ("before\n", ["a"]))
+
+    def test_a_part_of_another(self):
+        path, other = self.folder / "a", self.file("a.1.part", "another's\n")
+        with unittest.mock.patch("mpsim.files.secrets.token_hex", return_value="1"), self.assertRaises(FileExistsError) as caught, written(path):
+            self.fail("it was opened")
+        self.assertEqual((caught.exception.filename, text_of(other)), (str(path), "another's\n"))
+        other.unlink()
 
     def test_pipes_and_devices(self):
         pipe = self.folder / "pipe"
