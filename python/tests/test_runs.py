@@ -10,6 +10,7 @@ import sys
 import tempfile
 import time
 import unittest
+import unittest.mock
 
 from ground import DESK, EXAMPLES, MODEL, SOURCES, TRACE, Test, children_of, folders, heeds_signals, programs_in, stand_in, text_of
 
@@ -304,6 +305,13 @@ class Ends(Test):
                 self.assertIn(b"KeyboardInterrupt", told.splitlines()[-1])
                 self.assertEqual(len(children), 1)
                 self.assertFalse(pathlib.Path(f"/proc/{children[0]}").exists())
+
+    def test_ctrl_c_as_the_program_starts(self):
+        """When the process is there, and before it runs the program."""
+        pipe = os.path.join(self.folder, "pipe")
+        os.mkfifo(pipe)
+        with unittest.mock.patch("os.read", side_effect=KeyboardInterrupt), self.assertRaises(KeyboardInterrupt):
+            mpsim.run(MODEL, pipe)
 
     def test_the_commands(self):
         """They become the program: its output, its status and its arguments."""

@@ -15,9 +15,23 @@ from .errors import ProgramError, ReportError, TimedOut, error_of
 if TYPE_CHECKING:
     from collections.abc import Collection, Iterable, Sequence
     from types import TracebackType
-    from typing import IO
+    from typing import IO, Any
 
     from .inputs import Input
+
+
+class _Process(subprocess.Popen[bytes]):
+    """A process that doesn't outlive its start: if Ctrl-C comes when the program is about to run and the caller hasn't got the process yet, it ends."""
+
+    def __init__(self, words: Sequence[str], **more: Any) -> None:
+        self.pid = 0
+        try:
+            super().__init__(words, **more)
+        except BaseException:
+            if self.pid and self.returncode is None:
+                self.kill()
+                self.wait()
+            raise
 
 
 class Running:
@@ -37,7 +51,7 @@ class Running:
         # stderr goes to memory, where it can't fill a pipe that nobody reads.
         self._errors = os.memfd_create("mpsim-errors")
         try:
-            self._process = subprocess.Popen(
+            self._process = _Process(
                 [file, *words],
                 stdout=subprocess.PIPE,
                 stderr=self._errors,
