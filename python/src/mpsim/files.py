@@ -108,8 +108,8 @@ def written(path: Path | None = None) -> Iterator[TextIO]:
             sys.stdout.flush()
     elif not _is_whole(path):
         # Append, so that a redirected /dev/stdout keeps what is already there.
-        with named(path), open(path, "a", encoding="utf-8", errors="surrogateescape", newline="") as file:
-            yield file
+        with named(path), open(path, "a", encoding="utf-8", errors="surrogateescape", newline="") as appended:
+            yield appended
     else:
         # A link is kept; its target is written.
         path = os.path.realpath(path)
