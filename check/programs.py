@@ -1,4 +1,5 @@
 """Runs the programs for the checks, and compares what they do. Every file test_*.py uses it."""
+import atexit
 import os
 import pathlib
 import pprint
@@ -106,6 +107,14 @@ def once(call):
         return answers[0]
 
     return answered
+
+
+@once
+def shared():
+    """Returns a directory for what all tests share, which is removed when the checks end. Made before the processes that run the tests, it is theirs."""
+    folder = tempfile.mkdtemp(prefix="check-")
+    atexit.register(shutil.rmtree, folder, ignore_errors=True)
+    return folder
 
 
 class Check(unittest.TestCase):
