@@ -288,7 +288,7 @@ def begin(name, uses, kit, jobs, nice):
     words, folder = ["nice", "-n", str(nice), *made_by(name, uses, kit, jobs)], f"{ROOT}/crates/{name}"
     with open(f"{PROVED}/{name}.log", "w") as log:
         files = {"stdin": subprocess.DEVNULL, "stdout": log, "stderr": log}
-        return subprocess.Popen(words, cwd=folder, **files, start_new_session=True, preexec_fn=lambda: signal.pthread_sigmask(signal.SIG_UNBLOCK, STOPS))
+        return subprocess.Popen(words, cwd=folder, **files, start_new_session=True, preexec_fn=stoppable)
 
 
 @contextlib.contextmanager
@@ -298,7 +298,12 @@ def unstopped():
     try:
         yield
     finally:
-        signal.pthread_sigmask(signal.SIG_UNBLOCK, STOPS)
+        stoppable()
+
+
+def stoppable():
+    """Lets the signals through that end the build, in this process or in one that it starts while they are deferred."""
+    signal.pthread_sigmask(signal.SIG_UNBLOCK, STOPS)
 
 
 def end(checks):

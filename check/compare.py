@@ -31,7 +31,7 @@ from sweep import sweep
 
 ROOT = Path(__file__).resolve().parent.parent
 REFERENCES: dict[str, Callable] = {'mpsim': simulate, 'mpedit': edit_trace, 'mpsweep': sweep}
-SECONDS = 60    # after which a program that hasn't ended counts as differing
+SECONDS = 600    # after which a program that hasn't ended counts as differing, also on a busy machine
 ENOUGH = 400    # cases, in which each expected feature should occur
 MOST = 3        # differing cases, after which the run stops
 

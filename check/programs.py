@@ -1,4 +1,5 @@
 """Runs the programs for the checks, and compares what they do. Every file test_*.py uses it."""
+import atexit
 import os
 import pathlib
 import pprint
@@ -20,8 +21,8 @@ DESK_FILES = DESK / "model.txt", DESK / "trace.csv"
 # What runs for the name of a program: the scripts at the root, or executables set by `use`.
 SCRIPTS = {name: ROOT / name for name in ("mpsim", "mpsweep", "mpedit")}
 PROGRAMS = dict(SCRIPTS)
-# The default limit for a run, in seconds.
-LONGEST = 600
+# The limit for a run, in seconds. It only ends what hangs: on a busy machine with two processors, the compiler of the toolchain can take long.
+LONGEST = 1800
 # The most lines of a difference that are shown.
 SHOWN = 60
 
@@ -45,7 +46,7 @@ def executable(name):
     return ROOT / "crates" / name / "out" / name if PROGRAMS[name] == SCRIPTS[name] else PROGRAMS[name]
 
 
-def run(*words, folder=ROOT, given=b"", out=None, line=None, settings=None, seconds=LONGEST):
+def run(*words, folder=ROOT, given=b"", out=None, line=None, settings=None):
     """Runs a command in a directory, with these bytes as its input. A first word of mpsim, mpsweep or mpedit means the program used for that name.
     `out` and `line` name files for stdout and stderr; `settings` are environment variables."""
     words = [PROGRAMS.get(words[0], words[0]), *words[1:]]
@@ -62,10 +63,10 @@ def run(*words, folder=ROOT, given=b"", out=None, line=None, settings=None, seco
             stdout=outputs[0],
             stderr=outputs[1],
             env={**os.environ, **(settings or {})},
-            timeout=seconds,
+            timeout=LONGEST,
         )
     except subprocess.TimeoutExpired:
-        raise AssertionError(f"{command}\nwas not done after {seconds} seconds") from None
+        raise AssertionError(f"{command}\nwas not done after {LONGEST} seconds") from None
     finally:
         for file in outputs:
             if file != subprocess.PIPE:
@@ -106,6 +107,14 @@ def once(call):
         return answers[0]
 
     return answered
+
+
+@once
+def shared():
+    """Returns a directory for what all tests share, which is removed when the checks end. Made before the processes that run the tests, it is theirs."""
+    folder = tempfile.mkdtemp(prefix="check-")
+    atexit.register(shutil.rmtree, folder, ignore_errors=True)
+    return folder
 
 
 class Check(unittest.TestCase):

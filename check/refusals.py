@@ -1,18 +1,15 @@
 """Refuses memory and threads to the programs, one allocation after another, with refuse.c."""
-import atexit
 import pathlib
-import shutil
 import subprocess
 import tempfile
 
-from programs import CHECKS, executable, once, run
+from programs import CHECKS, executable, once, run, shared
 
 
 @once
 def library():
     """The library that refuses, built with the toolchain's compiler: it is loaded before a program's own libraries."""
-    folder = tempfile.mkdtemp(prefix="check-")
-    atexit.register(shutil.rmtree, folder, ignore_errors=True)
+    folder = tempfile.mkdtemp(dir=shared())
     kit = pathlib.Path(subprocess.run(["rt", "doc"], stdout=subprocess.PIPE, text=True, check=True).stdout.strip()).parent / "toolchain"
     words = [kit / "bin" / "clang", "--target=x86_64-unknown-linux-gnu", f"--sysroot={kit}", "-fuse-ld=lld", "-nostdlib", "-shared", "-fPIC", "-O1"]
     subprocess.run([*words, "-o", f"{folder}/refuse.so", CHECKS / "refuse.c"], check=True)
@@ -24,7 +21,7 @@ def refusing(check, name, *words, line=None, **settings):
     and whether anything was refused."""
     told = check.folder / "told"
     settings = {"LD_PRELOAD": library(), "TOLD": str(told), **settings}
-    ran = run(executable(name), *words, settings=settings, line=line, seconds=60)
+    ran = run(executable(name), *words, settings=settings, line=line)
     return ran, told.is_file()
 
 

@@ -16,7 +16,7 @@ sleep "$(cat "$0.$6")"
 
 class Bench(Check):
     def stand_in(self, name, **seconds):
-        """A program that takes this many seconds by its number of workers: one=.., two=.."""
+        """A program that takes this many seconds by its number of workers: one=.., two=.. They differ by more than a busy machine adds."""
         program = self.file(name, STAND_IN)
         program.chmod(0o755)
         for workers, wait in zip((1, 2), (seconds["one"], seconds["two"])):
@@ -30,18 +30,18 @@ class Bench(Check):
         return (self.folder / f"{name}.calls").read_text().splitlines()
 
     def test_no_slow_run(self):
-        ran = self.compared(self.stand_in("quick", one=0.4, two=0.1))
+        ran = self.compared(self.stand_in("quick", one=3, two=0.1))
         self.same(f"{ran.command}\n{ran.out.decode()}", (ran.status, ran.line), (0, b""))
         head, rule, row, last = ran.out.decode().splitlines()
         self.same("the table", (head, rule), ("| Input | Program | 1 worker | 2 workers |", "|---|---|---|---|"))
         seconds = [float(cell.split(",")[0]) for cell in row.split(" | ")[2:]]
-        self.holds(row, row.startswith("| server | program | ") and seconds[0] >= 0.4 and 0.1 <= seconds[1] < seconds[0])
+        self.holds(row, row.startswith("| server | program | ") and seconds[0] >= 3 and 0.1 <= seconds[1] < seconds[0])
         self.holds(last, last.startswith("other work ") and " s, steal " in last)
         self.same("the calls", self.calls("quick"), [f"--report 2 --workers {workers}" for workers in (1, 2)] * 2)
 
     def test_more_workers_are_slower(self):
         """It is run again, twice, and then reported."""
-        ran = self.compared(self.stand_in("slow", one=0.1, two=0.6))
+        ran = self.compared(self.stand_in("slow", one=0.1, two=1.5))
         told = [line for line in ran.out.decode().splitlines() if line.startswith("program, ")]
         self.same(f"{ran.command}\n{ran.out.decode()}", (ran.status, len(told)), (1, 1))
         self.holds(told[0], told[0].startswith("program, 2 workers: ") and told[0].endswith(" times as long as program, 1 worker"))
@@ -49,7 +49,7 @@ class Bench(Check):
 
     def test_slower_than_an_earlier_build(self):
         """Each number of workers is compared with as many; that the earlier build is slow by itself doesn't count."""
-        later, earlier = self.stand_in("later", one=0.6, two=0.2), self.stand_in("earlier", one=0.1, two=0.6)
+        later, earlier = self.stand_in("later", one=1.5, two=0.2), self.stand_in("earlier", one=0.1, two=1.5)
         ran = self.compared(later, earlier)
         told = [line for line in ran.out.decode().splitlines() if line.startswith("program, ")]
         self.same(f"{ran.command}\n{ran.out.decode()}", (ran.status, len(told)), (1, 1))

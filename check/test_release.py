@@ -49,7 +49,7 @@ class Release(Check):
         """Makes a release in a clone of its own, and returns its directory."""
         top = self.clone(name, mask)
         settings = {"MPSIM_PROGRAMS": str(top / "programs"), "TZ": "UTC", **settings}
-        # The umask is set in a separate process, since the tests run side by side in one.
+        # The umask is set in a separate process, so that later tests have their own.
         words = ["sh", "-c", 'umask "$1"; exec "$2" "$3"', "sh", f"{mask:03o}", top / "tools" / "release", top / "to"]
         ran = run(*words, folder=self.folder, settings=settings)
         files = ran.out.decode().splitlines()

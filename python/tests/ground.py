@@ -7,6 +7,7 @@ import pathlib
 import signal
 import sys
 import threading
+import time
 import unittest
 
 TESTS = pathlib.Path(__file__).resolve().parent
@@ -16,6 +17,8 @@ ROOT = PYTHON.parent
 EXAMPLES = ROOT / "examples"
 CASES = EXAMPLES / "cases"
 MODEL, TRACE = EXAMPLES / "callcentre" / "model.txt", EXAMPLES / "callcentre" / "trace.csv"
+# The most seconds that a test waits for what must come: a busy machine takes long to start a process.
+LONGEST = 600
 DESK = "model 1\nsource door\nserver desk d from door\n"
 sys.path.insert(0, str(SOURCES))
 sys.dont_write_bytecode = True
@@ -92,7 +95,22 @@ def heeds_signals():
 
 def children_of(process):
     """Returns the numbers of the running child processes of a process."""
-    return [int(part) for task in pathlib.Path(f"/proc/{process}/task").iterdir() for part in (task / "children").read_text().split()]
+    found = []
+    with contextlib.suppress(FileNotFoundError, ProcessLookupError):
+        for task in pathlib.Path(f"/proc/{process}/task").iterdir():
+            # A thread that is joined may be there for a moment longer.
+            with contextlib.suppress(FileNotFoundError, ProcessLookupError):
+                found += map(int, (task / "children").read_text().split())
+    return found
+
+
+def wait_for(there):
+    """Waits until a function returns something true, and returns that. The limit is only for what never comes."""
+    end = time.monotonic() + LONGEST
+    while not (found := there()):
+        assert time.monotonic() < end, "it doesn't come"
+        time.sleep(0.01)
+    return found
 
 
 class Test(unittest.TestCase):

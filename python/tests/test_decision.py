@@ -10,7 +10,7 @@ import subprocess
 import unittest
 
 from commands import InFolder, idle, planner
-from ground import EXAMPLES, Test, text_of
+from ground import EXAMPLES, LONGEST, Test, text_of
 from looking import Tree, elements
 from looking import text_of as text_in
 
@@ -226,7 +226,7 @@ class Decisions(InFolder):
         self.page("--roster", ROSTER, *WAITS, "--cost", "35 EUR/h", "--shrinkage", "30%")
         made = self.folder / "d.pdf"
         words = [CHROMIUM, "--headless=new", "--no-sandbox", "--disable-gpu", f"--user-data-dir={self.folder / 'user'}", f"--print-to-pdf={made}"]
-        subprocess.run([*words, pathlib.Path(self.folder, "d.html").as_uri()], check=True, capture_output=True, timeout=60)
+        subprocess.run([*words, pathlib.Path(self.folder, "d.html").as_uri()], check=True, capture_output=True, timeout=LONGEST)
         self.assertEqual(len(re.findall(rb"/Type\s*/Page\b", made.read_bytes())), 1)
 
 

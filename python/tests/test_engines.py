@@ -5,10 +5,9 @@ import os
 import shutil
 import signal
 import subprocess
-import time
 import unittest
 
-from ground import heeds_signals, stand_in
+from ground import heeds_signals, stand_in, wait_for
 from test_shards import InFolder
 
 from mpsim import programs
@@ -71,19 +70,18 @@ class Parallel(Engine, InFolder):
     def test_stopped(self):
         """With Ctrl-C and a signal: nothing remains of the running shards, and none runs on."""
         words, want = self.variants(130)
-        stand_in(self.programs, "mpsweep", f"echo scenario 1 status 0; sleep 1; echo >{self.folder}/runs; exec sleep 61.25")
+        # Another run of these tests looks for a sleep of its own.
+        long = f"61.{os.getpid()}"
+        stand_in(self.programs, "mpsweep", f"echo scenario 1 status 0; sleep 1; echo >{self.folder}/runs; exec sleep {long}")
         for number, status in (signal.SIGINT, 130), (signal.SIGTERM, 143):
             begin = ["--resume"] if self.at.exists() else words
             settings = {"MPSIM_PROGRAMS": str(self.programs)}
             with self.begun(*begin, "--folder", self.at, "--parallel=--jobs 2", settings=settings, preexec_fn=heeds_signals) as process:
-                for _ in range(600):
-                    if (self.folder / "runs").exists():
-                        break
-                    time.sleep(0.05)
+                wait_for((self.folder / "runs").exists)
                 process.send_signal(number)
                 _, line = process.communicate()
             self.assertEqual(process.returncode, status, line)
-            left = [item for item in os.listdir("/proc") if item.isdigit() and self.words_of(item) == b"sleep\x0061.25\x00"]
+            left = [item for item in os.listdir("/proc") if item.isdigit() and self.words_of(item) == f"sleep\0{long}\0".encode()]
             self.assertEqual(left, [])
             self.assertEqual([path.name for path in self.at.rglob("*") if path.is_file()], ["plan.json"])
             (self.folder / "runs").unlink()

@@ -11,7 +11,7 @@ import unittest.mock
 import zipfile
 
 from commands import InFolder, planner
-from ground import ROOT
+from ground import LONGEST, ROOT
 from test_prepare import prepare, table
 
 from mpsim.command import machines
@@ -30,7 +30,7 @@ def measured(*words, given=None):
     """Runs `mpplan` in a process of its own. Returns its status, its peak of memory (MB) and its last line on stderr."""
     settings = {**os.environ, "PYTHONPATH": str(ROOT / "python" / "src")}
     command = [sys.executable, "-B", "-c", PEAK, *map(str, words)]
-    ran = subprocess.run(command, input=given, capture_output=True, env=settings, timeout=120, check=True)
+    ran = subprocess.run(command, input=given, capture_output=True, env=settings, timeout=LONGEST, check=True)
     status, peak = ran.stdout.decode().splitlines()[-1].split()
     return int(status), int(peak), ran.stderr.decode().splitlines()[-1]
 

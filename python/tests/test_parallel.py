@@ -9,7 +9,7 @@ import threading
 import unittest
 from functools import partial
 
-from ground import DESK, EXAMPLES, ROOT, SOURCES, Test
+from ground import DESK, EXAMPLES, LONGEST, ROOT, SOURCES, Test
 
 import mpsim
 from mpsim.parallel import in_order
@@ -26,7 +26,7 @@ def told(sweep):
 class InOrder(Test):
     def test_that_many_run_at_once(self):
         """Each of three tasks waits for the two others."""
-        together = threading.Barrier(3, timeout=20)
+        together = threading.Barrier(3, timeout=LONGEST)
         self.assertEqual(sorted(in_order([lambda: [together.wait()]] * 3, 3)), [0, 1, 2])
 
     def test_errors_come_in_their_turn(self):

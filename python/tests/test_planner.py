@@ -6,15 +6,16 @@ import io
 import os
 import re
 import resource
+import shlex
 import signal
 import stat
 import subprocess
 import sys
-import time
 import unittest
+import unittest.mock
 
 from commands import InFolder, planner
-from ground import DESK, EXAMPLES, PYTHON, ROOT, SOURCES, Test, text_of
+from ground import DESK, EXAMPLES, LONGEST, PYTHON, ROOT, SOURCES, Test, text_of, wait_for
 
 import mpsim
 from mpsim.command.commands import COMMANDS
@@ -147,7 +148,7 @@ class Ends(InFolder):
     def test_a_reader_that_has_enough(self):
         rows = "when\n" + "8:00\n" * 100000
         self.file("export.csv", rows)
-        command = " ".join(["python3 -B", str(ROOT / "mpplan"), "prepare export.csv --time when 2>err; echo $? >status"])
+        command = f"{shlex.join(map(str, COMMAND))} prepare export.csv --time when 2>err; echo $? >status"
         ran = subprocess.run(["sh", "-c", f"({command}) | head -1"], cwd=self.folder, env=os.environ, text=True, capture_output=True)
         self.assertEqual((ran.stdout, ran.stderr, text_of(self.folder, "status")), ("source,time\n", "", "141\n"))
         self.assertFalse([line for line in text_of(self.folder, "err").splitlines() if not line.startswith("mpplan: ")])
@@ -157,14 +158,14 @@ class Ends(InFolder):
         for number, status, told in (signal.SIGINT, 130, "mpplan: stopped\n"), (signal.SIGTERM, 143, ""), (signal.SIGHUP, 129, ""):
             with self.waiting(signal.SIG_DFL) as process:
                 process.send_signal(number)
-                out, err = process.communicate(timeout=60)
+                out, err = process.communicate(timeout=LONGEST)
             self.assertEqual((process.returncode, out, err, self.left()), (status, "", told, []))
 
     def test_a_signal_that_is_ignored(self):
         """As under nohup."""
         with self.waiting(signal.SIG_IGN) as process:
             process.send_signal(signal.SIGHUP)
-            out, _ = process.communicate(timeout=60)
+            out, _ = process.communicate(timeout=LONGEST)
         self.assertEqual((process.returncode, out, self.left()), (0, "", ["left.csv", "trace.csv"]))
 
     def waiting(self, how):
@@ -179,9 +180,7 @@ class Ends(InFolder):
         process = subprocess.Popen(words, cwd=self.folder, env=os.environ, text=True, preexec_fn=prepared, **pipes)
         process.stdin.write("when\n8:00\n")
         process.stdin.flush()
-        end = time.monotonic() + 60
-        while not self.left() and time.monotonic() < end:
-            time.sleep(0.01)
+        wait_for(self.left)
         self.assertRegex(self.left()[0], r"^left\.csv\.\w+\.part$")
         return process
 
@@ -229,6 +228,20 @@ class Files(InFolder):
                 file.write("half")
                 raise error
             self.assertEqual((text_of(path), os.listdir(self.folder)), ("before\n", ["a"]))
+
+    def test_ctrl_c_as_a_file_is_begun(self):
+        path = self.file("a", "before\n")
+        for call in "fchmod", "stat":
+            with unittest.mock.patch(f"mpsim.files.os.{call}", side_effect=KeyboardInterrupt), self.assertRaises(KeyboardInterrupt), written(path):
+                self.fail("it was opened")
+            self.assertEqual((text_of(path), os.listdir(self.folder)), ("before\n", ["a"]))
+
+    def test_a_part_of_another(self):
+        path, other = self.folder / "a", self.file("a.1.part", "another's\n")
+        with unittest.mock.patch("mpsim.files.secrets.token_hex", return_value="1"), self.assertRaises(FileExistsError) as caught, written(path):
+            self.fail("it was opened")
+        self.assertEqual((caught.exception.filename, text_of(other)), (str(path), "another's\n"))
+        other.unlink()
 
     def test_pipes_and_devices(self):
         pipe = self.folder / "pipe"

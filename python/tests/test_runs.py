@@ -1,6 +1,7 @@
 """Runs of the programs: what is passed to them, what comes back, how they end, and that nothing is left behind."""
 
 import collections
+import errno
 import os
 import pathlib
 import resource
@@ -10,8 +11,9 @@ import sys
 import tempfile
 import time
 import unittest
+import unittest.mock
 
-from ground import DESK, EXAMPLES, MODEL, SOURCES, TRACE, Test, children_of, folders, heeds_signals, programs_in, stand_in, text_of
+from ground import DESK, EXAMPLES, LONGEST, MODEL, SOURCES, TRACE, Test, children_of, folders, heeds_signals, programs_in, stand_in, text_of, wait_for
 
 import mpsim
 from mpsim import programs
@@ -19,6 +21,16 @@ from mpsim import programs
 STORED = EXAMPLES / "callcentre" / "report.txt"
 REPORT = text_of(STORED)
 MANY = [("door", number, 1) for number in range(100000)]
+
+
+def opened(pipe):
+    """Opens a named pipe for writing, without buffering. Returns None if nobody reads it yet."""
+    try:
+        return open(os.open(pipe, os.O_WRONLY | os.O_NONBLOCK), "wb", 0)
+    except OSError as error:
+        if error.errno != errno.ENXIO:
+            raise
+        return None
 
 
 class Examples(Test):
@@ -219,9 +231,9 @@ class Ends(Test):
                 raise ZeroDivisionError
 
     def test_a_reader_that_has_enough(self):
-        with mpsim.visits(DESK, MANY, timeout=60) as reading:
+        with mpsim.visits(DESK, MANY, timeout=LONGEST) as reading:
             self.assertEqual(next(iter(next(reading.pieces()))).job, 1)
-        with mpsim.visits(DESK, MANY, timeout=60) as reading:
+        with mpsim.visits(DESK, MANY, timeout=LONGEST) as reading:
             self.assertEqual(reading.jobs, len(MANY))
 
     def test_a_time_that_is_out(self):
@@ -238,9 +250,9 @@ class Ends(Test):
                 begin = time.monotonic()
                 with self.assertRaises(mpsim.TimedOut) as caught:
                     call()
-                self.assertLess(time.monotonic() - begin, 5)
+                self.assertLess(time.monotonic() - begin, 60)
                 self.assertIsInstance(caught.exception, TimeoutError)
-        self.assertEqual(str(mpsim.run(MODEL, TRACE, timeout=60)), REPORT)
+        self.assertEqual(str(mpsim.run(MODEL, TRACE, timeout=LONGEST)), REPORT)
         for script in "head -c 300 {}; exec sleep 60", "cat {}; exec sleep 60", "cat {}; exec sleep 60 >&-":
             error = self.ends(mpsim.TimedOut, script.format(STORED), lambda: mpsim.run(MODEL, TRACE, timeout=0.2))
             self.assertEqual(str(error), "mpsim was ended: its timeout has passed")
@@ -295,15 +307,36 @@ class Ends(Test):
                 script = f"import sys; sys.path.insert(0, {str(SOURCES)!r}); import mpsim; mpsim.run({str(MODEL)!r}, {pipe!r})"
                 words = [sys.executable, "-B", "-c", script]
                 process = subprocess.Popen(words, stderr=subprocess.PIPE, start_new_session=True, preexec_fn=heeds_signals)
-                end = time.monotonic() + 20
-                while not (children := children_of(process.pid)) and time.monotonic() < end:
-                    time.sleep(0.01)
-                time.sleep(0.1)
+                # The program waits for the rest of its trace, however late it has started.
+                writer = wait_for(lambda: opened(pipe))
+                children = children_of(process.pid)
                 (os.killpg if whole_group else os.kill)(process.pid, signal.SIGINT)
-                told = process.communicate(timeout=20)[1]
+                told = process.communicate(timeout=LONGEST)[1]
+                writer.close()
                 self.assertIn(b"KeyboardInterrupt", told.splitlines()[-1])
                 self.assertEqual(len(children), 1)
                 self.assertFalse(pathlib.Path(f"/proc/{children[0]}").exists())
+
+    def test_ctrl_c_as_the_program_starts(self):
+        """When the process is there, and its caller doesn't have it yet; in each way that a signal is handled."""
+        pipe, real = os.path.join(self.folder, "pipe"), os.read
+        os.mkfifo(pipe)
+
+        def read(*words):
+            signal.raise_signal(signal.SIGINT)
+            return real(*words)
+
+        def leave(*_):
+            raise SystemExit(130)
+
+        for kind, how in (KeyboardInterrupt, signal.default_int_handler), (SystemExit, leave):
+            before = signal.signal(signal.SIGINT, how)
+            try:
+                with unittest.mock.patch("os.read", side_effect=read), self.assertRaises(kind):
+                    mpsim.run(MODEL, pipe)
+                self.assertIs(signal.getsignal(signal.SIGINT), how)
+            finally:
+                signal.signal(signal.SIGINT, before)
 
     def test_the_commands(self):
         """They become the program: its output, its status and its arguments."""

@@ -17,10 +17,9 @@ import socket
 import subprocess
 import sys
 import tempfile
-import time
 import unittest
 
-from ground import SOURCES, Test, children_of, heeds_signals, nodes_of, stand_in, text_of, waits_of
+from ground import SOURCES, Test, children_of, heeds_signals, nodes_of, stand_in, text_of, wait_for, waits_of
 from looking import Tree, elements
 from looking import text_of as text_in
 
@@ -241,10 +240,13 @@ class Shards(InFolder):
             lines = [line for line in lines if line.startswith("mpplan: ")]
             self.assertTrue(killed.exists())
             self.assertEqual(status, 1)
-            self.assertEqual(lines[1:3], [
-                f"mpplan: shard {shard}: it left nothing: not started, or killed, or its disk was full, or its machine disappeared",
-                f"mpplan: 1 of 4 shards are missing from the table: mpplan sweep --folder {at} --resume runs them",
-            ])
+            self.assertEqual(
+                lines[1:3],
+                [
+                    f"mpplan: shard {shard}: it left nothing: not started, or killed, or its disk was full, or its machine disappeared",
+                    f"mpplan: 1 of 4 shards are missing from the table: mpplan sweep --folder {at} --resume runs them",
+                ],
+            )
             of_shard = {str(number) for number in range(64 * shard - 64, 64 * shard)}
             rest = [line for line in want.splitlines(keepends=True) if line.split(",")[2] not in of_shard]
             self.assertEqual(out, "".join(rest))
@@ -265,7 +267,7 @@ class Shards(InFolder):
                 first = [] if "--shard" in way else ["mpplan: 70 scenarios in 2 shards, 2 to run"]
                 begin = [] if "--shard" in way else words if not self.at.exists() else ["--resume"]
                 with self.begun(*begin, *way, settings=settings, preexec_fn=heeds_signals) as process:
-                    self.wait_for(self.folder / "runs")
+                    wait_for((self.folder / "runs").exists)
                     inner = children_of(process.pid)
                     process.send_signal(number)
                     out, line = process.communicate()
@@ -275,13 +277,6 @@ class Shards(InFolder):
                 self.assertEqual([path.name for path in self.at.rglob("*") if path.is_file()], ["plan.json"])
                 (self.folder / "runs").unlink()
         self.assertEqual(self.told("--folder", self.at, "--resume")[:2], (11, want))
-
-    def wait_for(self, path):
-        for _ in range(200):
-            if path.exists():
-                return
-            time.sleep(0.05)
-        self.fail(f"{path} isn't there")
 
     def test_a_shard_that_fails(self):
         """Its trace has changed, or the program is missing: that is reported, and the others are run."""
@@ -295,12 +290,12 @@ class Shards(InFolder):
         for way in [], ["--parallel"]:
             status, out, lines = self.told("--folder", self.at, "--resume", *way)
             self.assertEqual(status, 1)
-            self.assertIn(f"mpplan: shards 1, 3: {socket.gethostname()}: {self.trace}: the file has changed since the sweep began", "; ".join(
-                [re.sub("shard 1: ", "shards 1, 3: ", line) for line in lines if "shard 3:" not in line]))
+            self.assertIn(
+                f"mpplan: shards 1, 3: {socket.gethostname()}: {self.trace}: the file has changed since the sweep began",
+                "; ".join([re.sub("shard 1: ", "shards 1, 3: ", line) for line in lines if "shard 3:" not in line]),
+            )
         self.trace.write_text(text_of(self.trace).replace("calls,999,1,1\n", ""))
-        for settings, why in (
-            ({"MPSIM_PROGRAMS": "/nowhere"}, "no program mpsweep in /nowhere; set MPSIM_PROGRAMS to a directory that has it"),
-        ):
+        for settings, why in (({"MPSIM_PROGRAMS": "/nowhere"}, "no program mpsweep in /nowhere; set MPSIM_PROGRAMS to a directory that has it"),):
             status, _, lines = self.told("--folder", self.at, "--resume", settings=settings)
             self.assertEqual((status, lines[1:3]), (1, [f"mpplan: shard {item}: {why}" for item in (1, 3)]))
             self.assertIn(f"mpplan: shards 1, 3: {socket.gethostname()}: {why}", lines)

@@ -108,40 +108,43 @@ def written(path: Path | None = None) -> Iterator[TextIO]:
             sys.stdout.flush()
     elif not _is_whole(path):
         # Append, so that a redirected /dev/stdout keeps what is already there.
-        with named(path), open(path, "a", encoding="utf-8", errors="surrogateescape", newline="") as file:
-            yield file
+        with named(path), open(path, "a", encoding="utf-8", errors="surrogateescape", newline="") as appended:
+            yield appended
     else:
         # A link is kept; its target is written.
         path = os.path.realpath(path)
         part = f"{path}.{secrets.token_hex(4)}.part"
-        file = None
-        with named(path):
-            # If it is there already, it is another's.
-            handle = _begun(part, path)
+        file: TextIO | None = None
         try:
             with named(path):
-                file = open(handle, "w", encoding="utf-8", errors="surrogateescape", newline="")
+                file = _begun(part, path)
                 yield file
                 file.close()
             os.replace(part, path)
-        except BaseException:
+        except BaseException as error:
             # The file is thrown away, so a failing write doesn't matter.
             with contextlib.suppress(OSError):
                 if file is not None:
                     file.close()
-            with contextlib.suppress(OSError):
-                os.unlink(part)
+            # A file that couldn't be made may be another's. Ctrl-C can come when it is made and not yet returned.
+            if file is not None or not isinstance(error, OSError):
+                with contextlib.suppress(OSError):
+                    os.unlink(part)
             raise
 
 
-def _begun(part: str, path: str) -> int:
+def _begun(part: str, path: str) -> TextIO:
     """Opens a new file with the permissions of the file that it will replace."""
     try:
-        handle = os.open(part, os.O_WRONLY | os.O_CREAT | os.O_EXCL, 0o666)
+        file = open(part, "x", encoding="utf-8", errors="surrogateescape", newline="")
     except OSError as error:
         error.filename = path
         raise
-    with contextlib.suppress(OSError, AttributeError):
-        # Windows has no fchmod.
-        os.fchmod(handle, stat.S_IMODE(os.stat(path).st_mode))
-    return handle
+    try:
+        with contextlib.suppress(OSError, AttributeError):
+            # Windows has no fchmod.
+            os.fchmod(file.fileno(), stat.S_IMODE(os.stat(path).st_mode))
+    except BaseException:
+        file.close()
+        raise
+    return file

@@ -13,11 +13,33 @@ from . import programs
 from .errors import ProgramError, ReportError, TimedOut, error_of
 
 if TYPE_CHECKING:
-    from collections.abc import Collection, Iterable, Sequence
+    from collections.abc import Collection, Iterable, Iterator, Sequence
     from types import TracebackType
-    from typing import IO
+    from typing import IO, Any
 
     from .inputs import Input
+
+# The signals that end a run, and that this process may turn into exceptions. Windows lacks some.
+SIGNALS = [getattr(signal, name) for name in ("SIGINT", "SIGTERM", "SIGHUP") if hasattr(signal, name)]
+
+
+@contextlib.contextmanager
+def undisturbed() -> Iterator[None]:
+    """Defers Ctrl-C, and other signals that this process handles, to the end of the block. In it a process is started: an exception in the midst of
+    that would lose the process."""
+    came: list[int] = []
+    before: dict[int, Any] = {}
+    if threading.current_thread() is threading.main_thread():
+        before = {number: how for number in SIGNALS if callable(how := signal.getsignal(number))}
+    try:
+        for number in before:
+            signal.signal(number, lambda number, _: came.append(number))
+        yield
+    finally:
+        for number, how in before.items():
+            signal.signal(number, how)
+        for number in came:
+            before[number](number, None)
 
 
 class Running:
@@ -37,14 +59,15 @@ class Running:
         # stderr goes to memory, where it can't fill a pipe that nobody reads.
         self._errors = os.memfd_create("mpsim-errors")
         try:
-            self._process = subprocess.Popen(
-                [file, *words],
-                stdout=subprocess.PIPE,
-                stderr=self._errors,
-                pass_fds=[handle for item in inputs for handle in item.handles],
-                env=programs.surroundings(),
-            )
-            self._is_begun = True
+            with undisturbed():
+                self._process = subprocess.Popen(
+                    [file, *words],
+                    stdout=subprocess.PIPE,
+                    stderr=self._errors,
+                    pass_fds=[handle for item in inputs for handle in item.handles],
+                    env=programs.surroundings(),
+                )
+                self._is_begun = True
             if timeout is not None:
                 self._timer = threading.Timer(timeout, self._late)
                 self._timer.daemon = True

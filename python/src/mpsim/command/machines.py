@@ -10,6 +10,7 @@ import sys
 from typing import TYPE_CHECKING
 
 from ..files import written
+from ..processes import undisturbed
 
 if TYPE_CHECKING:
     from collections.abc import Iterable, Sequence
@@ -32,15 +33,16 @@ def command(folder: Folder) -> list[str]:
 
 def _run(words: Sequence[str], what: str, given: str | None = None) -> None:
     """Runs a command with this input. Its output goes to stderr. Raises ValueError if the command doesn't exist."""
+    process = None
     try:
-        process = subprocess.Popen(words, stdin=subprocess.PIPE, stdout=2)
+        with undisturbed():
+            process = subprocess.Popen(words, stdin=subprocess.PIPE, stdout=2)
+        process.communicate(None if given is None else given.encode(errors="surrogateescape"))
     except FileNotFoundError:
         raise ValueError(f"the command {words[0]} isn't on the PATH: {what}") from None
-    try:
-        process.communicate(None if given is None else given.encode(errors="surrogateescape"))
     finally:
         # If `mpplan` is interrupted, the command must start no further shard.
-        if process.poll() is None:
+        if process is not None and process.poll() is None:
             process.terminate()
             process.wait()
 
