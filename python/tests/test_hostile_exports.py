@@ -93,6 +93,51 @@ class Large(InFolder):
             self.assertEqual((status, says in line), (1, True), line)
             self.assertLess(peak, 60)
 
+    def test_a_zip_of_empty_lines(self):
+        """It isn't unpacked to its end, which is 2 GB away: with or without rows before them, and with delimiters or spaces in them."""
+        for begin, lines in (b"", b"\n"), (b"when,who\n8:00,a\n", b" \r\n"), (b"when,who\n8:00,a\n", b",\n"), (b"when\n", b"\r"):
+            path = self.folder / "empty.zip"
+            with zipfile.ZipFile(path, "w", zipfile.ZIP_DEFLATED, compresslevel=1) as archive, archive.open("empty.csv", "w") as file:
+                file.write(begin)
+                for _ in range(40):
+                    file.write(lines * (1 << 19))
+            # Whoever reads on gets to the damaged end.
+            data = bytearray(path.read_bytes())
+            at = data.rindex(b"PK\1\2") - 1000
+            data[at : at + 500] = os.urandom(500)
+            path.write_bytes(data)
+            status, peak, line = measured("prepare", path, "--time", "when")
+            says = f"mpplan: {path}: more than 16,777,216 lines are empty: remove them first, e.g. with grep '[[:alnum:]]'"
+            self.assertEqual((status, line), (1, says))
+            self.assertLess(peak, 60)
+
+    def test_empty_lines_among_rows(self):
+        """Those of an honest export are skipped, however many; hardly any rows among them are too few."""
+        for rows, gap, is_read in (3000, 1, True), (3000, 9, True), (300, 40, False), (30, 200, True), (2, 5000, False):
+            data = table(*["\n" * gap + "2026-03-02,a,1"] * rows, *[""] * 99)
+            with unittest.mock.patch("mpsim.exports.rows.EMPTY", 1 << 13):
+                if is_read:
+                    self.assertEqual(len(prepare(data, "when", duplicates="keep")), rows)
+                    continue
+                with self.assertRaisesRegex(ValueError, r"more than 16,777,216 lines are empty: remove them first"):
+                    prepare(data, "when", duplicates="keep")
+
+    def test_too_many_left_out(self):
+        """Reading stops when more rows are left out than a trace has records, if no number of records can follow that makes them few enough."""
+        bad, good = ["x,a,1"] * 6000, ["2026-03-02,a,1"] * 4000
+        with unittest.mock.patch("mpsim.exports.rows.RECORDS", 4000):
+            for most, stops in ("5%", True), ("59%", True), ("60%", False), ("100%", False):
+                with contextlib.suppress(ValueError) if stops else contextlib.nullcontext():
+                    self.assertEqual(len(prepare(table(*bad, *good), "when", format="iso", left_out_most=most, duplicates="keep")), 4000)
+                    self.assertFalse(stops)
+            says = "4,096 of the first 4,096 rows would be left out: to read on, give --left-out-most 100%; 4,096 rows: when: not an ISO"
+            with self.assertRaisesRegex(ValueError, says) as caught:
+                prepare(table(*bad, *good), "when", format="iso", left_out_most="5%")
+            self.assertEqual(caught.exception.status, 13)
+            # As few as a trace has records are read to the end, which says how many they are.
+            with self.assertRaisesRegex(ValueError, "4,000 of 4,001 rows would be left out, more than 5 percent"):
+                prepare(table(*bad[:4000], good[0]), "when", format="iso", left_out_most="5%")
+
     def piped(self, data):
         """Reads bytes that come through a pipe."""
         path = self.folder / "pipe"

@@ -23,6 +23,9 @@ DELIMITERS = ";\t,|"
 SAMPLE, CHARACTERS = 1 << 15, 1 << 23
 # A field with more lines is reported: an unclosed quote makes one field of the rest.
 LINES = 20
+# More lines in succession without a field aren't those of a table: the largest sheet of a spreadsheet has a sixteenth of them.
+EMPTY = 1 << 24
+_FIELD = re.compile(r'[^\s",;|]')
 
 
 def found_encoding(data: bytes | Stream) -> tuple[str, str | None]:
@@ -49,11 +52,12 @@ def found_encoding(data: bytes | Stream) -> tuple[str, str | None]:
 
 
 def _undecodable(stream: Stream, encoding: str) -> tuple[int, int] | None:
-    """Returns the line and the first byte (int) that an encoding can't decode; None if there is none."""
-    decoder, lines, kept, long = codecs.getincrementaldecoder(encoding)(), 1, b"", 0
+    """Returns the line and the first byte (int) that an encoding can't decode; None if there is none. Then the stream's number of lines is known.
+    Raises ValueError if a line is too long, or if too many lines in succession have no field."""
+    decoder, lines, kept, long, empty = codecs.getincrementaldecoder(encoding)(), 1, b"", 0, 0
     for piece in itertools.chain(stream.pieces(), [None]):
         try:
-            decoder.decode(piece or b"", final=piece is None)
+            text = decoder.decode(piece or b"", final=piece is None)
         except UnicodeDecodeError as error:
             return lines + error.object.count(b"\n", 0, error.start) - kept.count(b"\n"), error.object[error.start]
         # What the decoder keeps of a character at the end of a piece.
@@ -62,7 +66,16 @@ def _undecodable(stream: Stream, encoding: str) -> tuple[int, int] | None:
         long = 0 if piece is None or b"\n" in piece or b"\r" in piece else long + len(piece)
         if long > LINE:
             raise ValueError(f"line {lines} is longer than {LINE:,} bytes")
+        empty = 0 if _FIELD.search(text) else empty + max(text.count("\n"), text.count("\r"))
+        if empty > EMPTY:
+            raise ValueError(empty_lines())
+    stream.count = lines - 1
     return None
+
+
+def empty_lines() -> str:
+    """Returns why an export with too many empty lines isn't read to its end."""
+    return f"more than {EMPTY:,} lines are empty: remove them first, e.g. with grep '[[:alnum:]]'"
 
 
 def _undecoded(line: int, byte: int, encoding: str) -> ValueError:
@@ -175,7 +188,9 @@ class Export(Table):
     @property
     def size(self) -> int:
         """The number of lines."""
-        return sum(piece.count(b"\n") for piece in self._stream.pieces())
+        if self._stream.count is None:
+            self._stream.count = sum(piece.count(b"\n") for piece in self._stream.pieces())
+        return self._stream.count
 
     def _sample(self) -> list[list[str]]:
         """Returns rows from the beginning and some from the end, since days above 12 may come late."""

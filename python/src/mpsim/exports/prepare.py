@@ -192,7 +192,7 @@ def passages(export: Path | bytes | bytearray, time: str, **options: object) -> 
                 raise ValueError("it isn't read as an event log: give unit, steps and the events")
             plan.log.keeps = True
             events, most = Rows(plan, words.left_out, EVENTS), given("--left-out-most", percent, words.left_out_most)
-            events.read()
+            events.read(most)
             units = Units(plan, plan.log, events)
             units.judge_left(most)
             left = [f"{counted(count, 'unit')} left out: {why}" for why, (count, _) in units.left.items()]
@@ -223,7 +223,7 @@ def _made(by: str | None, words: _Words) -> Iterator[tuple[str, Prepared]]:
                 yield from _in_parts(plan, by, most, words)
                 return
             rows = Rows(plan, words.left_out, EVENTS if plan.log else None)
-            rows.read()
+            rows.read(most)
             unnamed = judge_renames(plan.records, plan.export.rows()[0])
             rows.judge_left(most)
             repeats, read = _judge_repeats(rows, words.duplicates), [rows]

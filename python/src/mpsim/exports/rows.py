@@ -14,7 +14,7 @@ from ..progress import Progress, uncollected
 from ..tables.sheets import Writer
 from ..times.texts import Asks
 from ..wording import counted, quoted
-from .delimited import LINES
+from .delimited import EMPTY, LINES, empty_lines
 from .expressions import Expression
 from .records import Left, Unwanted
 from .result import CHUNK
@@ -60,13 +60,15 @@ class Rows:
 
     def __init__(self, plan: Plan, left_out: TextIO | None = None, most: int | None = None) -> None:
         self.plan, self.left, self.unwanted, self.long, self._most = plan, {}, 0, 0, most or RECORDS
+        self._blank = 0
         self.sources, self.stamps, self.columns, self.values = [], array("q"), plan.columns, [array("q") for _ in plan.columns]
         self._empty, self._services = {}, _service_columns(plan)
         self._hashes, self._runs = array("q"), []
         self._writer = Writer(left_out) if left_out is not None else None
 
-    def read(self) -> None:
-        """Reads all rows. Raises ValueError if the export is too long or needs another option."""
+    def read(self, most: float = 100) -> None:
+        """Reads all rows. Raises ValueError if the export is too long or needs another option, and TooManyLeft as soon as more rows are left out than a
+        trace has records, if that is more than this percentage however many records follow."""
         rows, number = self.plan.export.rows()
         lines = rows.line_num
         if self._writer:
@@ -78,9 +80,19 @@ class Rows:
                     if rows.line_num - lines > len(some):
                         self._judge_lines(some, number)
                     number, lines = number + len(some), rows.line_num
+                    self._judge_unused(most)
                     progress(number)
             except csv.Error as error:
                 raise ValueError(f"row {self._unread()}: {error}: is a closing quote missing?") from None
+
+    def _judge_unused(self, most: float) -> None:
+        """Raises ValueError if too many of the rows so far are empty and hardly any has fields, or TooManyLeft as `read` does."""
+        left = sum(count for count, _ in self.left.values())
+        if self._blank > max(EMPTY, 10 * (left + self.unwanted + len(self.stamps))):
+            raise ValueError(empty_lines())
+        if left > self._most and 100 * left > most * (left + self._most):
+            rows = f"{left:,} of the first {counted(left + len(self.stamps), 'row')}"
+            raise TooManyLeft("; ".join([f"{rows} would be left out: to read on, give --left-out-most 100%", *self.reasons()[:3], *self.hints()]))
 
     def _unread(self) -> int:
         """Returns the number of the row that the reader of rows can't read."""
@@ -115,6 +127,7 @@ class Rows:
         for number, row in enumerate(rows, first):
             if not row:
                 # An empty line counts as a row, as in a spreadsheet, but isn't a record.
+                self._blank += 1
                 continue
             try:
                 records.append(plan.records.of(row))

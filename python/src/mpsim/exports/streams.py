@@ -51,16 +51,17 @@ _OTHERS = {
 
 class Stream:
     """The bytes of an export: bytes, or a file by its path ("-" is standard input). `form` (str) says what it is: "text", "workbook" (.xlsx),
-    "parquet" or "arrow". `notes` (list of str) say how it was unpacked. A pipe is copied to a temporary file. Raises OSError, and ValueError for a
-    file that isn't a table."""
+    "parquet" or "arrow". `notes` (list of str) say how it was unpacked, and `count` (int or None) is the number of lines of a text, once it is known. A
+    pipe is copied to a temporary file. Raises OSError, and ValueError for a file that isn't a table."""
 
     notes: list[str]
+    count: int | None
     _open: Callable[[], IO[bytes]] | None
     _path: str | None
     _plain: Callable[[], IO[bytes]]
 
     def __init__(self, export: Path | bytes | bytearray) -> None:
-        self.notes, self.form, self._open, self._files = [], "text", None, contextlib.ExitStack()
+        self.notes, self.form, self.count, self._open, self._files = [], "text", None, None, contextlib.ExitStack()
         with contextlib.ExitStack() as files:
             # Closed at once if this isn't a table.
             files.enter_context(self._files)
