@@ -17,7 +17,7 @@ COMMANDS = ["awk", "cat", "cd", "cp", "diff", "for", "gzip", "install", "man", "
 # Pages that are one session: each command works on the files of the commands before it, across headings.
 SESSIONS = ["docs/TUTORIAL.md", "docs/TUTORIAL_ROSTER.md"]
 # Headings of docs/MODEL.md whose commands test_recipes.py runs.
-RECIPES = ["A trace from a log", "Buffers of more than 4", "Several servers at one queue"]
+RECIPES = ["Buffers of more than 4", "Making a trace"]
 # On docs/DEFINITIONS.md: one or more names, followed by the file that defines them.
 NAMED = re.compile(r"((?:`[\w-]+`(?:,| and| of)\s+)*`[\w-]+`)\s+\(`(crates/[\w./-]+)`\)")
 # The beginning of a line that defines a name: a definition, a record's field or a case in specs and proofs, and a clause or an item in code.
