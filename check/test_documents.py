@@ -31,12 +31,10 @@ SHOWN = {
     ("docs/EDITS.md", "Move a whole shift"): ["cat edits/shift-moved/edits.awk"],
     ("docs/REPORT.md", "The report"): ["../mpsim desk/model.txt desk/trace.csv"],
     ("docs/REPORT.md", "Lines per visit"): ["../mpsim desk/model.txt desk/trace.csv --jobs"],
-    ("docs/REPORT.md", "L, W and other queueing symbols"): ["cat callcentre/report.txt"],
     ("docs/REPORT.md", "Form 1"): ["../mpsim desk/model.txt desk/trace.csv --report 1"],
     ("docs/REPORT.md", "A sweep"): [
         "sed 's/model 1/model 9/' desk/model.txt >nine.txt; ../mpsweep desk/trace.csv desk/model.txt nine.txt || [ $? = 11 ]"
     ],
-    ("docs/REPORT.md", "An edited trace"): ["echo add src 3 2 >edits.txt; ../mpedit desk/model.txt desk/trace.csv edits.txt"],
     ("docs/SWEEPS.md", "An example"): ["cat sweep/agents-12.txt"],
     ("docs/DEFINITIONS.md", "Case: a server"): ["../mpsim desk/model.txt desk/trace.csv"],
     ("docs/DEFINITIONS.md", "Case: a loss station"): [
