@@ -1,4 +1,4 @@
-"""The generated inputs of `mpsim --made N`: the model and the trace for a number (docs/MODEL.md, "Generated inputs")."""
+"""The generated inputs of `mpsim --made N`: the model and the trace for a number (docs/DEFINITIONS.md, "Made inputs")."""
 
 from __future__ import annotations
 

@@ -17,7 +17,7 @@ COMMANDS = ["awk", "cat", "cd", "cp", "diff", "for", "gzip", "install", "man", "
 # Pages that are one session: each command works on the files of the commands before it, across headings.
 SESSIONS = ["docs/TUTORIAL.md", "docs/TUTORIAL_ROSTER.md"]
 # Headings of docs/MODEL.md whose commands test_recipes.py runs.
-RECIPES = ["A trace from a log", "Buffers of more than 4", "Several servers at one queue"]
+RECIPES = ["Buffers of more than 4", "Making a trace"]
 # On docs/DEFINITIONS.md: one or more names, followed by the file that defines them.
 NAMED = re.compile(r"((?:`[\w-]+`(?:,| and| of)\s+)*`[\w-]+`)\s+\(`(crates/[\w./-]+)`\)")
 # The beginning of a line that defines a name: a definition, a record's field or a case in specs and proofs, and a clause or an item in code.
@@ -31,12 +31,10 @@ SHOWN = {
     ("docs/EDITS.md", "Move a whole shift"): ["cat edits/shift-moved/edits.awk"],
     ("docs/REPORT.md", "The report"): ["../mpsim desk/model.txt desk/trace.csv"],
     ("docs/REPORT.md", "Lines per visit"): ["../mpsim desk/model.txt desk/trace.csv --jobs"],
-    ("docs/REPORT.md", "L, W and other queueing symbols"): ["cat callcentre/report.txt"],
     ("docs/REPORT.md", "Form 1"): ["../mpsim desk/model.txt desk/trace.csv --report 1"],
     ("docs/REPORT.md", "A sweep"): [
         "sed 's/model 1/model 9/' desk/model.txt >nine.txt; ../mpsweep desk/trace.csv desk/model.txt nine.txt || [ $? = 11 ]"
     ],
-    ("docs/REPORT.md", "An edited trace"): ["echo add src 3 2 >edits.txt; ../mpedit desk/model.txt desk/trace.csv edits.txt"],
     ("docs/SWEEPS.md", "An example"): ["cat sweep/agents-12.txt"],
     ("docs/DEFINITIONS.md", "Case: a server"): ["../mpsim desk/model.txt desk/trace.csv"],
     ("docs/DEFINITIONS.md", "Case: a loss station"): [

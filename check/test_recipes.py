@@ -1,4 +1,4 @@
-"""The recipes of docs/MODEL.md, with the models, traces and commands shown there.
+"""The recipes of docs/MODEL.md, with the models, traces and commands shown there, and small cases worked by hand.
 
 The output shown on the page must be in the output of the command. If a recipe is called exact, or the truth is said to lie between two runs, random
 traces are compared with a simulation of the real rule (rules.py).
@@ -13,6 +13,10 @@ from rules import drawn, in_line, queued, simulated
 
 TRACES = 20
 MODEL = sections("docs/MODEL.md")
+# A pool of two agents: the model with one server in its place, the commands, and what the new model contains.
+DESK = "model 1\nsource door\nserver desk d from door\n"
+POOL = "./mpplan pool desk.txt trace.csv --node desk --agents 2 --out served.csv --out-model served.txt\n./mpsim served.txt served.csv\n"
+POOLED = "delay desk_queue desk_wait from door\ntrunk desk 2 d from desk_queue\n"
 
 
 def visits(text, *nodes):
@@ -69,10 +73,11 @@ class Recipes(Check):
         self.same(f"{what}: lines that aren't in the answer", sorted(missing), [])
 
     def test_several_servers_at_one_queue(self):
-        turns, trace, lines, desk, commands, pool = MODEL["Several servers at one queue"]
+        (turns,), desk, commands, pool = MODEL["Several servers at one queue"], DESK, POOL, POOLED
         mod = turns.replace("split turns 2 turn", "split turns 2 mod teller")
-        self.shows("by turns", self.report(turns, trace), lines)
-        rows = [("door", int(line.split(",")[1]), int(line.split(",")[2]), int(at > 0)) for at, line in enumerate(trace.split()[1:])]
+        rows = [("door", 0, 6, 0), ("door", 1, 1, 1), ("door", 2, 1, 1), ("door", 3, 1, 1)]
+        trace = table("source,time,d", [row[:3] for row in rows])
+        self.same("by turns", visits(self.report(turns, trace), "ann", "ben"), {1: (0, 6), 2: (0, 2), 3: (4, 7), 4: (0, 4)})
         ends = {1: (0, 6), 2: (0, 2), 3: (0, 3), 4: (0, 4)}
         self.same("by tellers", visits(self.report(mod, table("source,time,d,teller", rows)), "ann", "ben"), ends)
         self.kept(desk_txt=desk, trace_csv=trace)
@@ -98,7 +103,7 @@ class Recipes(Check):
 
     def test_many_servers_at_one_queue(self):
         """Also with a node per agent, after two splits and before a further station; 55 of them make 64 nodes."""
-        desk, commands, _ = MODEL["Several servers at one queue"][3:]
+        desk, commands = DESK, POOL
         for servers, seeds in (14, range(5)), (55, [0]):
             behind = "delay out =0 from desk\n" if servers == 14 else ""
             each = commands.replace("--agents 2", f"--agents {servers} --by agents")
@@ -123,12 +128,13 @@ class Recipes(Check):
             self.same("links", visits(text, "first"), simulated(queued(rows, ["left", "right"]), places=3))
 
     def test_priorities(self):
-        model, trace = MODEL["Priorities"]
+        (model,) = MODEL["Priorities"]
+        shown = [("plain", 0, 5), ("plain", 1, 5), ("urgent", 2, 3), ("plain", 3, 4), ("urgent", 4, 3)]
+        trace = table("source,time,d", shown)
         alone = model.replace("from urgent plain", "from urgent")
         waits = lambda ends: [ends[job][0] for job in (3, 5)]
         self.same("first run", waits(visits(self.report(model, trace), "desk")), [8, 13])
         self.same("second run", waits(visits(self.report(alone, trace), "desk")), [0, 1])
-        shown = [(source, int(time), int(demand)) for source, time, demand in (line.split(",") for line in trace.split()[1:])]
         first_urgent = lambda rows: simulated(queued(rows, ["urgent", "plain"], urgent=lambda row: row[0] == "urgent"), urgent_first=True)
         self.same("in truth", waits(first_urgent(shown)), [3, 4])
         for seed in range(TRACES):
@@ -143,8 +149,10 @@ class Recipes(Check):
                     self.holds(f"plain job {job} of {rows}", both[job][0] <= truth[job][0])
 
     def test_shifts_and_breaks(self):
-        model, trace, lines = MODEL["Shifts and breaks"]
-        self.shows("breaks", self.report(model, trace), lines + "exit kind.0 3 sojourn 43\n")
+        model, trace = MODEL["Shifts and breaks"]
+        text = self.report(model, trace)
+        self.same("breaks", visits(text, "desk"), {1: (0, 10), 2: (7, 14), 3: (2, 19), 4: (4, 39), 5: (23, 41)})
+        self.shows("breaks", text, "exit kind.0 3 sojourn 43\n")
         for seed in range(TRACES):
             rows = [(*row, int(row[0] == "pause")) for row in drawn(seed, ["pause", "door", "door", "door"], (1, 6))]
             found = visits(self.report(model, table("source,time,d,pausing", rows)), "desk")
@@ -159,9 +167,9 @@ class Recipes(Check):
                 self.holds(f"who waits when a break comes: {job} of {rows}", soon[job.number] == found[job.number] or longer)
 
     def test_feedback_and_rework(self):
-        model, first, script, lines = MODEL["Feedback and rework"]
-        self.kept(model_txt=model, first_csv=first, rework_py=script)
-        self.shows("rework", self.output_of("python3 rework.py"), lines)
+        model, script = MODEL["Feedback and rework"]
+        self.kept(model_txt=model, first_csv=table("source,time,d,back", [("new", 0, 4, 3), ("new", 1, 2, 0), ("new", 6, 5, 0)]), rework_py=script)
+        self.same("rework", visits(self.output_of("python3 rework.py"), "desk"), {1: (0, 4), 2: (3, 6), 4: (2, 9), 3: (3, 14)})
         for seed in range(TRACES):
             rows = [(*row[:3], max(0, row[3] - 4)) for row in drawn(seed, ["new"], (1, 6), (1, 9))]
             self.kept(first_csv=table("source,time,d,back", rows))
@@ -195,9 +203,8 @@ class Recipes(Check):
 
     def test_buffers_of_more_than_4(self):
         """Every tandem, with every choice of the stages that work: stages of demand 0 add their places to those of the next machine."""
-        line, command, made = MODEL["Buffers of more than 4"]
+        command, made = MODEL["Buffers of more than 4"]
         self.same("the tandem of the page", self.output_of(command), made)
-        self.shows("the tandem by hand", made, line)
         every = [it for n in (1, 2, 3) for it in product(product(range(1, 5), repeat=n), product([False, True], repeat=n - 1))]
         forms = [(places, (*works, True)) for places, works in every]
         lines, rooms = [], []
@@ -229,16 +236,15 @@ class Recipes(Check):
             soon = visits(self.report(two, table("source,time,a,b", [row[:4] for row in rows])), "two")
             self.holds(f"20 places: {rows}", all(soon[job][1] <= truth[job][-1] <= late[job] for job in truth))
 
-    def test_trace_from_a_log(self):
-        log, model, by_awk, trace, by_python, commands = MODEL["A trace from a log"]
-        self.kept(calls_log=log, model_txt=model, trace_py=by_python)
-        self.output_of(by_awk)
-        self.same("a log by awk", (self.folder / "trace.csv").read_text(), trace)
-        self.same("a log by Python", self.output_of("python3 trace.py <calls.log"), trace)
+    def test_making_a_trace(self):
+        """A packed trace is read by each of the commands; a bound doesn't end a run, but rejects it."""
+        (commands,) = MODEL["Making a trace"]
+        model = "model 1\nsource phone\nsource web\nserver desk talk from phone web\n"
+        self.kept(model_txt=model, trace_csv=table("source,time,talk", [("phone", 5, 95), ("web", 40, 120), ("phone", 70, 30)]))
         self.output_of("gzip -c trace.csv >trace.csv.gz")
         wanted = self.output_of("./mpsim model.txt trace.csv")
         for command in commands.splitlines():
-            # The last two need bash or zsh.
+            # `<(` needs bash or zsh.
             shell = "bash" if "<(" in command else "sh"
             if shutil.which(shell):
                 self.same(command, self.output_of(command, shell), wanted)
@@ -253,9 +259,11 @@ class Recipes(Check):
         self.same("every tenth", sorted(visits(text, "picked")), [10, 20, 30])
 
     def test_trunk_groups(self):
-        model, lines = MODEL["Trunk groups"]
+        (model,) = MODEL["Trunk groups"]
         text = self.report(model, table("source,time,hold", [("calls", time, 3) for time in range(5)]))
-        self.shows("trunk groups", text, lines + "job 3 lines arrive 2 lost\n")
+        self.same("trunk groups", visits(text, "lines"), {1: (0, 3), 2: (0, 4), 3: None, 4: (0, 6), 5: (0, 7)})
+        line = "node lines trunk in 5 out 4 lost 1 held 0 wait 0 max 0 p50 0 p90 0 p99 0 busy 12 area 12 peak 2 util 0.8571\n"
+        self.shows("trunk groups", text, line + "exit lines.0 4 sojourn 12\nexit lines.1 1 sojourn 0\n")
 
     def test_forks_and_joins(self):
         """As docs/REPORT.md shows them."""

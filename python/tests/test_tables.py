@@ -168,7 +168,7 @@ class Table(InFolder):
         self.assertEqual(self.tells("table", CALLS / "report.txt", "--of", "exits", "--node", "desk"), "node,output,jobs,sojourn\n")
 
     def test_visits(self):
-        """The rows that docs/REPORT.md shows for `expert`."""
+        """The rows of `expert`, also if a job is lost; and a held job."""
         want = "job,node,arrive,wait,depart,end\n2,expert,2,0,8,left\n3,expert,3,5,13,left\n"
         want += "5,expert,6,,,lost\n6,expert,7,,,lost\n8,expert,9,4,15,left\n10,expert,10,,,lost\n"
         self.assertEqual(self.tells("table", JOBS, "--of", "visits", "--node", "expert"), want)
