@@ -140,7 +140,7 @@ def lost_of(visits):
 SERVER = "model 1\nsource door\nserver desk a from door\n"
 
 
-@section("M/M/1", "Poisson arrivals, exponential services of mean 1, load ρ = 0.8.")
+@section("M/M/1", "Poisson arrivals, exponential services, load ρ = 0.8.")
 def one_server(it):
     load = 0.8
     waits = it.run(SERVER, it.arrivals(TICKS / load), it.exponential(TICKS)).visits["desk"].wait
@@ -155,7 +155,7 @@ def one_server(it):
 
 @section(
     "M/D/1 and M/G/1",
-    "Pollaczek and Khinchine: the mean wait is ρ (1 + c²) / (2 (1 - ρ)), where c² is the squared coefficient of variation of the services. Load 0.8.",
+    "Pollaczek and Khinchine, load 0.8. c² is the squared coefficient of variation of the services.",
 )
 def any_services(it):
     load = 0.8
@@ -171,8 +171,8 @@ def any_services(it):
 
 @section(
     "Stations in a row",
-    "Burke: the departures from M/M/1 are a Poisson process with the rate of the arrivals. So each of three servers in a row behaves as M/M/1 by itself "
-    "(Jackson). Loads 0.5, 0.7 and 0.8; times between departures are in mean times between arrivals.",
+    "Burke: the departures from M/M/1 are a Poisson process with the rate of the arrivals, so each of three servers in a row behaves as M/M/1 by itself. "
+    "Times between departures are in mean times between arrivals.",
 )
 def in_a_row(it):
     loads, names = (0.5, 0.7, 0.8), ("first", "second", "third")
@@ -192,7 +192,7 @@ def in_a_row(it):
 
 @section(
     "Splits by chance",
-    "A Jackson network: two sources, three servers and a split by a random column. Each server behaves as M/M/1 by itself; the mean time in it is S / (1 - ρ).",
+    "A Jackson network: two sources, three servers and a split by a random column. Each server behaves as M/M/1 by itself.",
 )
 def by_chance(it):
     model = "model 1\nsource door\nsource web\nserver front a from door\nsplit ways cut d 500000 from front\nserver left b from ways\n"
@@ -226,7 +226,7 @@ def erlang_b(lines, load):
 
 @section(
     "Erlang B",
-    "Erlang's loss formula: the share of calls that find all 30 lines taken, at an offered load of 25 erlangs. The distribution of holding times makes no difference.",
+    "The share of calls that find all 30 lines taken, at 25 erlangs. The distribution of holding times makes no difference.",
 )
 def no_line_free(it):
     load, lines, model = 25, 30, "model 2\nsource door\ntrunk lines {lines} a from door\n"
@@ -257,9 +257,8 @@ def queued(times, services, servers):
 
 @section(
     "Erlang C",
-    "Ten agents with one queue, at a load of 0.85 each. No node is such a queue. A recurrence over the agents' next free times computes the wait of each "
-    "call (`queued` of `check/theory.py`). The wait goes into the trace as a column, a delay holds the call that long, and a trunk group of ten serves it. "
-    "So these figures test that recurrence. The trunk group loses no call, which confirms that ten agents are enough for these waits.",
+    "Ten agents with one queue, at a load of 0.85 each. No node is such a queue: these figures test the recurrence (`queued` of `check/theory.py`) for the "
+    "wait of each call. A delay holds the call that long, and a trunk group of ten serves it. It loses no call: ten agents are enough for these waits.",
 )
 def one_queue(it):
     agents, load = 10, 8.5
@@ -277,8 +276,8 @@ def one_queue(it):
 
 @section(
     "M/G/∞",
-    "A delay with 20 jobs in it on average. The number of jobs that an arrival finds has a Poisson distribution, whatever the distribution of the times, so "
-    "its mean and its variance are equal.",
+    "A delay with 20 jobs on average. The number that an arrival finds has a Poisson distribution, whatever that of the times: its mean and variance are "
+    "equal.",
 )
 def nobody_waits(it):
     for name, held in ("uniform", it.uniform(40 * TICKS)), ("hyperexponential, c² = 4", it.two_exponentials(20 * TICKS, 4)):
@@ -294,8 +293,8 @@ def nobody_waits(it):
 
 @section(
     "Fork and join of two",
-    "Flatto and Hahn: each job goes to two M/M/1 servers at once, and the figure is the mean time until both are done. It is modelled as one node, and as a "
-    "fork and a join. The latter has half as many jobs, since both parts of a job are visits to the join, and a node has at most 1,048,576.",
+    "Flatto and Hahn: the mean time until a job that goes to two M/M/1 servers at once is done at both. It is modelled as one node, and, with half as many "
+    "jobs, as a fork and a join.",
 )
 def two_at_once(it):
     node = "model 1\nsource door\nforkjoin both a | b from door\n"
@@ -313,8 +312,8 @@ def two_at_once(it):
 
 @section(
     "Saturated tandems",
-    "Two exponential servers in a row. The first always has work; the second has K places, counting the one in service. The figure is the mean time between "
-    "departures, which Hunt found in 1956 for K = 1; for more places it follows from the same birth and death process.",
+    "Two exponential servers in a row. The first always has work; the second has K places, counting the one in service. Hunt found the mean time between "
+    "departures in 1956 for K = 1; the same birth and death process gives it for more places.",
 )
 def never_idle(it):
     for places in 1, 2, 4:
@@ -342,7 +341,10 @@ def main():
             SECTIONS[title][0](sample)
             samples.append(sample)
             for it in sample.figures:
-                print(f"{'ok' if it.holds else 'NO'} seed {seed}, {title}: {it.what}: {it.theory:.5g} by theory, {it.measured:.5g}, off {it.off:+.1f}", flush=True)
+                print(
+                    f"{'ok' if it.holds else 'NO'} seed {seed}, {title}: {it.what}: {it.theory:.5g} by theory, {it.measured:.5g}, off {it.off:+.1f}",
+                    flush=True,
+                )
             for node in sample.off_little:
                 print(f"NO seed {seed}, {title}: Little's law at {node}", flush=True)
             holds = holds and all(it.holds for it in sample.figures) and not sample.off_little

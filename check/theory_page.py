@@ -14,39 +14,36 @@ def number(value):
 
 def table(samples):
     """The table of a section: the first seed's figures, and how far off each seed's are."""
-    seeds = len(samples)
-    yield f"| What | Formula | Theory | mpsim | Standard error | {' | '.join(['Off', *[''] * (seeds - 1)])} |"
-    yield f"|{'---|' * (5 + seeds)}"
+    yield "| What | Formula | Theory | mpsim | Off |"
+    yield "|---|---|---|---|---|"
     for row in zip(*[it.figures for it in samples]):
         first = row[0]
-        offs = " | ".join(f"{it.off:+.1f}" + ("" if it.holds else " **no**") for it in row)
-        yield f"| {first.what} | {first.formula} | {number(first.theory)} | {number(first.measured)} | {first.error:.2g} | {offs} |"
+        offs = ", ".join(f"{it.off:+.1f}" + ("" if it.holds else " **no**") for it in row)
+        yield f"| {first.what} | {first.formula} | {number(first.theory)} | {number(first.measured)}±{first.error:.2g} | {offs} |"
 
 
 def beginning(jobs, seeds, held, count, nodes, visits, off):
     """The lines before the sections. `off` has the names of the nodes at which Little's law doesn't hold."""
-    little = "the sum of the times in it that the lines of `--jobs` give, to the tick."
+    little = "the sum of the times that the lines of `--jobs` give."
     return [
         "# Comparison with theory",
         "",
-        f"`check/theory.py --write` writes this page. It runs `mpsim` on {jobs:,} random jobs per run and compares the results with",
-        f"queueing theory. With the {'seeds' if seeds[1:] else 'seed'} {', '.join(map(str, seeds))}, {held} of {count} figures agree.",
+        f"`check/theory.py --write` writes this page. It compares runs of {jobs:,} random jobs with queueing theory. With the",
+        f"{'seeds' if seeds[1:] else 'seed'} {', '.join(map(str, seeds))}, {held} of {count} figures agree.",
         "",
-        "- *Theory* and *mpsim* (with the first seed) are in mean service times, unless stated otherwise.",
-        f"- *Off* is each seed's distance from theory in standard errors. Up to {ALLOWED} are allowed. If all is well, one such page in",
-        "  a hundred has a figure that is further off.",
-        f"- The standard error comes from the means of {BATCHES} batches of jobs. A first batch isn't counted, because the network starts",
-        "  empty.",
+        "- *Theory* and *mpsim* (with the first seed, and its standard error) are in mean service times, unless stated otherwise.",
+        f"- *Off* is each seed's distance from theory in standard errors. Up to {ALLOWED} are allowed. If all is well, one page in a",
+        "  hundred has a figure further off.",
+        f"- The standard error comes from the means of {BATCHES} batches of jobs, without a first one, in which the network fills.",
         "",
         "An error that moves a figure by several standard errors, here 0.1% to a few per cent, would show. An error of one tick,",
         "in the order of simultaneous events or in a single job would not. The proof excludes these, and random cases are compared",
-        "with an event list (`check/compare.py`). A figure may also be off because of the random draws. `check/run theory` shows",
-        "that two wrong programs are noticed: a server that serves the last arrival first, and a loss station with one place too",
-        "many.",
+        "with an event list (`check/compare.py`). `check/run theory` shows that two wrong programs are noticed: a server that",
+        "serves the last arrival first, and a loss station with one place too many.",
         "",
-        f"**Little's law holds exactly** at all {nodes} nodes, over {visits:,} visits: `area`, the number in the node summed over time, is"
+        f"**Little's law holds exactly** at all {nodes} nodes, over {visits:,} visits: to the tick, `area` is"
         if not off
-        else f"**Little's law fails** at {', '.join(off)}: `area`, the number in the node summed over time, isn't",
+        else f"**Little's law fails** at {', '.join(off)}: `area` isn't",
         little,
         "",
         "![Waits of M/M/1 and calls lost, by mpsim and by formula](validation.svg)",
@@ -71,13 +68,18 @@ class Panel:
 
     def __init__(self, left, title, low, high, ticks, says):
         self.left, self.low, self.high = left, low, high
-        self.parts = [f'<text x="{left}" y="22" font-weight="bold">{title}</text>', f'<path d="M{left} {TOP}V{BOTTOM}h{WIDTH}" fill="none" stroke="{DARK}"/>']
+        self.parts = [
+            f'<text x="{left}" y="22" font-weight="bold">{title}</text>',
+            f'<path d="M{left} {TOP}V{BOTTOM}h{WIDTH}" fill="none" stroke="{DARK}"/>',
+        ]
         for it in ticks:
             x = self.x(it)
             self.parts.append(f'<path d="M{x:.1f} {BOTTOM}v4" stroke="{DARK}"/><text x="{x:.1f}" y="{BOTTOM + 18}" text-anchor="middle">{it}</text>')
         for it in 1, 0.1, 0.01, 0.001, 0.0001:
             y = self.y(it)
-            self.parts.append(f'<path d="M{left - 4} {y:.1f}h{WIDTH + 4}" stroke="#ddd"/><text x="{left - 8}" y="{y + 4:.1f}" text-anchor="end">{it:g}</text>')
+            self.parts.append(
+                f'<path d="M{left - 4} {y:.1f}h{WIDTH + 4}" stroke="#ddd"/><text x="{left - 8}" y="{y + 4:.1f}" text-anchor="end">{it:g}</text>'
+            )
         self.parts.append(f'<text x="{left + WIDTH / 2}" y="{BOTTOM + 39}" text-anchor="middle">{says}</text>')
 
     def x(self, value):
@@ -129,4 +131,6 @@ def picture(found):
         panels.append(panel)
     head = '<svg xmlns="http://www.w3.org/2000/svg" viewBox="0 0 760 320" font-family="sans-serif" font-size="12" role="img" '
     head += 'aria-label="Waits of M/M/1 and calls lost, by mpsim and by formula">'
-    return "".join(f"{it}\n" for it in [head, '<rect width="760" height="320" fill="#fff"/>', *[part for it in panels for part in it.parts], "</svg>"])
+    return "".join(
+        f"{it}\n" for it in [head, '<rect width="760" height="320" fill="#fff"/>', *[part for it in panels for part in it.parts], "</svg>"]
+    )
