@@ -72,7 +72,9 @@ class Parallel(Engine, InFolder):
         words, want = self.variants(130)
         # Another run of these tests looks for a sleep of its own.
         long = f"61.{os.getpid()}"
-        stand_in(self.programs, "mpsweep", f"echo scenario 1 status 0; sleep 1; echo >{self.folder}/runs; exec sleep {long}")
+        # As on a busy machine, its caller hears nothing for two seconds.
+        late = "(trap '' TERM; sleep 2; kill -CONT $PPID) >/dev/null 2>&1 & kill -STOP $PPID"
+        stand_in(self.programs, "mpsweep", f"echo scenario 1 status 0; sleep 1; {late}; echo >{self.folder}/runs; exec sleep {long}")
         for number, status in (signal.SIGINT, 130), (signal.SIGTERM, 143):
             begin = ["--resume"] if self.at.exists() else words
             settings = {"MPSIM_PROGRAMS": str(self.programs)}

@@ -216,7 +216,7 @@ class Shards(InFolder):
         count = [f"mpplan: 200 scenarios in 4 shards, {number} to run" for number in range(5)]
         self.assertEqual(self.told(*words, "--folder", self.at), (11, want, [count[4]]))
         for folder, more, log in (
-            ("p", ["--parallel=--jobs 2"], "--no-notice --halt never --jobs 2\n"),
+            ("p", ["--parallel=--jobs 2"], "--no-notice --halt never --termseq TERM,60000,KILL,25 --jobs 2\n"),
             ("s", ["--slurm"], "--wait --job-name=mpsim --array=1-2 --output={0}/slurm.out --open-mode=append {0}/array.sh\n"),
         ):
             self.log.write_text("")
