@@ -8,19 +8,20 @@ from programs import CHECKS, executable, once, run, shared
 
 @once
 def library():
-    """The library that refuses, built with the toolchain's compiler: it is loaded before a program's own libraries."""
+    """Returns the directory of the library that refuses, built with the toolchain's compiler: it is loaded before a program's own libraries."""
     folder = tempfile.mkdtemp(dir=shared())
     kit = pathlib.Path(subprocess.run(["rt", "doc"], stdout=subprocess.PIPE, text=True, check=True).stdout.strip()).parent / "toolchain"
     words = [kit / "bin" / "clang", "--target=x86_64-unknown-linux-gnu", f"--sysroot={kit}", "-fuse-ld=lld", "-nostdlib", "-shared", "-fPIC", "-O1"]
     subprocess.run([*words, "-o", f"{folder}/refuse.so", CHECKS / "refuse.c"], check=True)
-    return f"{folder}/refuse.so"
+    return folder
 
 
 def refusing(check, name, *words, line=None, **settings):
     """Runs a program with something refused: REFUSED, the number of an allocation, or THREADS, the number of threads allowed. Returns what it did,
     and whether anything was refused."""
     told = check.folder / "told"
-    settings = {"LD_PRELOAD": library(), "TOLD": str(told), **settings}
+    # A path in LD_PRELOAD would end at a space.
+    settings = {"LD_LIBRARY_PATH": library(), "LD_PRELOAD": "refuse.so", "TOLD": str(told), **settings}
     ran = run(executable(name), *words, settings=settings, line=line)
     return ran, told.is_file()
 

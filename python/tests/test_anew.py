@@ -5,6 +5,7 @@ import io
 import os
 import pathlib
 import random
+import shlex
 import unittest
 
 from commands import InFolder, planner
@@ -236,7 +237,7 @@ class Anew(InFolder):
         other = self.file("o.txt", "model 2\nsource door\ndelay desk_queue =3 from door\ntrunk desk 9 d from desk_queue\n")
         made, pooled = self.pooled(plain, trace, desk=2)
         agents, _ = self.pooled(plain, trace, "agents", desk=2)
-        stand_in(self.folder, "mpsim", f'echo >>{log}\nexec {real} "$@"')
+        stand_in(self.folder, "mpsim", f'echo >>{shlex.quote(str(log))}\nexec {shlex.quote(str(real))} "$@"')
         for model, rows, want in (plain, trace, 3), (other, trace, 3), (plain, pooled, 3), (made, pooled, 7), (agents, pooled, 6):
             with programs_in(self.folder):
                 self.assertEqual(planner("days", model, rows, "--every", 100)[0], 0)

@@ -2,15 +2,14 @@
 final table is that of single runs."""
 
 import os
+import shlex
 import shutil
 import signal
 import subprocess
 import unittest
 
 from ground import heeds_signals, stand_in, wait_for
-from test_shards import InFolder
-
-from mpsim import programs
+from test_shards import MPSWEEP, InFolder
 
 SHORT = "mpplan: 1 of 4 shards are missing from the table: mpplan sweep --folder {} --resume runs them"
 
@@ -48,11 +47,11 @@ class Engine:
         once = self.folder / "once"
         for way in self.ways:
             for killed in "$PPID", "$$":
-                stand_in(self.programs, "mpsweep", f'mkdir {once} 2>/dev/null && kill -9 {killed}\nexec {programs.find("mpsweep")} "$@"')
+                stand_in(self.programs, "mpsweep", f'mkdir {shlex.quote(str(once))} 2>/dev/null && kill -9 {killed}\nexec {MPSWEEP} "$@"')
                 at = self.folder / f"a {killed[1:]} {self.ways.index(way)}"
                 status, out, lines = self.told(*words, "--folder", at, way, settings={"MPSIM_PROGRAMS": str(self.programs)})
                 self.assertEqual(status, 1, lines)
-                self.assertIn(SHORT.format(f"'{at}'"), lines)
+                self.assertIn(SHORT.format(shlex.quote(str(at))), lines)
                 self.assertEqual(sum("it left nothing: not started, or killed" in line for line in lines), killed == "$PPID", lines)
                 shards = [path.name for path in (at / "0000").glob("*.txt")]
                 self.assertEqual(len(shards), 3)
@@ -72,7 +71,11 @@ class Parallel(Engine, InFolder):
         words, want = self.variants(130)
         # Another run of these tests looks for a sleep of its own.
         long = f"61.{os.getpid()}"
-        stand_in(self.programs, "mpsweep", f"echo scenario 1 status 0; sleep 1; echo >{self.folder}/runs; exec sleep {long}")
+        # As on a busy machine, its caller hears nothing for two seconds.
+        late = "(trap '' TERM; sleep 2; kill -CONT $PPID) >/dev/null 2>&1 & kill -STOP $PPID"
+        stand_in(
+            self.programs, "mpsweep", f"echo scenario 1 status 0; sleep 1; {late}; echo >{shlex.quote(str(self.folder))}/runs; exec sleep {long}"
+        )
         for number, status in (signal.SIGINT, 130), (signal.SIGTERM, 143):
             begin = ["--resume"] if self.at.exists() else words
             settings = {"MPSIM_PROGRAMS": str(self.programs)}

@@ -6,7 +6,7 @@ import random
 import re
 import threading
 import unittest
-from datetime import datetime
+from datetime import datetime, timedelta
 
 from ground import Test, nodes_of, text_of, waits_of
 from looking import DRIVER, NODE, Browser, StandIn, webdriver
@@ -291,16 +291,16 @@ class Looked(Looking):
             width = self.seconds_of(self.texts("figcaption")[0])
             came = sum(number * 450 < width for number in range(40))
             begin = start or datetime(2000, 1, 1)
-            end = datetime.fromtimestamp(begin.timestamp() + width)
+            end = begin + timedelta(seconds=width)
             self.assertTrue(told.startswith(f"{begin:%H:%M} to {end:%H:%M}: {came} arrived"), told)
         long = mpsim.run("model 1\nsource s\nserver d =9 from s\n", [("s", number * 86400 * 7) for number in range(30)], jobs=True)
         self.looker.show(page([long], tick=1, start=datetime(2026, 2, 27, 6, 30)))
         self.looker.press("[data-picture=time]", "End")
         width = self.seconds_of(self.texts("figcaption")[0])
-        last = datetime(2026, 2, 27, 6, 30).timestamp() + (29 * 86400 * 7 + 9) // width * width
+        last = datetime(2026, 2, 27, 6, 30) + timedelta(seconds=(29 * 86400 * 7 + 9) // width * width)
         self.assertEqual(width % 86400, 0)
         told = self.texts("[data-told=time]")[0]
-        self.assertTrue(told.startswith(f"{datetime.fromtimestamp(last):%Y-%m-%d %H:%M} to "), told)
+        self.assertTrue(told.startswith(f"{last:%Y-%m-%d %H:%M} to "), told)
         self.assertTrue(any(re.fullmatch(r"2026-\d\d-\d\d", text) for text in self.texts(".axis text")))
 
     def test_times_after_all_dates(self):

@@ -5,6 +5,7 @@ import errno
 import os
 import pathlib
 import resource
+import shlex
 import signal
 import subprocess
 import sys
@@ -20,6 +21,9 @@ from mpsim import programs
 
 STORED = EXAMPLES / "callcentre" / "report.txt"
 REPORT = text_of(STORED)
+# The same file and mpsim, in shell scripts.
+STORED = shlex.quote(str(STORED))
+MPSIM = shlex.quote(programs.find("mpsim"))
 MANY = [("door", number, 1) for number in range(100000)]
 
 
@@ -258,7 +262,7 @@ class Ends(Test):
             self.assertEqual(str(error), "mpsim was ended: its timeout has passed")
 
     def test_a_time_that_is_that_of_all_runs(self):
-        script = f'sleep 0.2; exec {programs.find("mpsim")} "$@"'
+        script = f'sleep 0.2; exec {MPSIM} "$@"'
         self.ends(mpsim.TimedOut, script, lambda: mpsim.sweep(TRACE, [MODEL] * 30, jobs=True, timeout=1))
 
     def test_a_program_that_is_killed(self):
@@ -293,7 +297,7 @@ class Ends(Test):
         self.assertIn(f"{path} can't be started", str(caught.exception))
 
     def test_no_memory(self):
-        script = f'ulimit -v 8000; unset GLIBC_TUNABLES; exec {programs.find("mpsim")} "$@"'
+        script = f'ulimit -v 8000; unset GLIBC_TUNABLES; exec {MPSIM} "$@"'
         error = self.ends(mpsim.OutOfMemory, script, lambda: mpsim.run(DESK, MANY))
         self.assertEqual((error.told, error.status), ("mpsim: out of memory", 8))
         self.assertIsInstance(error, MemoryError)

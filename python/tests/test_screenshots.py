@@ -2,6 +2,7 @@
 
 import os
 import pathlib
+import shlex
 import shutil
 import struct
 import subprocess
@@ -13,8 +14,11 @@ from ground import EXAMPLES, ROOT, Test, nodes_of, stand_in, text_of
 from looking import Tree, elements
 from looking import text_of as text_in
 
-CHROMIUM = """for word; do case $word in --screenshot=*) out=${word#--screenshot=} ;; file://*) page=${word#file://} ;; esac; done
-cp "$page" "$out\""""
+CHROMIUM = f"""exec {shlex.quote(sys.executable)} -B -c '
+import shutil, sys, urllib.parse
+(out,) = (word[13:] for word in sys.argv if word.startswith("--screenshot="))
+(page,) = (word[7:] for word in sys.argv if word.startswith("file://"))
+shutil.copy(urllib.parse.unquote(page), out)' "$@\""""
 
 
 class Screenshots(Test):

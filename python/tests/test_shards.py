@@ -12,6 +12,7 @@ import os
 import pathlib
 import re
 import resource
+import shlex
 import signal
 import socket
 import subprocess
@@ -27,6 +28,7 @@ from mpsim import programs
 from mpsim.sweeps.shards import Folder
 
 TEXT = "model 2\nsource calls\ntrunk lines {lines} {column} from calls\n"
+MPSWEEP = shlex.quote(programs.find("mpsweep"))
 NUMBERS = ["in", "out", "lost", "held", "wait", "max", "p50", "p90", "p99", "busy", "area", "peak", "util"]
 PARALLEL = 'echo "$@" >>"$LOG"; tac | while read -r line; do sh -c "$line" </dev/null; done; exit 0'
 SBATCH = """echo "$@" >>"$LOG"
@@ -188,7 +190,7 @@ class InMemory(InFolder):
         front = "model 1\nsource calls\nsplit desk_queue 2 turn from calls\n"
         other.write_text("\ufeff # source zz\r\n" + front.replace("\n", "\r\n") + " server s{lines} {column} from desk_queue")
         stand_ins.mkdir()
-        stand_in(stand_ins, "mpsweep", f"touch {ran}")
+        stand_in(stand_ins, "mpsweep", f"touch {shlex.quote(str(ran))}")
         values = "--set", "column=a", "--set", "lines=1..3"
         for node, models, line in (
             ("zz", [self.model], "model m: no node 'zz'; it has calls, lines"),
@@ -216,7 +218,7 @@ class Shards(InFolder):
         count = [f"mpplan: 200 scenarios in 4 shards, {number} to run" for number in range(5)]
         self.assertEqual(self.told(*words, "--folder", self.at), (11, want, [count[4]]))
         for folder, more, log in (
-            ("p", ["--parallel=--jobs 2"], "--no-notice --halt never --jobs 2\n"),
+            ("p", ["--parallel=--jobs 2"], "--no-notice --halt never --termseq TERM,60000,KILL,25 --jobs 2\n"),
             ("s", ["--slurm"], "--wait --job-name=mpsim --array=1-2 --output={0}/slurm.out --open-mode=append {0}/array.sh\n"),
         ):
             self.log.write_text("")
@@ -233,7 +235,8 @@ class Shards(InFolder):
         killed, folder = self.folder / "killed", self.folder / "programs"
         folder.mkdir()
         # The first call of mpsweep kills its caller: that of shard 4, and of shard 3, which is the first of its task.
-        stand_in(folder, "mpsweep", f'[ -e {killed} ] || {{ touch {killed}; kill -9 $PPID; }}\nexec {programs.find("mpsweep")} "$@"')
+        once = shlex.quote(str(killed))
+        stand_in(folder, "mpsweep", f'[ -e {once} ] || {{ touch {once}; kill -9 $PPID; }}\nexec {MPSWEEP} "$@"')
         for way, shard in (["--parallel"], 4), (["--slurm"], 3):
             at = self.folder / way[0]
             status, out, lines = self.told(*words, "--folder", at, *way, settings={"MPSIM_PROGRAMS": str(folder)})
@@ -244,7 +247,7 @@ class Shards(InFolder):
                 lines[1:3],
                 [
                     f"mpplan: shard {shard}: it left nothing: not started, or killed, or its disk was full, or its machine disappeared",
-                    f"mpplan: 1 of 4 shards are missing from the table: mpplan sweep --folder {at} --resume runs them",
+                    f"mpplan: 1 of 4 shards are missing from the table: mpplan sweep --folder {shlex.quote(str(at))} --resume runs them",
                 ],
             )
             of_shard = {str(number) for number in range(64 * shard - 64, 64 * shard)}
@@ -260,7 +263,7 @@ class Shards(InFolder):
         folder = self.folder / "programs"
         folder.mkdir()
         # Its caller must have started before it is stopped.
-        stand_in(folder, "mpsweep", f"echo scenario 1 status 0; sleep 1; echo >{self.folder}/runs; exec sleep 60")
+        stand_in(folder, "mpsweep", f"echo scenario 1 status 0; sleep 1; echo >{shlex.quote(str(self.folder))}/runs; exec sleep 60")
         settings = {"MPSIM_PROGRAMS": str(folder)}
         for number, status, last in (signal.SIGINT, 130, ["mpplan: stopped"]), (signal.SIGTERM, 143, []):
             for way in ["--folder", self.at], ["--folder", self.at, "--shard", "1"]:

@@ -2,6 +2,7 @@
 
 import os
 import pathlib
+import shlex
 import tempfile
 import unittest
 
@@ -69,7 +70,7 @@ class Runs(Test):
         """Stopping early ends the program; it is called only as often as models are requested."""
         with tempfile.TemporaryDirectory() as folder:
             counted = pathlib.Path(folder, "count")
-            stand_in(folder, "mpsweep", f'echo >>{counted}; exec {programs.find("mpsweep")} "$@"')
+            stand_in(folder, "mpsweep", f'echo >>{shlex.quote(str(counted))}; exec {shlex.quote(programs.find("mpsweep"))} "$@"')
             with programs_in(folder):
                 coming = mpsim.scenarios(CALLS, mpsim.variants(LINES, lines=range(1, 131)))
                 self.assertFalse(counted.exists())
@@ -149,7 +150,7 @@ class Texts(Test):
         text = STORED[: STORED.index("scenario 3 ")]
         with tempfile.TemporaryDirectory() as folder:
             pathlib.Path(folder, "text").write_text(text)
-            stand_in(folder, "mpsweep", f"cat {folder}/text")
+            stand_in(folder, "mpsweep", f"cat {shlex.quote(str(folder))}/text")
             models = sorted(DAY.glob("agents-*.txt"))
             with programs_in(folder):
                 self.assertEqual(len(mpsim.sweep(DAY / "trace.csv", models[:2])), 2)

@@ -230,7 +230,7 @@ class Compare(InFolder):
     def test_reports(self):
         other = self.file("other.txt", text_of(REPORT).replace("max 8 p50 5 p90 8", "max 8 p50 5 p90 7"))
         told = self.tells("compare", REPORT, other, "--node", "desk").splitlines()
-        self.assertEqual([item.split() for item in told], [[str(REPORT), str(other)], ["desk", "8", "7", "(-1)"]])
+        self.assertEqual([re.split("  +", item.strip()) for item in told], [[str(REPORT), str(other)], ["desk", "8", "7 (-1)"]])
         told = self.tells("compare", REPORT, other).splitlines()
         self.assertEqual([item.split()[0] for item in told[1:]], [node["name"] for node in nodes_of(text_of(REPORT))])
         self.assertEqual(told[3].split(), ["greet", "1", "1", "(+0)"])

@@ -51,7 +51,9 @@ def by_parallel(folder: Folder, shards: Iterable[int], options: Sequence[str] = 
     """Runs shards with GNU parallel. Its options may name machines (--sshlogin a,b) and the number of jobs at a time (--jobs 4)."""
     # It gets whole command lines, in which it replaces nothing.
     lines = "".join(f"{shlex.join([*command(folder), str(shard)])}\n" for shard in shards)
-    _run(["parallel", "--no-notice", "--halt", "never", *options], "--parallel requires GNU parallel", lines)
+    # A shard that is stopped removes what it made. By default it has a third of a second for that, which a busy machine may take to wake it.
+    patient = ["--termseq", "TERM,60000,KILL,25"]
+    _run(["parallel", "--no-notice", "--halt", "never", *patient, *options], "--parallel requires GNU parallel", lines)
 
 
 def array(folder: Folder, shards: Sequence[int], tasks: int) -> tuple[str, int]:
