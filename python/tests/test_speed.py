@@ -307,24 +307,13 @@ class Sojourn(Test):
                 found = list(zip(visits.job, visits.arrive, visits.raw_wait, visits.raw_depart))
                 self.assertEqual(found, rows if digits <= 16 else [])
         good, bad = b"job 1 desk arrive 2 wait 3 depart 5\n", mpsim.NodeVisits("desk")
-        for line in (
-            good.replace(b"5", b"05"),
-            good.replace(b"3", b""),
-            good.replace(b"1", b"0"),
-            good.replace(b"1", b"9"),
-            good.replace(b"b 1", b"b1 "),
-        ):
+        for old, new in (b"5", b"05"), (b"3", b""), (b"1", b"0"), (b"1", b"9"), (b"b 1", b"b1 "), (b"5\n", b"\n5"):
+            line = good.replace(old, new)
             for lines in line + good, good + line, good * 2 + line:
                 self.assertFalse(is_read(bad, lines, 8, numpy), lines)
-        for lines in (
-            b"job 1 desk arrive 2 lost\n" * 3,
-            good.replace(b"3", b"-3"),
-            good.replace(b"3", b"x"),
-            good[:-1],
-            good.replace(b"\n", b" "),
-            b"",
-        ):
-            self.assertFalse(is_read(bad, lines, 8, numpy), lines)
+        words = (b"job", b"jab"), (b"desk", b"dusk"), (b"arrive", b"arrivf"), (b"wait", b"waix"), (b"depart", b"deport")
+        for old, new in *words, (b"3", b"-3"), (b"3", b"x"), (b"\n", b" "), (good[-1:], b""), (good, b""), (b"wait 3 depart 5", b"lost"):
+            self.assertFalse(is_read(bad, good.replace(old, new) * 3, 8, numpy), new)
         self.assertEqual((len(bad), is_read(bad, good, 8, numpy), list(bad.depart)), (0, True, [5]))
 
     def test_only_where_jobs_may_leave(self):
