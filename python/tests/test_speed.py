@@ -15,6 +15,7 @@ import mpsim
 from mpsim.exports.prepare import prepare
 from mpsim.exports.records import Records
 from mpsim.exports.workbook import Workbook
+from mpsim.job_lines import is_read
 from mpsim.leaving import ends_of
 from mpsim.report import Reading
 from mpsim.tables import sojourns
@@ -203,6 +204,7 @@ NETWORKS = (
     "model 2\nsource door\nfork apart 3 from door\nserver one d from apart.0 apart.1 apart.2\n",
     "model 2\nsource door\nfork apart 2 from door\ndelay short =1 from apart.1\nloss one 1 d from apart.0 short\n",
     "model 1\nsource door\nsource gate\nserver desk d from door\n",
+    "model 2\nsource door\nsource gate\ntrunk desk 3 d from door gate\nserver second =1 from desk\n",
     "model 2\nsource door\nfork apart 2 from door\nloss one 1 d from apart.0\ndelay two d from apart.1\njoin both from one two\n",
 )
 
@@ -264,6 +266,55 @@ class Sojourn(Test):
 
             return numpy
         return None
+
+    def test_altered_lines(self):
+        """A report in which one character differs is read, or rejected with the same words, with numpy as without."""
+        numpy, draw, read = self.numpy(), random.Random(8), 0
+        if numpy is None:
+            raise unittest.SkipTest("needs numpy")
+        for report in self.reports():
+            whole = "".join(report.lines()).encode()
+            begin = whole.index(b"\njob ") + 1
+            for _ in range(50):
+                text, at = bytearray(whole), draw.randrange(begin, len(whole))
+                text[at : at + draw.choice([0, 1, 1, 1, 2])] = draw.choice(
+                    [b"", b"0", b"1", b"9" * 9, b"9" * 20, b" ", b"\n", b"-", b"x", b"\xb2", b"\0"]
+                )
+                found = []
+                for each in None, numpy:
+                    with unittest.mock.patch("mpsim.report.CHUNK", draw.choice([500, 1 << 17])), by_numpy(each):
+                        try:
+                            found.append("".join(Reading(bytes(text)).report().lines()))
+                        except mpsim.errors.ReportError as error:
+                            found.append(str(error))
+                self.assertEqual(found[0], found[1], (at, whole[at - 20 : at + 20], text[at - 20 : at + 20]))
+                read += found[0].encode() == text
+        self.assertGreater(read, 3)
+
+    def test_lines_read_at_once(self):
+        """Numbers of up to sixteen digits, and names with digits and of any length; not lost or held visits, nor longer numbers."""
+        numpy = self.numpy()
+        if numpy is None:
+            raise unittest.SkipTest("needs numpy")
+        draw = random.Random(9)
+        for name in "a", "desk", "d1o2o3r", "x" * 32, "arrive", "job", "a_1234567":
+            for digits in 1, 7, 8, 9, 15, 16, 17:
+                rows = [(draw.randrange(1, 1 << 20), *(draw.randrange(10 ** draw.randrange(1, digits + 1)) for _ in range(3))) for _ in range(99)]
+                rows[5] = 7, 10**digits - 1, 0, 10 ** (digits - 1)
+                text = "".join(f"job {job} {name} arrive {arrive} wait {wait} depart {depart}\n" for job, arrive, wait, depart in rows)
+                visits = mpsim.NodeVisits(name)
+                self.assertEqual(is_read(visits, text.encode(), 1 << 20, numpy), digits <= 16)
+                found = list(zip(visits.job, visits.arrive, visits.raw_wait, visits.raw_depart))
+                self.assertEqual(found, rows if digits <= 16 else [])
+        good, bad = b"job 1 desk arrive 2 wait 3 depart 5\n", mpsim.NodeVisits("desk")
+        for old, new in (b"5", b"05"), (b"3", b""), (b"1", b"0"), (b"1", b"9"), (b"b 1", b"b1 "), (b"5\n", b"\n5"):
+            line = good.replace(old, new)
+            for lines in line + good, good + line, good * 2 + line:
+                self.assertFalse(is_read(bad, lines, 8, numpy), lines)
+        words = (b"job", b"jab"), (b"desk", b"dusk"), (b"arrive", b"arrivf"), (b"wait", b"waix"), (b"depart", b"deport")
+        for old, new in *words, (b"3", b"-3"), (b"3", b"x"), (b"\n", b" "), (good[-1:], b""), (good, b""), (b"wait 3 depart 5", b"lost"):
+            self.assertFalse(is_read(bad, good.replace(old, new) * 3, 8, numpy), new)
+        self.assertEqual((len(bad), is_read(bad, good, 8, numpy), list(bad.depart)), (0, True, [5]))
 
     def test_only_where_jobs_may_leave(self):
         """The visits that say nothing of sojourns aren't read."""

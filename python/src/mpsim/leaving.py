@@ -4,6 +4,7 @@ from __future__ import annotations
 
 from array import array
 from itertools import compress
+from operator import ge, sub
 from typing import TYPE_CHECKING, Any
 
 from .node_visits import HELD, numpy_for
@@ -59,35 +60,54 @@ class ByPython:
     are added node by node, in the order of the report."""
 
     def __init__(self, count: int) -> None:
+        self.jobs = array("i", range(count))
         self.came, self.source = array("q", [-1]) * count, array("b", [0]) * count
         self.gone, self.end = array("q", [-1]) * count, array("h", [0]) * count
         self.stays = bytearray(b"\1") * count
 
+    def _run_of(self, visits: NodeVisits) -> slice | None:
+        """Returns which jobs these are (slice), if each is the next after the one before it; else None. Their values are then written all at once."""
+        begin = visits.job[0] if visits.job else 0
+        run = slice(begin, begin + len(visits.job))
+        return run if self.jobs[run] == visits.job else None
+
     def begin(self, number: int, visits: NodeVisits) -> None:
         """Adds the arrivals at the source of this number."""
-        came, source = self.came, self.source
+        came, source, run = self.came, self.source, self._run_of(visits)
+        if run:
+            came[run], source[run] = visits.arrive, array("b", [number]) * len(visits)
+            return
         for job, arrive in zip(visits.job, visits.arrive):
             came[job], source[job] = arrive, number
 
     def add(self, number: int, visits: NodeVisits) -> None:
         """Adds visits to the node of this number."""
-        departs: Sequence[int] = visits.raw_depart
+        departs, mark = visits.raw_depart, 2 * number
+        marks = array("h", [mark]) * len(visits)
         if visits.raw_wait and min(visits.raw_wait) < 0:
             for job, wait in zip(visits.job, visits.raw_wait):
                 if wait == HELD:
                     self.stays[job] = 0
-            departs = [arrive if wait < 0 else depart for arrive, wait, depart in zip(visits.arrive, visits.raw_wait, visits.raw_depart)]
-        gone, end = self.gone, self.end
-        for job, wait, depart in zip(visits.job, visits.raw_wait, departs):
+            departs = array("q", [arrive if wait < 0 else depart for arrive, wait, depart in zip(visits.arrive, visits.raw_wait, departs)])
+            marks = array("h", [mark + (wait < 0) for wait in visits.raw_wait])
+        gone, end, run = self.gone, self.end, self._run_of(visits)
+        if run and all(map(ge, departs, gone[run])):
+            gone[run], end[run] = departs, marks
+            return
+        for job, depart, left in zip(visits.job, departs, marks):
             if depart >= gone[job]:
-                gone[job], end[job] = depart, 2 * number + (wait < 0)
+                gone[job], end[job] = depart, left
 
     def ways(self) -> Sequence[array[int]]:
         """Returns the columns of `tables.sojourns.Ways`, of all jobs without held visits."""
         self.stays[0] = 0
-        every = range(len(self.stays)), self.source, self.came, self.end, self.gone
-        jobs, sources, arrivals, ends, departures = (array("q", compress(column, self.stays)) for column in every)
-        return jobs, sources, arrivals, ends, array("q", map(int.__sub__, departures, arrivals))
+        columns: list[array[int]] = [self.jobs, self.source, self.came, self.end, self.gone]
+        if self.stays.count(0) == 1:
+            columns = [column[1:] for column in columns]
+        else:
+            columns = [array(column.typecode, compress(column, self.stays)) for column in columns]
+        jobs, sources, arrivals, ends, departures = columns
+        return jobs, sources, arrivals, ends, array("q", map(sub, departures, arrivals))
 
 
 class ByNumpy:

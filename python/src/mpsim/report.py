@@ -8,6 +8,7 @@ from typing import TYPE_CHECKING
 
 from .errors import ReportError, read_from
 from .inputs import model_text, stream_of
+from .job_lines import is_read
 from .lines import DIGITS, JOB, LINES, NUMBERS, SHAPE, TO_COMMAS, TO_NOTHING, Again, Exit, Node, alike
 from .model import nodes_of
 from .node_visits import NodeVisits, Totals, Visits, filled, numpy_for
@@ -23,7 +24,7 @@ if TYPE_CHECKING:
     from .times.calendar import Calendar
 
 # The number of bytes of job lines read at a time.
-CHUNK = 1 << 19
+CHUNK = 1 << 17
 
 
 class Report:
@@ -309,8 +310,8 @@ class Reading:
         return ReportError(self._node_lines + self.nodes.index(node), node.line(), f"contradicts the report: {why}")
 
     def pieces(self, nodes: Collection[str] | None = None) -> Iterator[NodeVisits]:
-        """Yields the visits, as NodeVisits of one node each, in the order of the lines; with `nodes` (names), only those to these nodes. At most half
-        a megabyte of text is held at a time. Raises ReportError for an invalid line and, after the last piece, if a node's visits don't match its
+        """Yields the visits, as NodeVisits of one node each, in the order of the lines; with `nodes` (names), only those to these nodes. Some 128 kB
+        of text are held at a time. Raises ReportError for an invalid line and, after the last piece, if a node's visits don't match its
         line. Lines of other nodes are checked only for their words, their number, and how many are lost or held."""
         seen = {node.name: Totals(self.span) for node in self.nodes}
         # The names of the nodes from that of the last visit on.
@@ -328,20 +329,12 @@ class Reading:
                 raise self._contradiction(node, "its job lines differ, or some are missing")
 
     def _texts(self) -> Iterator[bytes]:
-        """Yields the job lines, whole lines, about half a megabyte at a time."""
-        left = self._line if self.has_jobs else b""
-        while self.has_jobs:
+        """Yields the job lines, whole lines, some 128 kB at a time."""
+        text = self._line if self.has_jobs else b""
+        while text:
+            yield text
             text = self._stream.read(CHUNK)
-            cut = text.rfind(b"\n") + 1
-            if cut:
-                yield left + text[:cut]
-                left = text[cut:]
-            else:
-                left += text
-            if not text:
-                break
-        if left:
-            yield left
+            text += self._stream.readline()
 
     def _pieces_of(self, text: bytes, nodes: Collection[str] | None, seen: Mapping[str, Totals]) -> Iterator[NodeVisits]:
         # No number in a report is negative, so visits without a wait can get one, and all lines have the same shape. Many lines can then be checked
@@ -355,7 +348,12 @@ class Reading:
             cut = text.find(b"\n", text.rfind(words)) + 1
             mine, text = text[:cut], text[cut:]
             node = name[0].decode(errors="replace") if name else ""
-            is_wanted = nodes is None or node in nodes
+            is_wanted, piece = nodes is None or node in nodes, NodeVisits(node)
+            if is_wanted and self._numpy and node in self._left and is_read(piece, mine, self.jobs, self._numpy):
+                del self._left[: self._left.index(node)]
+                yield piece
+                self._number += len(piece)
+                continue
             # Without its digits the name of a node that nobody asked for may be that of another.
             shape = SHAPE if is_wanted else SHAPE.replace(b",", words.translate(None, DIGITS))
             lines, count, lost, held = alike(mine.replace(words, b",") if is_wanted else mine, shape)
@@ -363,7 +361,6 @@ class Reading:
                 raise self._first_error(mine)
             del self._left[: self._left.index(node)]
             if is_wanted:
-                piece = NodeVisits(node)
                 if not filled(piece, lines.translate(TO_COMMAS, TO_NOTHING), count, self._numpy) or not self._are_known(piece.job):
                     raise self._first_error(mine)
                 yield piece

@@ -3,6 +3,7 @@
 from __future__ import annotations
 
 from bisect import bisect_right
+from collections import defaultdict
 from itertools import chain
 from typing import TYPE_CHECKING, NamedTuple
 
@@ -12,6 +13,7 @@ from .service import PERCENTS
 
 if TYPE_CHECKING:
     from collections.abc import Iterator, Sequence
+    from typing import Any
 
     from ..report import Reading, Report
     from ..shapes import Row
@@ -102,7 +104,8 @@ def table(report: Report | Reading, by: str | Groups = "both", within: Sequence[
         return
     head, labels, column = _groups(by, names, every, report.jobs)
     yield [*head, "jobs", "lost", *figures]
-    found = dict(grouped([column, [end % 2 for end in every.end]], every.sojourn))
+    losses = [end % 2 for end in every.end] if any(end % 2 for end in set(every.end)) else [0] * len(every.end)
+    found = dict(grouped([column, losses], every.sojourn))
     for number in sorted({key[0] for key in found}):
         times, lost = found.get((number, 0), []), len(found.get((number, 1), []))
         yield [*labels[number : number + len(head)], len(times) + lost, lost, *_figures(times, len(times) + lost, within, percents)]
@@ -135,13 +138,32 @@ def grouped(keys: Sequence[Sequence[int]], times: Sequence[int]) -> list[tuple[t
     >>> grouped([[1, 0, 1]], [9, 5, 4])
     [((0,), [5]), ((1,), [4, 9])]
     """
-    numpy = numpy_for(len(times))
-    if not numpy:
-        found: dict[tuple[int, ...], list[int]] = {}
-        for key, time in zip(zip(*keys), times):
-            found.setdefault(key, []).append(time)
-        return sorted((key, sorted(mine)) for key, mine in found.items())
-    columns, every = [numpy.asarray(column, "i8") for column in keys], numpy.asarray(times)
+    # In most networks a column has one value, and needs no sorting.
+    only = [column[0] if len(set(column)) == 1 else None for column in keys]
+    varying = [column for column, value in zip(keys, only) if value is None]
+    numpy, made = numpy_for(len(times)), []
+    for found, mine in _by_numpy(numpy, varying, times) if numpy else _by_python(varying, times):
+        parts = iter(found)
+        made.append((tuple(next(parts) if value is None else value for value in only), mine))
+    return made
+
+
+def _by_python(keys: Sequence[Sequence[int]], times: Sequence[int]) -> list[tuple[tuple[int, ...], list[int]]]:
+    """Does what `grouped` does, with any number of columns."""
+    if not keys:
+        return [((), sorted(times))]
+    found: dict[tuple[int, ...], list[int]] = defaultdict(list)
+    for key, time in zip(zip(*keys), times):
+        found[key].append(time)
+    return sorted((key, sorted(mine)) for key, mine in found.items())
+
+
+def _by_numpy(numpy: Any, keys: Sequence[Sequence[int]], times: Sequence[int]) -> list[tuple[tuple[int, ...], list[int]]]:
+    """Does what _by_python does, with numpy."""
+    every = numpy.asarray(times)
+    if not keys:
+        return [((), numpy.sort(every).tolist())]
+    columns = [numpy.asarray(column, "i8") for column in keys]
     codes = sum(column << 31 * at for at, column in enumerate(reversed(columns)))
     order = numpy.lexsort((every, codes))
     begins = [0, *(numpy.flatnonzero(numpy.diff(codes[order])) + 1).tolist(), len(order)]
