@@ -1,0 +1,7 @@
+pub mod Branching
+pub mod Forms
+pub mod InOrder
+pub mod Loads
+pub mod Stages
+pub mod Tiers
+pub mod Wholes
