@@ -30,33 +30,33 @@ takes-preserved g c =
     let short = was.short in
     let room = was.room in
     elim c.match-next.branch [
-      in-Some+in-Some-taken w ↦
-        let next = w.in-Some.ensures in
-        let pushed = w.push_reserved.ensures in
-        let more = content-more g.X.Content.within all c.takes.counter w.in-Some.piece left rest w.taken.result before c.match-next.contents.items was.rest next.items w.taken.ensures was.first
-            ((λ k. (w.contents-is k).items) ∙ (pushed.items ∙ ap (λ o. before ++ cons_option o []) (sym w.in-Some-taken.is))) in
-        let count = ap vec_len w.contents-is ∙ pushed.len in
-        let size = ap vec_capacity w.contents-is ∙ pushed.capacity in
-        let gone = next.len in
-        let one = ap length next.items in
-        record { len = omega (arith, gone, one, len); short = omega (arith, count, short); room = omega (arith, size, room); first = more.0; rest = more.1 }
-    | in-Some+in_default-taken w ↦
-        let next = w.in-Some.ensures in
-        let more = content-more g.X.Content.within all c.takes.counter w.in-Some.piece left rest w.taken.result before c.match-next.contents.items was.rest next.items w.taken.ensures was.first
-            ((λ k. (w.contents-is k).items) ∙ (sym (append-nil before) ∙ ap (λ o. before ++ cons_option o []) (sym w.in_default-taken.is))) in
-        let count = ap vec_len w.contents-is in
-        let size = ap vec_capacity w.contents-is in
-        let gone = next.len in
-        let one = ap length next.items in
-        record { len = omega (arith, gone, one, len); short = omega (arith, count, short); room = omega (arith, size, room); first = more.0; rest = more.1 }
-    | in_default w ↦
-        let variant = w.in_default.ensures.variant in
-        let less = c.takes-test.true in
-        let long = c.requires.room in
-        let left_len = ap length was.rest ∙ length-drop c.takes.counter all in
-        let some : 0 < into_iter_len c.takes.left = omega (arith, len, left_len, less, long) in
-        let e : false ≡ true = variant.1 some in
-        absurd cc
+      | in-Some+in-Some-taken w ↦
+          let next = w.in-Some.ensures in
+          let pushed = w.push_reserved.ensures in
+          let more = content-more g.X.Content.within all c.takes.counter w.in-Some.piece left rest w.taken.result before c.match-next.contents.items was.rest next.items w.taken.ensures was.first
+          ((λ k. (w.contents-is k).items) ∙ (pushed.items ∙ ap (λ o. before ++ cons_option o []) (sym w.in-Some-taken.is))) in
+          let count = ap vec_len w.contents-is ∙ pushed.len in
+          let size = ap vec_capacity w.contents-is ∙ pushed.capacity in
+          let gone = next.len in
+          let one = ap length next.items in
+          record { len = omega (arith, gone, one, len); short = omega (arith, count, short); room = omega (arith, size, room); first = more.0; rest = more.1 }
+      | in-Some+in_default-taken w ↦
+          let next = w.in-Some.ensures in
+          let more = content-more g.X.Content.within all c.takes.counter w.in-Some.piece left rest w.taken.result before c.match-next.contents.items was.rest next.items w.taken.ensures was.first
+          ((λ k. (w.contents-is k).items) ∙ (sym (append-nil before) ∙ ap (λ o. before ++ cons_option o []) (sym w.in_default-taken.is))) in
+          let count = ap vec_len w.contents-is in
+          let size = ap vec_capacity w.contents-is in
+          let gone = next.len in
+          let one = ap length next.items in
+          record { len = omega (arith, gone, one, len); short = omega (arith, count, short); room = omega (arith, size, room); first = more.0; rest = more.1 }
+      | in_default w ↦
+          let variant = w.in_default.ensures.variant in
+          let less = c.takes-test.true in
+          let long = c.requires.room in
+          let left_len = ap length was.rest ∙ length-drop c.takes.counter all in
+          let some : 0 < into_iter_len c.takes.left = omega (arith, len, left_len, less, long) in
+          let e : false ≡ true = variant.1 some in
+          absurd cc
     ]
 
 pub returns-clause-first : goal.returns-clause-first

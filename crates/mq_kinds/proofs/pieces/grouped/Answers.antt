@@ -1,4 +1,4 @@
-use Rattle.std.proofs.Common.{◌≡◌, ◌∙◌, ◌<◌, ◌*◌, ℕ, List, ap, arith, take, drop, length, rules}
+use Rattle.std.proofs.Common.{◌≡◌, ◌∙◌, ◌*◌, ap, arith, take, drop, length, rules}
 use Rattle.std.specs.List.{filter_map}
 use Rattle.std.specs.Vec.Iter.{into_iter_items}
 use Rattle.mq_kinds.proofs.Taking.{drop-more, items-more, room}
@@ -19,7 +19,7 @@ groups-preserved g c =
     let size = c.args.size in
     let taken = c.in_ok-group.ensures in
     let more = items-more (λ i group. group ≡ filter_map g.X.Content.within (take size (drop (i * size) made))) c.groups.groups c.push.new.self c.groups.counter c.in_ok-group.group was.many was.each
-        (taken.first ∙ ap (λ left. filter_map g.X.Content.within (take size left)) was.rest) c.in_ok-push.ensures.ok in
+    (taken.first ∙ ap (λ left. filter_map g.X.Content.within (take size left)) was.rest) c.in_ok-push.ensures.ok in
     record {
       len = taken.len;
       many = more.0;
