@@ -1,7 +1,7 @@
 use Rattle.std.proofs.Common.{◌∙◌, sym}
 use Rattle.mq_stations.proofs.lemmas.Leaves.{departs-even}
 use Rattle.mq_kinds.proofs.InOrder.{in-turn-risen}
-use Rattle.mq_kinds.proofs.delay.in_order.Goals as goal
+use Rattle.mq_kinds.proofs.delay.delay_left.Goals as goal
 
 pub returns-then-never_fall : goal.returns-then-never_fall
 returns-then-never_fall g c =
