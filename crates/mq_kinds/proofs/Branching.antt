@@ -27,10 +27,10 @@ later-swap (x ∷ xs) (y ∷ ys) (z ∷ zs) =
     let swapped : max x (max y z) ≡ max y (max x z) = omega arith in
     (λ k. swapped k ∷ later-swap xs ys zs k)
 
--- with one more behind
-latest-behind : (latest x : List ℕ) (all : List (List ℕ)) → latest_of_all latest (all ++ x ∷ []) ≡ latest_of_all (later_of x latest) all
-latest-behind latest x [] = refl
-latest-behind latest x (y ∷ all) = ap (later_of y) (latest-behind latest x all)
+-- with one more at the end
+latest-last : (latest x : List ℕ) (all : List (List ℕ)) → latest_of_all latest (all ++ x ∷ []) ≡ latest_of_all (later_of x latest) all
+latest-last latest x [] = refl
+latest-last latest x (y ∷ all) = ap (later_of y) (latest-last latest x all)
 
 latest-front : (latest x : List ℕ) (all : List (List ℕ)) → latest_of_all (later_of x latest) all ≡ later_of x (latest_of_all latest all)
 latest-front latest x [] = refl
@@ -39,7 +39,7 @@ latest-front latest x (y ∷ all) = ap (later_of y) (latest-front latest x all) 
 through-more : (arrive : List ℕ) (branches : List Branch) (branch : Branch) → through_each arrive (branches ++ branch ∷ []) ≡ through_each arrive branches ++ in_series arrive branch.servers ∷ []
 through-more arrive branches branch = map-append (λ (b : Branch). in_series arrive b.servers) branches (branch ∷ [])
 
--- A branch that is put to the others.
+-- A branch that is added to the others.
 pub goes-on : (arrive : List ℕ) (server : ℕ) (servers : List (List ℕ)) (departs : List ℕ) (before after : Passage) (branch : Branch) → IsThrough arrive server servers departs → AllByRecursion (IsRunning arrive server) before.branches → length before.latest ≡ length arrive → server < length servers →
     branch.arrive ≡ departs → branch.servers ≡ servers → after.branches ≡ before.branches ++ branch ∷ [] → after.latest ≡ before.latest → IsResumed arrive server servers before after
 goes-on arrive server servers departs before after branch through running long inside a s e l =
@@ -54,7 +54,7 @@ goes-on arrive server servers departs before after branch through running long i
       departs =
           (λ k. latest_of_all (l k) (through_each arrive (e k)))
           ∙ (ap (latest_of_all before.latest) (through-more arrive before.branches branch)
-          ∙ (latest-behind before.latest (in_series arrive branch.servers) (through_each arrive before.branches)
+          ∙ (latest-last before.latest (in_series arrive branch.servers) (through_each arrive before.branches)
           ∙ (latest-front before.latest (in_series arrive branch.servers) (through_each arrive before.branches) ∙ ap (λ z. later_of (in_series arrive z) (departs_of arrive before)) s)));
     }
 
@@ -70,7 +70,7 @@ goes-out arrive server servers departs before after through running long ended b
           ∙ (latest-front before.latest departs (through_each arrive before.branches) ∙ ap (λ t. later_of t (departs_of arrive before)) (passing-ends arrive departs servers server ended through.passing));
     }
 
--- The jobs before the first server of each branch.
+-- The branches before their first servers.
 abbrev pub servers_of : Branch → List (List ℕ)
 servers_of branch = branch.servers
 
@@ -139,13 +139,13 @@ step-load arrive server branch asked running there =
 pub step-asked : (server : ℕ) (branch : Branch) (asked : List ℕ) → slice_get branch.servers server ≡ Some asked → asked ≡ asked_at server branch
 step-asked server branch asked there = sym (get_or_from_slice_get branch.servers server asked [] there)
 
--- what is kept while branches are put to those behind the tier, from the back
+-- what holds while the branches pass the tier one by one, the last one first
 pub record AreAdvancing (arrive : List ℕ) (all : List ℕ) (server : ℕ) (branches : List Branch) (lists : List (List ℕ)) (done : Passage) : Type 0 where
   pub running : AllByRecursion (IsRunning arrive server) branches
   pub same : lists ≡ map (next_departs server) branches
   pub len : length lists ≡ length branches
   pub few : length done.branches + length branches ≤ 8
-  pub behind : AllByRecursion (IsRunning arrive (server + 1)) done.branches
+  pub past : AllByRecursion (IsRunning arrive (server + 1)) done.branches
   pub long : length done.latest ≡ length arrive
   pub departs : latest_of_all (departs_of arrive done) (through_each arrive branches) ≡ all
 
@@ -158,7 +158,7 @@ advancing-begins arrive all server passage done branches lists was a b d n l =
       same = these;
       len = ap length these ∙ length-map branches (next_departs server);
       few = let none = ap length n in let count = ap length b in let few = was.few in omega arith;
-      behind = subst (AllByRecursion (IsRunning arrive (server + 1))) (sym n) tt;
+      past = subst (AllByRecursion (IsRunning arrive (server + 1))) (sym n) tt;
       long = ap length l ∙ was.long;
       departs = (λ k. latest_of_all (latest_of_all (l k) (through_each arrive (n k))) (through_each arrive (b k))) ∙ a;
     }
@@ -192,19 +192,19 @@ advancing-more arrive all server branches rest branch lists others departs done 
       same = these;
       len = ap length these ∙ length-map rest (next_departs server);
       few = let few = was.few in let more = resumed.few in let count = ap length b in let parts = length-append rest (branch ∷ []) in omega arith;
-      behind = resumed.running;
+      past = resumed.running;
       long = resumed.long;
       departs =
           ap (λ t. latest_of_all t (through_each arrive rest)) resumed.departs
-          ∙ (sym (latest-behind (departs_of arrive done) through (through_each arrive rest))
+          ∙ (sym (latest-last (departs_of arrive done) through (through_each arrive rest))
           ∙ (ap (latest_of_all (departs_of arrive done)) (sym (through-more arrive rest branch) ∙ ap (through_each arrive) (sym b)) ∙ was.departs));
     }
 
 pub advancing-ends : (arrive : List ℕ) (all : List ℕ) (server : ℕ) (branches : List Branch) (lists : List (List ℕ)) (done : Passage) → AreAdvancing arrive all server branches lists done → length branches ≤ 0 → IsPassage arrive (server + 1) done × (departs_of arrive done ≡ all)
-advancing-ends arrive all server [] lists done was none = (record { few = let few = was.few in omega arith; running = was.behind; long = was.long }, was.departs)
+advancing-ends arrive all server [] lists done was none = (record { few = let few = was.few in omega arith; running = was.past; long = was.long }, was.departs)
 advancing-ends arrive all server (branch ∷ branches) lists done was none = absurd (omega arith)
 
--- a tier of a branch is below 4
+-- a branch with a server left is at one of its first four
 pub tier-below : (arrive : List ℕ) (server : ℕ) (branches : List Branch) → AllByRecursion (IsRunning arrive server) branches → 1 ≤ length branches → server < 4
 tier-below arrive server [] h some = absurd (omega arith)
 tier-below arrive server (branch ∷ branches) h some = let inside = h.0.inside in let few = h.0.through.load.few in omega arith

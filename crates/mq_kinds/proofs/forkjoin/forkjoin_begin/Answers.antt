@@ -7,6 +7,5 @@ forkjoin_scan-requires-clause-load c = load-here _ _ _ _ c.requires.kind c.requi
 
 pub returns-clause-fit : goal.returns-clause-fit
 returns-clause-fit c =
-    let scan = c.in_ok-scan.ensures in
-    forkjoin-begins c.args.load.now.rows.now c.args.load.now.kind.now c.args.branches.now c.args.load.now.arrivals.now _ _ c.requires.kind c.requires.load scan.demands c.in_ok-branches.ensures.servers c.in_ok-branches.ensures.arrive c.in-Ok.ensures refl
-    scan.blocks refl
+    let load = c.args.load.now in
+    forkjoin-begins load.rows.now load.kind.now c.args.branches.now load.arrivals.now _ _ c.requires.kind c.requires.load c.in_ok-scan.ensures c.in_ok-branches.ensures.servers c.in_ok-branches.ensures.arrive c.in-Ok.ensures refl refl refl
