@@ -36,7 +36,7 @@ use Rattle.mq_kinds.specs.Pieces.{IsNext, IsOf, in_step, steps_of, sum_in, times
 use Rattle.mq_kinds.specs.declared.branches.Branch.{Branch}
 use Rattle.mq_kinds.specs.declared.forkjoin.ForkJoin.{ForkJoin}
 use Rattle.mq_kinds.specs.declared.pieces.Left.{Left}
-use Rattle.mq_kinds.specs.declared.pieces.Left.TheVariants.{InTurn, Overtaking, Passing, Settled, Visits}
+use Rattle.mq_kinds.specs.declared.pieces.Left.TheVariants.{InTurn, Overtaking, Passing, Settled}
 use Rattle.mq_kinds.specs.declared.pieces.Piece.{Piece}
 
 pub load-here : (rows : Rows) (kind : Kind) (branches : List (List Demand)) (arrivals : Stream) → kind ≡ TheForkJoin branches → IsLoad rows kind arrivals → IsLoad rows (TheForkJoin branches) arrivals
@@ -147,4 +147,3 @@ tier-next rows kind arrivals old new (Some (InTurn departs)) was tier = in-turn 
 tier-next rows kind arrivals old new (Some (Overtaking departs leaving)) was tier = absurd tier
 tier-next rows kind arrivals old new (Some (Settled settled)) was tier = absurd tier
 tier-next rows kind arrivals old new (Some (Passing streams)) was tier = absurd tier
-tier-next rows kind arrivals old new (Some (Visits visits leaving)) was tier = absurd tier

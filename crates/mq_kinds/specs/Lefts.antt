@@ -1,7 +1,7 @@
 -- What leaves a station.
 use Rattle.std.specs.Prelude.{◌≡◌, ℕ, List, map}
 use Rattle.std.specs.List.{zip}
-use Rattle.mq_core.specs.Came.{Came, came_in}
+use Rattle.mq_core.specs.Came.{came_in}
 use Rattle.mq_core.specs.Laws.{in_order_of}
 use Rattle.mq_core.specs.Sequences.{IsStream, sequence_fates, stream_in_order}
 use Rattle.mq_core.specs.Streams.{by_first, pairs_of, sorted}
@@ -9,10 +9,9 @@ use Rattle.mq_core.specs.declared.model.Fate.TheVariants.{Departs}
 use Rattle.mq_core.specs.declared.model.Kind.{Kind}
 use Rattle.mq_core.specs.declared.model.Rows.{Rows}
 use Rattle.mq_core.specs.declared.model.Stream.{Stream}
-use Rattle.mq_join.specs.Visits.{AreJoined}
 use Rattle.mq_stations.specs.Leaving.{AreDepartures, AreSettled, AreStreams}
 use Rattle.mq_kinds.specs.declared.pieces.Left.{Left}
-use Rattle.mq_kinds.specs.declared.pieces.Left.TheVariants.{InTurn, Overtaking, Passing, Settled, Visits}
+use Rattle.mq_kinds.specs.declared.pieces.Left.TheVariants.{InTurn, Overtaking, Passing, Settled}
 
 -- all jobs depart at these times, by position, and leave in the order in which they came
 abbrev pub LeaveInTurn : Rows → Kind → Stream → List ℕ → Type 0
@@ -33,15 +32,9 @@ pub record PassThrough (rows : Rows) (kind : Kind) (arrivals : Stream) (streams 
   pub fates : sequence_fates rows kind (came_in arrivals) ≡ map (λ time. Departs time) arrivals.time
   pub streams_are : AreStreams rows kind arrivals streams
 
--- what leaves a station of this kind. A join has a definition of its own, since its arrivals have ports
+-- what leaves a station of this kind
 abbrev pub IsLeft : Rows → Kind → Stream → Left → Type 0
 IsLeft rows kind arrivals (InTurn departs) = LeaveInTurn rows kind arrivals departs
 IsLeft rows kind arrivals (Overtaking departs leaving) = LeaveByTime rows kind arrivals departs leaving
 IsLeft rows kind arrivals (Settled settled) = AreSettled rows kind arrivals settled
 IsLeft rows kind arrivals (Passing streams) = PassThrough rows kind arrivals streams
-IsLeft rows kind arrivals (Visits visits leaving) = ⊥
-
--- what leaves a join with these arrivals
-abbrev pub IsJoined : Came → Left → Type 0
-IsJoined came (Visits visits leaving) = AreJoined came (record { visits = visits; leaving = leaving })
-IsJoined came _ = ⊥

@@ -4,26 +4,24 @@ use Rattle.mq_core.specs.declared.model.Kind.{Kind}
 use Rattle.mq_core.specs.declared.model.Kind.TheVariants.{Delay as TheDelay, Join as TheJoin}
 use Rattle.mq_core.specs.declared.model.Rows.{Rows}
 use Rattle.mq_core.specs.declared.model.Stream.{Stream}
-use Rattle.mq_join.specs.Gathers.{came_to}
 use Rattle.mq_stations.specs.Leaving.{IsLoad}
 use Rattle.mq_kinds.specs.ForkJoins.{IsForkJoin, IsForkJoinPiece, forkjoin_size, forkjoin_steps}
-use Rattle.mq_kinds.specs.Lefts.{IsJoined, IsLeft}
+use Rattle.mq_kinds.specs.Lefts.{IsLeft}
 use Rattle.mq_kinds.specs.Pieces.{IsOf, left_in}
 use Rattle.mq_kinds.specs.Servers.{IsDelay, IsDelayPiece, IsServer, IsSplit, IsSplitPiece}
 use Rattle.mq_kinds.specs.Tandems.{IsTandem, IsTandemPiece, tandem_steps}
-use Rattle.mq_kinds.specs.declared.pieces.Left.{Left}
 use Rattle.mq_kinds.specs.declared.pieces.Piece.{Piece}
 use Rattle.mq_kinds.specs.declared.table.Serving.{Serving}
-use Rattle.mq_kinds.specs.declared.table.Serving.TheVariants.{Delay, ForkJoin, Join, Server, Split, Tandem, Whole}
+use Rattle.mq_kinds.specs.declared.table.Serving.TheVariants.{Delay, ForkJoin, Server, Split, Tandem, Whole}
 
--- the kinds of which one piece gives all that leaves: not a delay, whose jobs have to be put in order, and not a join, which has
--- a state of its own
+-- the kinds of which one piece gives all that leaves: not a delay, whose jobs have to be put in order, and not a join, whose
+-- arrivals have ports
 abbrev pub IsWhole : Kind → Type 0
 IsWhole (TheDelay demand) = ⊥
 IsWhole TheJoin = ⊥
 IsWhole _ = Unit {0}
 
--- the kinds that begin from their load: all but the join
+-- the kinds whose arrivals are one stream: all but the join
 abbrev pub HasLoad : Kind → Type 0
 HasLoad TheJoin = ⊥
 HasLoad _ = Unit {0}
@@ -36,7 +34,6 @@ IsServing rows kind arrivals (Server demands) = IsServer rows kind arrivals dema
 IsServing rows kind arrivals (Tandem tandem) = IsTandem rows kind arrivals tandem
 IsServing rows kind arrivals (ForkJoin work) = IsForkJoin rows kind arrivals work
 IsServing rows kind arrivals (Split split) = IsSplit rows kind arrivals split
-IsServing rows kind arrivals (Join gathered) = kind ≡ TheJoin
 
 -- the number of pieces of its step. A server has none: its single pass runs when the pieces of the others are made
 abbrev pub serving_size : Serving → ℕ
@@ -46,7 +43,6 @@ serving_size (Server demands) = 0
 serving_size (Tandem tandem) = tandem.scan.blocks.blocks
 serving_size (ForkJoin work) = forkjoin_size work
 serving_size (Split split) = split.blocks.blocks
-serving_size (Join gathered) = 1
 
 -- a piece of its step
 abbrev pub IsServingPiece : Rows → Kind → Stream → Serving → ℕ → Piece → Type 0
@@ -56,7 +52,6 @@ IsServingPiece rows kind arrivals (Server demands) b piece = ⊥
 IsServingPiece rows kind arrivals (Tandem tandem) b piece = IsTandemPiece arrivals tandem b piece
 IsServingPiece rows kind arrivals (ForkJoin work) b piece = IsForkJoinPiece work b piece
 IsServingPiece rows kind arrivals (Split split) b piece = IsSplitPiece rows arrivals split b piece
-IsServingPiece rows kind arrivals (Join gathered) b piece = IsOf left_in (λ _. IsJoined (came_to gathered)) b piece
 
 -- the number of further steps, at most
 abbrev pub serving_steps : Serving → ℕ
@@ -66,14 +61,3 @@ serving_steps (Server demands) = 0
 serving_steps (Tandem tandem) = tandem_steps tandem
 serving_steps (ForkJoin work) = forkjoin_steps work
 serving_steps (Split split) = 0
-serving_steps (Join gathered) = 0
-
--- what leaves a station that had this state
-abbrev pub IsEnd : Rows → Kind → Stream → Serving → Left → Type 0
-IsEnd rows kind arrivals Whole left = IsLeft rows kind arrivals left
-IsEnd rows kind arrivals (Delay demand) left = IsLeft rows kind arrivals left
-IsEnd rows kind arrivals (Server demands) left = IsLeft rows kind arrivals left
-IsEnd rows kind arrivals (Tandem tandem) left = IsLeft rows kind arrivals left
-IsEnd rows kind arrivals (ForkJoin work) left = IsLeft rows kind arrivals left
-IsEnd rows kind arrivals (Split split) left = IsLeft rows kind arrivals left
-IsEnd rows kind arrivals (Join gathered) left = IsJoined (came_to gathered) left

@@ -5,7 +5,6 @@ mod branches;
 mod delay;
 mod fork;
 mod forkjoin;
-mod join;
 mod loss;
 mod pieces;
 mod server;
@@ -20,7 +19,5 @@ pub use delay::delay_left;
 pub use forkjoin::ForkJoin;
 pub use pieces::{Content, Left, Load, Piece, all_contents, grouped, only_content};
 pub use split::Split;
-pub use table::{
-    Serving, Step, serving_count, serving_next, serving_of, serving_piece, station_whole,
-};
+pub use table::{Serving, serving_count, serving_next, serving_of, serving_piece, station_whole};
 pub use tandem::Tandem;

@@ -6,7 +6,7 @@ ghost use Rattle.mq_kinds.specs.Pieces.{left_in, product_in, streams_in, sum_in,
 ghost use Rattle.mq_kinds.specs.declared.pieces.Piece.{Piece as ThePiece};
 
 use mq_base::{List, OutOfMemory};
-use mq_core::{Fate, Kind, Rows, Stream, Visits};
+use mq_core::{Kind, Rows, Stream};
 use mq_maxplus::{Affine, Matrix};
 use mq_rounds::Settled;
 use std::alloc::Global;
@@ -37,29 +37,21 @@ pub enum Left {
     Settled(Settled),
     /// The stream of each output. Each job departs when it comes.
     Passing(List<Stream>),
-    /// The visits to a join, and the stream that leaves.
-    Visits(Visits, Stream),
 }
 
-/// One piece of the work on a node.
+/// One piece of the work on a station.
 #[derive(Drop)]
 pub enum Piece {
-    /// A part of a stream.
-    Stream(Stream),
     /// What the jobs of a block of a server do together.
     Sum(Affine),
     /// What the jobs of a block of a tandem do together. A matrix takes some 4,000 bytes, so it has a box.
     Product(Box<Matrix>),
     /// The departure of each job of a block, in ticks.
     Times(List<u64>),
-    /// How many jobs each job of a block found.
-    Founds(List<u32>),
     /// What leaves a block, by each output.
     Streams(List<Stream>),
     /// What leaves a station that is one piece.
     Left(Left),
-    /// The fates of the visits of a block.
-    Fates(List<Fate>),
 }
 
 /// What the pieces of one form contain.

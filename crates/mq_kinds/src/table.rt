@@ -4,7 +4,7 @@ ghost use Rattle.std.specs.Prelude.{◌≡◌, ◌<◌, ◌≤◌, Ok, IfOk};
 ghost use Rattle.mq_crew.specs.Crew.{AreAll};
 ghost use Rattle.mq_kinds.specs.Lefts.{IsLeft};
 ghost use Rattle.mq_kinds.specs.Pieces.{IsNext};
-ghost use Rattle.mq_kinds.specs.Table.{HasLoad, IsEnd, IsServing, IsServingPiece, IsWhole, serving_size, serving_steps};
+ghost use Rattle.mq_kinds.specs.Table.{HasLoad, IsServing, IsServingPiece, IsWhole, serving_size, serving_steps};
 ghost use Rattle.mq_kinds.specs.declared.pieces.Left.{Left as TheLeft};
 ghost use Rattle.mq_stations.specs.Leaving.{IsLoad};
 
@@ -13,7 +13,6 @@ use crate::fork::fork_whole;
 use crate::forkjoin::{
     ForkJoin, forkjoin_begin, forkjoin_count, forkjoin_next, forkjoin_piece, forkjoin_whole,
 };
-use crate::join::join_whole;
 use crate::loss::loss_whole;
 use crate::pieces::{Left, Load, Piece, only_content};
 use crate::server::{server_begin, server_next, server_whole};
@@ -24,8 +23,7 @@ use crate::trunk::trunk_whole;
 use mq_asked::Asked;
 use mq_base::{List, OutOfMemory};
 use mq_core::{Demand, Kind};
-use mq_crew::{Crew, Gate, Pieces};
-use mq_join::Gathered;
+use mq_crew::{Crew, Gate};
 use std::alloc::Global;
 use std::thread::Threads;
 
@@ -47,8 +45,6 @@ pub enum Serving<'r> {
     Tandem(Tandem<'r>),
     ForkJoin(ForkJoin<'r>),
     Split(Split<'r>),
-    /// A join, with what came to its ports.
-    Join(Gathered),
 }
 
 /// Returns how a station begins. `stations` is the number of stations that begin together. A station whose jobs fill one
@@ -91,7 +87,7 @@ pub fn serving_count(load: &Load, serving: &Serving) -> u32
     ensures few { result ≤ 1048576 }
 {
     match serving {
-        Serving::Whole | Serving::Delay(_) | Serving::Join(_) => 1,
+        Serving::Whole | Serving::Delay(_) => 1,
         Serving::Server(_) => 0,
         Serving::Tandem(tandem) => tandem_count(tandem),
         Serving::ForkJoin(work) => forkjoin_count(work),
@@ -117,7 +113,6 @@ pub fn serving_piece(
         Serving::Tandem(tandem) => tandem_piece(alloc, load, tandem, b),
         Serving::ForkJoin(work) => forkjoin_piece(alloc, load, work, b),
         Serving::Split(split) => split_piece(alloc, load, split, b),
-        Serving::Join(gathered) => left_piece(join_whole(alloc, gathered)),
     }
 }
 
@@ -131,11 +126,10 @@ pub fn serving_next<R: Threads + Sync, G: Gate>(
 ) -> Result<Option<Left>, OutOfMemory>
     requires fit { IsServing load.now.rows.now load.now.kind.now load.now.arrivals.now serving.old }
     requires made { AreAll (IsServingPiece load.now.rows.now load.now.kind.now load.now.arrivals.now serving.old) (serving_size serving.old) made }
-    ensures { IfOk result (IsNext (IsServing load.now.rows.now load.now.kind.now load.now.arrivals.now) serving_steps (IsEnd load.now.rows.now load.now.kind.now load.now.arrivals.now serving.old) serving.old serving.new) }
+    ensures { IfOk result (IsNext (IsServing load.now.rows.now load.now.kind.now load.now.arrivals.now) serving_steps (IsLeft load.now.rows.now load.now.kind.now load.now.arrivals.now) serving.old serving.new) }
 {
     match serving {
         Serving::Whole => Ok(only_content(made)),
-        Serving::Join(_) => Ok(only_content(made)),
         Serving::Delay(demand) => delay_next(crew, load, demand, made),
         Serving::Server(demands) => {
             drop(made);
@@ -148,31 +142,6 @@ pub fn serving_next<R: Threads + Sync, G: Gate>(
             let joined = split_next(crew.alloc, load, split, made)?;
             Ok(Some(joined))
         }
-    }
-}
-
-/// The step of a station, as pieces that any thread can make.
-#[derive(Clone, Copy)]
-pub struct Step<'r, 's> {
-    pub load: Load<'r, 's>,
-    pub serving: &'s Serving<'r>,
-}
-
-impl<'r, 's> Pieces for Step<'r, 's> {
-    type Piece = Piece;
-
-    ghost fit = { λ s. IsServing s.load.rows.now s.load.kind.now s.load.arrivals.now s.serving.now };
-
-    ghost size = { λ s. serving_size s.serving.now };
-
-    ghost is_piece = { λ s b piece. IsServingPiece s.load.rows.now s.load.kind.now s.load.arrivals.now s.serving.now b piece };
-
-    fn count(&self) -> u32 {
-        serving_count(&self.load, self.serving)
-    }
-
-    fn piece(&self, alloc: Global, b: u32) -> Result<Piece, OutOfMemory> {
-        serving_piece(alloc, &self.load, self.serving, b)
     }
 }
 
