@@ -2,7 +2,6 @@
 use Rattle.std.specs.Prelude.{◌≡◌, ◌<◌, ◌≤◌, ◌^◌, All, ℕ, List, length, map, Some, slice_get, slice_index_or}
 use Rattle.std.specs.List.{AllByRecursion}
 use Rattle.mq_core.specs.Handling.{demand_of_job}
-use Rattle.mq_core.specs.Kinds.ForkJoin.{branch_demands}
 use Rattle.mq_core.specs.Sequences.{IsSoundLoad}
 use Rattle.mq_core.specs.declared.model.Demand.{Demand}
 use Rattle.mq_core.specs.declared.model.Route.{Route}
@@ -17,7 +16,6 @@ use Rattle.mq_scan.specs.Folds.{AreBefore}
 use Rattle.mq_scan.specs.declared.blocks.Blocks.{Blocks}
 use Rattle.mq_split.specs.Outs.{ArePieces, IsValued}
 use Rattle.mq_tandem.specs.Rows.{job_matrix, kept, last_row, none_kept}
-use Rattle.mq_stations.specs.declared.forkjoin.ForkJoinScan.{ForkJoinScan}
 use Rattle.mq_stations.specs.declared.tandem.TandemScan.{TandemScan}
 
 -- indices are cut into so many blocks at most
@@ -31,11 +29,6 @@ pub record IsTandemScan (rows : Rows) (stages : List TandemStage) (arrivals : St
   pub demands : scan.demands ≡ map (λ demand. map (demand_of_job rows demand) arrivals.job) asked
   pub places : scan.places ≡ map (λ (stage : TandemStage). stage.places) stages
   pub blocks : AreFewBlocks (length arrivals.time) 1024 scan.blocks
-
--- a scan of a fork-join likewise, with what they ask for at each server of each branch, in 16,384 blocks at most
-pub record IsForkJoinScan (rows : Rows) (branches : List (List Demand)) (arrivals : Stream) (scan : ForkJoinScan) : Type 0 where
-  pub demands : scan.demands ≡ branch_demands rows branches arrivals.job
-  pub blocks : AreFewBlocks (length arrivals.time) 16384 scan.blocks
 
 -- what the jobs of a block of a tandem do together
 abbrev pub IsTandemSum : Stream → TandemScan → ℕ → List (List Mp) → Type 0

@@ -1,58 +1,24 @@
-// A split, whole and by blocks: each job goes on as it comes, by the output of its route.
+// A split by blocks: each job goes on as it comes, by the output of its route.
 ghost use Rattle.std.specs.Prelude.{◌≡◌, ◌<◌, ◌≤◌, ℕ, List as Items, length, map, IfOk};
 ghost use Rattle.mq_base.specs.Lists.{between};
 ghost use Rattle.mq_core.specs.Handling.{demand_of_job};
 ghost use Rattle.mq_core.specs.Kinds.Split.{HasRouteValue, outputs_by, route_value};
 ghost use Rattle.mq_core.specs.Sequences.{IsStream};
 ghost use Rattle.mq_core.specs.Told.{HasDemand};
-ghost use Rattle.mq_core.specs.declared.model.Kind.TheVariants.{Split};
 ghost use Rattle.mq_core.specs.declared.model.Route.{Route as TheRoute};
 ghost use Rattle.mq_core.specs.declared.model.Rows.{Rows as TheRows};
 ghost use Rattle.mq_core.specs.declared.model.Stream.{Stream as TheStream};
 ghost use Rattle.mq_scan.specs.declared.blocks.Blocks.{Blocks as TheBlocks};
 ghost use Rattle.mq_split.specs.Outs.{AreParts, HasOutputs, outs_from, picked_stream};
-ghost use Rattle.mq_stations.specs.Leaving.{AreRouted, IsLeaving, IsLoad};
-ghost use Rattle.mq_stations.specs.Scans.{AreFewBlocks, AreSplitBlocks, AreSplitParts, HaveParts};
+ghost use Rattle.mq_stations.specs.Leaving.{AreRouted};
+ghost use Rattle.mq_stations.specs.Scans.{AreSplitBlocks, AreSplitParts, HaveParts};
 
-use crate::outflow::{Outflow, fates_of};
 use mq_asked::demands_in;
 use mq_base::{List, OutOfMemory};
 use mq_core::{Demand, Route, Rows, Stream, outputs_of_route};
-use mq_scan::{Blocks, block_size, cut};
-use mq_split::{pieces_join, split, split_between};
+use mq_scan::Blocks;
+use mq_split::{pieces_join, split_between};
 use std::alloc::Global;
-
-// What leaves a split that is worked out whole.
-pub fn split_outflow(
-    alloc: Global,
-    rows: &Rows,
-    route: &Route,
-    arrivals: &Stream,
-) -> Result<Outflow, OutOfMemory>
-    requires { IsLoad rows.now (Split route.now) arrivals.now }
-    ensures { IfOk result (λ leaving. IsLeaving rows.now (Split route.now) arrivals.now leaving.fates leaving.streams) }
-{
-    let values = values_of(alloc, rows, route, arrivals.job.as_slice())?;
-    let left = split(alloc, arrivals, &values, route);
-    drop(values);
-    let streams = left?;
-    let Ok(fates) = fates_of(alloc, &arrivals.time) else {
-        drop(streams);
-        return Err(OutOfMemory);
-    };
-    Ok(Outflow { fates, streams })
-}
-
-/// How the arrivals at a split are cut: by blocks of at least so many jobs, which is 1 at least, at most
-/// 16,384 of them.
-pub fn split_blocks(arrivals: &Stream, block: u32) -> Blocks
-    requires few { length arrivals.now.time ≤ 1048576 }
-    requires some { 1 ≤ block }
-    ensures { AreFewBlocks (length arrivals.now.time) 16384 result }
-{
-    let size = arrivals.time.len() as u32;
-    cut(size, block_size(size, block))
-}
 
 /// What leaves a split of block `b` of a cut of all arrivals: one stream per output, by its number, each
 /// with the jobs of the block that the route sends there, in their order. It refuses for want of memory

@@ -1,11 +1,11 @@
-// A tandem, whole and by blocks.
+// A tandem by blocks.
 ghost use Rattle.std.specs.Prelude.{◌≡◌, ◌<◌, ◌≤◌, ◌+◌, ◌*◌, ◌/◌, [], ℕ, All, List as Items, length, map, max, IfOk, slice_index_or};
 ghost use Rattle.mq_core.specs.Handling.{demand_of_job};
 ghost use Rattle.mq_core.specs.Recurrences.{tandem_departs};
 ghost use Rattle.mq_core.specs.declared.model.Kind.TheVariants.{Tandem};
 ghost use Rattle.mq_stations.specs.Scans.{AreTandemCarries, AreTandemTimes, IsTandemScan, IsTandemSum};
 ghost use Rattle.mq_asked.specs.Demands.{AreAsked};
-ghost use Rattle.mq_stations.specs.Leaving.{AreServed, IsLoad};
+ghost use Rattle.mq_stations.specs.Leaving.{IsLoad};
 ghost use Rattle.mq_maxplus.specs.declared.mp.Mp.{Mp as TheMp};
 ghost use Rattle.mq_tandem.specs.Rows.{IsTandemLoad};
 
@@ -14,7 +14,7 @@ use mq_base::{List, OutOfMemory};
 use mq_core::{Demand, Rows, Stage, Stream};
 use mq_maxplus::Matrix;
 use mq_scan::{Blocks, block_carries, block_summary, block_times, cut, joined_times};
-use mq_tandem::{Latest, TandemStep, carries_hold_departures, tandem_departures};
+use mq_tandem::{Latest, TandemStep, carries_hold_departures};
 use std::alloc::Global;
 
 /// A tandem that is scanned, block by block.
@@ -26,24 +26,6 @@ pub struct TandemScan<'a> {
     pub places: List<u8>,
     /// The jobs by position, cut into blocks.
     pub blocks: Blocks,
-}
-
-// When all jobs depart from a tandem that is worked out whole.
-pub fn tandem_whole(
-    alloc: Global,
-    rows: &Rows,
-    stages: &List<Stage>,
-    arrivals: &Stream,
-) -> Result<List<u64>, OutOfMemory>
-    requires { IsLoad rows.now (Tandem stages.now) arrivals.now }
-    ensures { IfOk result (λ departs. AreServed rows.now (Tandem stages.now) arrivals.now departs) }
-{
-    let demands = demands_of_stages(alloc, rows, stages, &arrivals.job)?;
-    let Ok(places) = stage_places(alloc, stages) else {
-        drop(demands);
-        return Err(OutOfMemory);
-    };
-    tandem_departures(alloc, arrivals, &demands, &places)
 }
 
 /// How a tandem is scanned: by blocks of at least so many jobs, which is 1 at least, at most 1,024 of them.

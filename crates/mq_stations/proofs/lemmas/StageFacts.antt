@@ -1,12 +1,11 @@
 -- What the stages of a tandem and the branches of a fork-join are, and what leaves them.
-use Rattle.std.proofs.Common.{◌≡◌, ◌≤◌, ℕ, ◌+◌, ◌^◌, Bool, true, List, [], ◌∷◌, ◌++◌, All, length, length-append, map, take, drop, sum, Some, sym, refl, ap, ◌∙◌, subst, arith}
+use Rattle.std.proofs.Common.{◌≡◌, ◌≤◌, ℕ, ◌^◌, Bool, true, List, [], ◌∷◌, All, length, map, drop, Some, sym, refl, ap, ◌∙◌, subst, arith}
 use Rattle.std.specs.Prelude.{◌&&◌, nat_le, slice_get}
 use Rattle.std.specs.List.{AllByRecursion as Each, flat_map, list_all}
 use Rattle.std.proofs.lemmas.Bool.{and_parts}
 use Rattle.std.proofs.lemmas.Bool.Decides.{nat_tests}
 use Rattle.std.proofs.lemmas.List.{length-map}
 pub use Rattle.mq_asked.proofs.lemmas.Lists.{All-index}
-use Rattle.mq_base.proofs.lemmas.Lists.{sum-cons}
 use Rattle.mq_base.proofs.lemmas.Each.{Each-map, Each-weaker, Each-front, Each-back}
 use Rattle.mq_core.specs.Sequences.{IsSoundLoad}
 use Rattle.mq_core.specs.Handling.{demand_of_job}
@@ -22,7 +21,6 @@ use Rattle.mq_core.specs.declared.model.Kind.TheVariants.{Tandem, ForkJoin}
 use Rattle.mq_core.specs.declared.model.Rows.{Rows}
 use Rattle.mq_core.specs.declared.model.Stage.{Stage}
 use Rattle.mq_core.specs.declared.model.Stream.{Stream}
-use Rattle.mq_forkjoin.specs.Branches.{AreBranches, branches_of}
 use Rattle.mq_tandem.specs.Stages.{AreStages}
 use Rattle.mq_stations.specs.Scans.{AreBranchLoads, IsBranchLoad}
 use Rattle.mq_asked.specs.Demands.{AreAsked}
@@ -123,30 +121,6 @@ sound-branches columns branches h =
     most : (n : ℕ) → nat_le n 8 ≡ true → n ≤ 8
     most n e = grind (arith, nat_tests)
 
-pub narrow-branches : (columns : ℕ) (branches : List (List Demand)) → are_sound_branches columns branches ≡ true → All (λ demands. length demands ≤ 4) branches
-narrow-branches columns branches h k d l = Each-get_or (λ demands. length demands ≤ 4) branches (sound-branches columns branches h).narrow k d l
-
--- the servers of all branches
-servers-together : (branches : List (List Demand)) → length (flat_map (λ demands. demands) branches) ≡ sum (map length branches)
-servers-together [] = refl
-servers-together (demands ∷ more) = length-append demands (flat_map (λ ds. ds) more) ∙ (ap (λ n. length demands + n) (servers-together more) ∙ sym (sum-cons (length demands) (map length more)))
-
--- what a fork-join must have
-pub branches-are : (columns : ℕ) (branches : List (List Demand)) (asked : List Demand) (servers : List ℕ) (f : Demand → List ℕ) (demands : List (List ℕ)) → are_sound_branches columns branches ≡ true → asked ≡ flat_map (λ ds. ds) branches → servers ≡ map length branches → demands ≡ map f asked →
-    AreBranches servers demands
-branches-are columns branches asked servers f demands h a p d =
-    let s = sound-branches columns branches h in
-    let least = s.some in
-    let most = s.few in
-    let long : length servers ≡ length branches = ap length p ∙ length-map branches _ in
-    let all : length (flat_map (λ ds. ds) branches) ≡ sum servers = servers-together branches ∙ ap sum (sym p) in
-    record {
-      some = omega arith;
-      served = subst (All (λ servers. 1 ≤ servers)) (sym p) (λ k o l. Each-get_or (λ servers. 1 ≤ servers) _ s.served k o l);
-      few = omega arith;
-      each = ap length d ∙ (length-map asked f ∙ (ap length a ∙ all));
-    }
-
 -- What the rows tell of several demands of each job, they tell of each demand.
 each-told : (rows : Rows) (demands : List Demand) (jobs : List ℕ) → ((k job : ℕ) → slice_get jobs k ≡ Some job → Each (λ demand. HasDemand rows demand job) demands) → ((k job : ℕ) → slice_get jobs k ≡ Some job → Each (λ demand. demand_of_job rows demand job ≤ 2 ^ 36) demands) →
     Each (λ demand. AreToldBy rows demand jobs) demands
@@ -231,28 +205,6 @@ tandem-served columns rows stages arrivals asked demands places departs h a m p 
     d ∙ ((λ k. tandem_departs (p k) (map (λ _. []) (p k)) arrivals.time ((m ∙ ap (map (λ demand. map (demand_of_job rows demand) arrivals.job)) a) k)) ∙ times-of columns rows stages arrivals.job arrivals.time h) in
     (record { once = refl; one = refl; outs = refl; fates = ap (map (λ time. Departs time)) (sym by) }, λ stream. refl)
 
--- What leaves a fork-join. The demands of all servers, cut into branches, are those of each branch.
-take-front : {X : Type 0} (f : Demand → X) (front rest : List Demand) → take (length front) (map f (front ++ rest)) ≡ map f front
-take-front f [] rest = refl
-take-front f (d ∷ front) rest = ap (λ l. f d ∷ l) (take-front f front rest)
-
-drop-front : {X : Type 0} (f : Demand → X) (front rest : List Demand) → drop (length front) (map f (front ++ rest)) ≡ map f rest
-drop-front f [] rest = refl
-drop-front f (d ∷ front) rest = drop-front f front rest
-
-branches-back : (f : Demand → List ℕ) (branches : List (List Demand)) → branches_of (map length branches) (map f (flat_map (λ ds. ds) branches)) ≡ map (λ demands. map f demands) branches
-branches-back f [] = refl
-branches-back f (demands ∷ more) =
-    (λ k. take-front f demands (flat_map (λ ds. ds) more) k ∷ branches_of (map length more) (drop-front f demands (flat_map (λ ds. ds) more) k)) ∙ ap (λ l. map f demands ∷ l) (branches-back f more)
-
-pub forkjoin-served : (rows : Rows) (branches : List (List Demand)) (arrivals : Stream) (asked : List Demand) (demands : List (List ℕ)) (servers departs : List ℕ) →
-    asked ≡ flat_map (λ ds. ds) branches → demands ≡ map (λ demand. map (demand_of_job rows demand) arrivals.job) asked → servers ≡ map length branches → departs ≡ forkjoin_departs arrivals.time (branches_of servers demands) →
-    AreServed rows (ForkJoin branches) arrivals departs
-forkjoin-served rows branches arrivals asked demands servers departs a m p d =
-    let by : departs ≡ forkjoin_departs arrivals.time (branch_demands rows branches arrivals.job) =
-    d ∙ ((λ k. forkjoin_departs arrivals.time (branches_of (p k) ((m ∙ ap (map (λ demand. map (demand_of_job rows demand) arrivals.job)) a) k))) ∙ ap (forkjoin_departs arrivals.time) (branches-back (λ demand. map (demand_of_job rows demand) arrivals.job) branches)) in
-    (record { once = refl; one = refl; outs = refl; fates = ap (map (λ time. Departs time)) (sym by) }, λ stream. refl)
-
--- the same of what its branches ask for, one by one
+-- What leaves a fork-join.
 pub forkjoin-departs : (rows : Rows) (branches : List (List Demand)) (arrivals : Stream) (demands : List (List (List ℕ))) (departs : List ℕ) → demands ≡ branch_demands rows branches arrivals.job → departs ≡ forkjoin_departs arrivals.time demands → AreServed rows (ForkJoin branches) arrivals departs
 forkjoin-departs rows branches arrivals demands departs m d = (record { once = refl; one = refl; outs = refl; fates = ap (map (λ time. Departs time)) (sym (d ∙ ap (forkjoin_departs arrivals.time) m)) }, λ stream. refl)

@@ -3,8 +3,8 @@ use Rattle.std.specs.Vec.{vec_len, vec_capacity}
 use Rattle.mq_core.specs.declared.model.Fate.{Fate}
 use Rattle.mq_rounds.specs.Rounds.{fates_by}
 use Rattle.mq_stations.proofs.LossFates.{fates-yes, fates-no, fates-none, fates-end}
-use Rattle.mq_stations.proofs.outflow.fates_by_admission.Goals as goal
-use Rattle.mq_stations.proofs.outflow.fates_by_admission.Goals.{then-get+then-next-len, else-get, else-get-via-then-get+else-next-len, else-get-via-else-get}
+use Rattle.mq_stations.proofs.settled.fates_by_admission.Goals as goal
+use Rattle.mq_stations.proofs.settled.fates_by_admission.Goals.{then-get+then-next-len, else-get, else-get-via-then-get+else-next-len, else-get-via-else-get}
 
 pub loop-at-preserved : goal.loop-at-preserved
 loop-at-preserved c =

@@ -1,7 +1,7 @@
 use Rattle.std.proofs.Common.{◌≡◌, ◌≤◌, ◌++◌, drop, length}
 use Rattle.std.specs.Vec.{vec_len, vec_capacity}
 use Rattle.mq_rounds.specs.Rounds.{fates_by}
-use Rattle.mq_stations.proofs.outflow.fates_by_admission.Given as goal
+use Rattle.mq_stations.proofs.settled.fates_by_admission.Given as goal
 
 -- the fates so far and those of what is left are all, for which there is room
 abbrev pub invariant-loop-at : goal.invariant-loop-at
