@@ -25,8 +25,9 @@ use Rattle.mq_scan.specs.declared.blocks.Blocks.{Blocks}
 use Rattle.mq_server.specs.Jobs.{job}
 use Rattle.mq_stations.specs.Leaving.{AreServed, IsLoad}
 use Rattle.mq_stations.specs.Scans.{AreFewBlocks}
-use Rattle.mq_stations.proofs.lemmas.StageFacts.{branch-loads, forkjoin-departs}
+use Rattle.mq_stations.proofs.lemmas.StageFacts.{forkjoin-departs}
 use Rattle.mq_kinds.proofs.Branching.{begins, begins-departs}
+use Rattle.mq_kinds.proofs.ForkJoined.{branch-loads}
 use Rattle.mq_kinds.proofs.Forms.{part-of}
 use Rattle.mq_kinds.proofs.Loads.{in-turn}
 use Rattle.mq_kinds.specs.Branches.{IsPassage, asked_at}

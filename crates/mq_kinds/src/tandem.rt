@@ -1,5 +1,7 @@
 // A tandem in two steps over its blocks.
-ghost use Rattle.std.specs.Prelude.{◌≡◌, ◌<◌, IfOk};
+ghost use Rattle.std.specs.Prelude.{◌≡◌, ◌<◌, ◌≤◌, ◌+◌, ◌*◌, ◌/◌, All, map, max, IfOk};
+ghost use Rattle.mq_asked.specs.Demands.{AreAsked};
+ghost use Rattle.mq_core.specs.Handling.{demand_of_job};
 ghost use Rattle.mq_core.specs.declared.model.Kind.TheVariants.{Tandem as TheTandem};
 ghost use Rattle.mq_crew.specs.Crew.{AreAll};
 ghost use Rattle.mq_stations.specs.Leaving.{IsLoad};
@@ -8,18 +10,23 @@ ghost use Rattle.mq_kinds.specs.Pieces.{IsNext};
 ghost use Rattle.mq_kinds.specs.Tandems.{IsTandem, IsTandemPiece, tandem_steps};
 
 use crate::pieces::{Left, Load, Piece, all_contents};
+use mq_asked::{Asked, all_asked_of};
 use mq_base::{List, OutOfMemory};
-use mq_core::Stage;
-use mq_stations::{
-    TandemScan, tandem_carries, tandem_joined, tandem_scan, tandem_sum, tandem_times,
-};
-use mq_tandem::{Latest, tandem_departures};
+use mq_core::{Rows, Stage};
+use mq_scan::{Blocks, block_carries, block_summary, block_times, cut, joined_times};
+use mq_stations::{stage_demands, stage_places};
+use mq_tandem::{Latest, TandemStep, carries_hold_departures, tandem_departures};
 use std::alloc::Global;
 
 /// The state of a tandem.
 #[derive(Drop)]
 pub struct Tandem<'r> {
-    pub scan: TandemScan<'r>,
+    /// The demand of each job at each stage, in ticks.
+    pub demands: List<Asked<'r>>,
+    /// The number of jobs that each stage can hold.
+    pub places: List<u8>,
+    /// How the jobs are cut into blocks, by position.
+    pub blocks: Blocks,
     /// The latest departures before each block, in the second step.
     pub before: Option<List<Latest>>,
 }
@@ -36,15 +43,25 @@ pub fn tandem_begin<'r, 's>(
     ensures fit { IfOk result (λ tandem. IsTandem load.now.rows.now load.now.kind.now load.now.arrivals.now tandem) }
     ensures steps { IfOk result (λ tandem. tandem_steps tandem ≡ 1) }
 {
-    let scan = tandem_scan(alloc, load.rows, stages, load.arrivals, load.block)?;
-    Ok(Tandem { scan, before: None })
+    let demands = demands_of_stages(alloc, load.rows, stages, &load.arrivals.job)?;
+    let Ok(places) = stage_places(alloc, stages) else {
+        drop(demands);
+        return Err(OutOfMemory);
+    };
+    let jobs = load.arrivals.job.len() as u32;
+    Ok(Tandem {
+        demands,
+        places,
+        blocks: cut(jobs, long_block(jobs, load.block)),
+        before: None,
+    })
 }
 
 /// Returns the number of pieces of the step.
 pub fn tandem_count(tandem: &Tandem) -> u32
-    ensures { result ≡ tandem.now.scan.blocks.blocks }
+    ensures { result ≡ tandem.now.blocks.blocks }
 {
-    tandem.scan.blocks.blocks
+    tandem.blocks.blocks
 }
 
 /// Makes piece `b` of the step: what the jobs of the block do together, or when they depart. The only error is out of
@@ -56,16 +73,17 @@ pub fn tandem_piece(
     b: u32,
 ) -> Result<Piece, OutOfMemory>
     requires fit { IsTandem load.now.rows.now load.now.kind.now load.now.arrivals.now tandem.now }
-    requires inside { b < tandem.now.scan.blocks.blocks }
+    requires inside { b < tandem.now.blocks.blocks }
     ensures { IfOk result (λ piece. IsTandemPiece load.now.arrivals.now tandem.now b piece) }
 {
+    let step = TandemStep::new(load.arrivals, &tandem.demands, &tandem.places);
     match &tandem.before {
         None => {
-            let sum = tandem_sum(load.arrivals, &tandem.scan, b);
+            let sum = block_summary(&step, &tandem.blocks, b);
             Ok(Piece::Product(Box::new(alloc, sum)?))
         }
         Some(before) => {
-            let times = tandem_times(alloc, load.arrivals, &tandem.scan, before, b)?;
+            let times = block_times(alloc, &step, &tandem.blocks, before, b)?;
             Ok(Piece::Times(times))
         }
     }
@@ -80,20 +98,23 @@ pub fn tandem_next(
     made: List<Piece>,
 ) -> Result<Option<Left>, OutOfMemory>
     requires fit { IsTandem load.now.rows.now load.now.kind.now load.now.arrivals.now tandem.old }
-    requires made { AreAll (IsTandemPiece load.now.arrivals.now tandem.old) tandem.old.scan.blocks.blocks made }
+    requires made { AreAll (IsTandemPiece load.now.arrivals.now tandem.old) tandem.old.blocks.blocks made }
     ensures { IfOk result (λ end. IsNext (IsTandem load.now.rows.now load.now.kind.now load.now.arrivals.now) tandem_steps (IsLeft load.now.rows.now load.now.kind.now load.now.arrivals.now) tandem.old tandem.new end) }
 {
     match &tandem.before {
         None => {
             let sums = all_contents(alloc, made)?;
-            let carried = tandem_carries(alloc, load.arrivals, &tandem.scan, &sums);
+            let step = TandemStep::new(load.arrivals, &tandem.demands, &tandem.places);
+            let carried = block_carries(alloc, &step, &tandem.blocks, &sums);
             drop(sums);
             tandem.before = Some(carried?);
             Ok(None)
         }
         Some(_) => {
             let times = all_contents(alloc, made)?;
-            let departs = tandem_joined(alloc, load.arrivals, &tandem.scan, &times);
+            let step = TandemStep::new(load.arrivals, &tandem.demands, &tandem.places);
+            carries_hold_departures(&step);
+            let departs = joined_times(alloc, &step, &tandem.blocks, &times);
             drop(times);
             Ok(Some(Left::InTurn(departs?)))
         }
@@ -107,7 +128,143 @@ pub fn tandem_whole(alloc: Global, load: &Load, stages: &List<Stage>) -> Result<
     ensures { IfOk result (IsLeft load.now.rows.now load.now.kind.now load.now.arrivals.now) }
 {
     let tandem = tandem_begin(alloc, load, stages)?;
-    let scan = &tandem.scan;
-    let departs = tandem_departures(alloc, load.arrivals, &scan.demands, &scan.places)?;
+    let departs = tandem_departures(alloc, load.arrivals, &tandem.demands, &tandem.places)?;
     Ok(Left::InTurn(departs))
+}
+
+// Returns the number of jobs in a block of a tandem: at least `block`, and so many that there are at most 1,024 blocks, since the
+// matrix of each takes some 4,000 bytes.
+fn long_block(jobs: u32, block: u32) -> u32
+    requires { 1 ≤ block }
+    ensures is { result ≡ max block ((jobs + 1023) / 1024) }
+    ensures some { 1 ≤ result }
+    ensures few { jobs ≤ 1024 * result }
+{
+    block.max(jobs.div_ceil(1024))
+}
+
+// Returns the demand of each job at each stage, in ticks.
+    pub demands: List<Asked<'a>>,
+    /// How many jobs each stage holds.
+    pub places: List<u8>,
+    /// The jobs by position, cut into blocks.
+    pub blocks: Blocks,
+}
+
+/// How a tandem is scanned: by blocks of at least so many jobs, which is 1 at least, at most 1,024 of them.
+/// It refuses for want of memory alone.
+pub fn tandem_scan<'a>(
+    alloc: Global,
+    rows: &'a Rows,
+    stages: &List<Stage>,
+    arrivals: &Stream,
+    block: u32,
+) -> Result<TandemScan<'a>, OutOfMemory>
+    requires load { IsLoad rows.now (Tandem stages.now) arrivals.now }
+    requires some { 1 ≤ block }
+    ensures { IfOk result (λ scan. IsTandemScan rows.now stages.now arrivals.now scan) }
+{
+    let size = arrivals.job.len() as u32;
+    let demands = demands_of_stages(alloc, rows, stages, &arrivals.job)?;
+    let Ok(places) = stage_places(alloc, stages) else {
+        drop(demands);
+        return Err(OutOfMemory);
+    };
+    let blocks = cut(size, long_block(size, block));
+    Ok(TandemScan {
+        demands,
+        places,
+        blocks,
+    })
+}
+
+// How many jobs a block of a tandem has: at least this many, and so many that there are at most 1,024
+// blocks, since the matrix of each takes some 4,000 bytes.
+fn long_block(jobs: u32, block: u32) -> u32
+    requires { 1 ≤ block }
+    ensures is { result ≡ max block ((jobs + 1023) / 1024) }
+    ensures some { 1 ≤ result }
+    ensures few { jobs ≤ 1024 * result }
+{
+    block.max(jobs.div_ceil(1024))
+}
+
+/// What the jobs of block `b` do together.
+pub fn tandem_sum(arrivals: &Stream, scan: &TandemScan, b: u32) -> Matrix
+    requires load { IsTandemLoad arrivals.now.time scan.now.demands scan.now.places }
+    requires all { scan.now.blocks.n ≡ length arrivals.now.time }
+    requires inside { b < scan.now.blocks.blocks }
+    ensures { IsTandemSum arrivals.now scan.now b result }
+{
+    let step = TandemStep::new(arrivals, &scan.demands, &scan.places);
+    block_summary(&step, &scan.blocks, b)
+}
+
+/// The latest departures before each block, of the summaries of all. It refuses for want of memory alone.
+pub fn tandem_carries(
+    alloc: Global,
+    arrivals: &Stream,
+    scan: &TandemScan,
+    sums: &List<Matrix>,
+) -> Result<List<Latest>, OutOfMemory>
+    requires load { IsTandemLoad arrivals.now.time scan.now.demands scan.now.places }
+    requires all { scan.now.blocks.n ≡ length arrivals.now.time }
+    requires len { length sums.now ≡ scan.now.blocks.blocks }
+    requires sums { (b : ℕ) (d : Items (Items TheMp)) → b < length sums.now → IsTandemSum arrivals.now scan.now b (slice_index_or sums.now b d) }
+    ensures { IfOk result (λ carries. AreTandemCarries arrivals.now scan.now carries) }
+{
+    let step = TandemStep::new(arrivals, &scan.demands, &scan.places);
+    block_carries(alloc, &step, &scan.blocks, sums)
+}
+
+/// When the jobs of block `b` depart, in ticks, from the latest departures before each block. It refuses
+/// for want of memory alone.
+pub fn tandem_times(
+    alloc: Global,
+    arrivals: &Stream,
+    scan: &TandemScan,
+    before: &List<Latest>,
+    b: u32,
+) -> Result<List<u64>, OutOfMemory>
+    requires load { IsTandemLoad arrivals.now.time scan.now.demands scan.now.places }
+    requires all { scan.now.blocks.n ≡ length arrivals.now.time }
+    requires inside { b < scan.now.blocks.blocks }
+    requires before { AreTandemCarries arrivals.now scan.now before.now }
+    ensures { IfOk result (λ times. AreTandemTimes arrivals.now scan.now b times) }
+{
+    let step = TandemStep::new(arrivals, &scan.demands, &scan.places);
+    block_times(alloc, &step, &scan.blocks, before, b)
+}
+
+/// When all jobs depart, in ticks, of the departures of each block, one after another. It refuses for want
+/// of memory alone.
+pub fn tandem_joined(
+    alloc: Global,
+    arrivals: &Stream,
+    scan: &TandemScan,
+    group: &List<List<u64>>,
+) -> Result<List<u64>, OutOfMemory>
+    requires load { IsTandemLoad arrivals.now.time scan.now.demands scan.now.places }
+    requires all { scan.now.blocks.n ≡ length arrivals.now.time }
+    requires len { length group.now ≡ scan.now.blocks.blocks }
+    requires group { (b : ℕ) (d : Items ℕ) → b < length group.now → AreTandemTimes arrivals.now scan.now b (slice_index_or group.now b d) }
+    ensures { IfOk result (λ departs. departs ≡ tandem_departs scan.now.places (map (λ _. []) scan.now.places) arrivals.now.time scan.now.demands) }
+{
+    let step = TandemStep::new(arrivals, &scan.demands, &scan.places);
+    carries_hold_departures(&step);
+    joined_times(alloc, &step, &scan.blocks, group)
+}
+
+// Returns the demand of each job at each stage, in ticks.
+fn demands_of_stages<'a>(
+    alloc: Global,
+    rows: &'a Rows,
+    stages: &List<Stage>,
+    jobs: &List<u32>,
+) -> Result<List<Asked<'a>>, OutOfMemory>
+    requires { All (λ demand. AreAsked rows.now demand jobs.now) (map (λ stage. stage.demand) stages.now) }
+    ensures { IfOk result (λ demands. demands ≡ map (λ demand. map (demand_of_job rows.now demand) jobs.now) (map (λ stage. stage.demand) stages.now)) }
+{
+    let asked = stage_demands(alloc, stages)?;
+    all_asked_of(alloc, rows, &asked, jobs)
 }

@@ -15,8 +15,6 @@ mod trunk;
 pub use forkjoin::branch_demands;
 pub use late::{first_late, first_late_in_turn, first_late_overtaken};
 pub use settled::{fates_by_admission, settled_streams};
-pub use split::{split_joined, split_part, values_of};
+pub use split::values_of;
 pub use streams::only;
-pub use tandem::{
-    TandemScan, tandem_carries, tandem_joined, tandem_scan, tandem_sum, tandem_times,
-};
+pub use tandem::{stage_demands, stage_places};

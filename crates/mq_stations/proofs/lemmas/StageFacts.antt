@@ -6,7 +6,7 @@ use Rattle.std.proofs.lemmas.Bool.{and_parts}
 use Rattle.std.proofs.lemmas.Bool.Decides.{nat_tests}
 use Rattle.std.proofs.lemmas.List.{length-map}
 pub use Rattle.mq_asked.proofs.lemmas.Lists.{All-index}
-use Rattle.mq_base.proofs.lemmas.Each.{Each-map, Each-weaker, Each-front, Each-back}
+use Rattle.mq_base.proofs.lemmas.Each.{Each-map, Each-weaker}
 use Rattle.mq_core.specs.Sequences.{IsSoundLoad}
 use Rattle.mq_core.specs.Handling.{demand_of_job}
 use Rattle.mq_core.specs.Recurrences.{forkjoin_departs, tandem_departs}
@@ -22,7 +22,6 @@ use Rattle.mq_core.specs.declared.model.Rows.{Rows}
 use Rattle.mq_core.specs.declared.model.Stage.{Stage}
 use Rattle.mq_core.specs.declared.model.Stream.{Stream}
 use Rattle.mq_tandem.specs.Stages.{AreStages}
-use Rattle.mq_stations.specs.Scans.{AreBranchLoads, IsBranchLoad}
 use Rattle.mq_asked.specs.Demands.{AreAsked}
 use Rattle.mq_stations.specs.Leaving.{AreServed, IsLoad}
 use Rattle.mq_stations.proofs.lemmas.Leaves.{AreToldBy, asked-each, load-sound, within}
@@ -142,45 +141,6 @@ pub loads-sound : (rows : Rows) (kind : Kind) (asked all : List Demand) (arrival
 loads-sound rows kind asked all arrivals demands h a s e =
     subst (All (λ column. IsSoundLoad arrivals.time column)) (sym (e ∙ ap (map (λ demand. map (demand_of_job rows demand) arrivals.job)) a))
     (λ k d l. Each-get_or (λ column. IsSoundLoad arrivals.time column) _ (Each-map (λ demand. AreToldBy rows demand arrivals.job) (λ column. IsSoundLoad arrivals.time column) (λ demand. map (demand_of_job rows demand) arrivals.job) (λ demand told. load-sound rows kind demand arrivals _ h told refl) all s) k d l)
-
--- The branches of a fork-join, each with what its servers ask for.
-by-branch : (P : Demand → Type 0) (branches : List (List Demand)) → Each P (flat_map (λ demands. demands) branches) → Each (λ demands. Each P demands) branches
-by-branch P [] h = tt
-by-branch P (demands ∷ more) h =
-    let rest = flat_map (λ (ds : List Demand). ds) more in (Each-front P demands rest h, by-branch P more (Each-back P demands rest h))
-
-told-by_branch : (rows : Rows) (branches : List (List Demand)) (arrivals : Stream) → IsLoad rows (ForkJoin branches) arrivals → Each (λ demands. Each (λ demand. AreToldBy rows demand arrivals.job) demands) branches
-told-by_branch rows branches arrivals h = by-branch (λ demand. AreToldBy rows demand arrivals.job) branches (demands-told rows (flat_map (λ demands. demands) branches) arrivals.job h.told)
-
-pub asked-by_branch : (rows : Rows) (branches : List (List Demand)) (arrivals : Stream) → IsLoad rows (ForkJoin branches) arrivals → Each (λ asked. All (λ demand. AreAsked rows demand arrivals.job) asked) branches
-asked-by_branch rows branches arrivals h =
-    Each-weaker (λ demands. Each (λ demand. AreToldBy rows demand arrivals.job) demands) (λ asked. All (λ demand. AreAsked rows demand arrivals.job) asked) (λ demands told. demands-asked rows demands demands arrivals.job refl told) branches (told-by_branch rows branches arrivals h)
-
-each-both : {X : Type 0} (P Q : X → Type 0) (xs : List X) → Each P xs → Each Q xs → Each (λ x. P x × Q x) xs
-each-both P Q [] p q = tt
-each-both P Q (x ∷ xs) p q = ((p.0, q.0), each-both P Q xs p.1 q.1)
-
-pub branch-loads : (rows : Rows) (branches : List (List Demand)) (arrivals : Stream) (demands : List (List (List ℕ))) → IsLoad rows (ForkJoin branches) arrivals → demands ≡ branch_demands rows branches arrivals.job → AreBranchLoads arrivals.time demands
-branch-loads rows branches arrivals demands h e =
-    let s = sound-branches h.columns branches h.sound in
-    record {
-      few = let wide = s.wide in let count = ap length e ∙ length-map branches _ in omega arith;
-      early = λ k d l. Each-get_or (λ time. time ≤ 2 ^ 60) arrivals.time h.ordered.early k d l;
-      each = subst (Each (IsBranchLoad arrivals.time)) (sym e) (Each-map Whole (IsBranchLoad arrivals.time) (map asks) (λ servers w. one servers w.0 w.1) branches (each-both IsBranch (λ servers. Each (λ demand. AreToldBy rows demand arrivals.job) servers) branches s.each (told-by_branch rows branches arrivals h)));
-    }
-  where
-    asks : Demand → List ℕ
-    asks demand = map (demand_of_job rows demand) arrivals.job
-
-    Whole : List Demand → Type 0
-    Whole servers = IsBranch servers × Each (λ demand. AreToldBy rows demand arrivals.job) servers
-
-    one : (servers : List Demand) → IsBranch servers → Each (λ demand. AreToldBy rows demand arrivals.job) servers → IsBranchLoad arrivals.time (map asks servers)
-    one servers i told =
-        let count = length-map servers asks in
-        let some = i.some in
-        let few = i.few in
-        record { some = omega arith; few = omega arith; load = loads-sound rows (ForkJoin branches) servers servers arrivals (map asks servers) h refl told refl }
 
 -- What leaves a tandem.
 none-each : (stages : List Stage) → map {B = List ℕ} (λ _. []) (map (λ (s : Stage). s.places) stages) ≡ map (λ _. []) stages

@@ -3,8 +3,8 @@ use Rattle.std.specs.Prelude.{slice_get}
 use Rattle.mq_core.specs.declared.model.Stream.{Stream}
 use Rattle.mq_scan.specs.declared.blocks.Blocks.{Blocks}
 use Rattle.mq_split.specs.Outs.{outs_from, picked_stream}
-use Rattle.mq_stations.specs.Scans.{AreSplitBlocks}
-use Rattle.mq_stations.proofs.split.split_joined.Given as goal
+use Rattle.mq_kinds.specs.Servers.{AreSplitBlocks}
+use Rattle.mq_kinds.proofs.split.split_joined.Given as goal
 
 -- the streams so far
 abbrev pub invariant-loop-out : goal.invariant-loop-out

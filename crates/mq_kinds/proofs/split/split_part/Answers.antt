@@ -6,8 +6,8 @@ use Rattle.mq_base.specs.Lists.{between}
 use Rattle.mq_core.specs.Kinds.Split.{route_value}
 use Rattle.mq_split.specs.Outs.{ArePartsBetween}
 use Rattle.mq_stations.specs.Leaving.{AreRouted}
-use Rattle.mq_stations.proofs.SplitBlocks.{is-within, map-between, told-between}
-use Rattle.mq_stations.proofs.split.split_part.Goals as goal
+use Rattle.mq_kinds.proofs.SplitBlocks.{is-within, map-between, told-between}
+use Rattle.mq_kinds.proofs.split.split_part.Goals as goal
 
 pub jobs_between-jobs-requires : goal.jobs_between-jobs-requires
 jobs_between-jobs-requires c =

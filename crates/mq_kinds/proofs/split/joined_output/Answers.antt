@@ -1,7 +1,7 @@
 use Rattle.std.proofs.Common.{◌≡◌, ◌∙◌, List, ℕ, [], ◌++◌, ap, subst, sym, arith, rules}
 use Rattle.std.proofs.lemmas.Option.{slice_get_within}
-use Rattle.mq_stations.proofs.SplitBlocks.{IsBehind, behind-begins, behind-ends, behind-more}
-use Rattle.mq_stations.proofs.split.joined_output.Goals as goal
+use Rattle.mq_kinds.proofs.SplitBlocks.{IsBehind, behind-begins, behind-ends, behind-more}
+use Rattle.mq_kinds.proofs.split.joined_output.Goals as goal
 
 pub get-part-requires : goal.get-part-requires
 get-part-requires c =

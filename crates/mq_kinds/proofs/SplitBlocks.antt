@@ -16,7 +16,7 @@ use Rattle.mq_scan.specs.Blocks.{from_of, to_of}
 use Rattle.mq_scan.specs.declared.blocks.Blocks.{Blocks}
 use Rattle.mq_split.specs.Outs.{PiecesJoin, outs_from, picked_stream, piece_of}
 use Rattle.mq_stations.specs.Leaving.{AreRouted}
-use Rattle.mq_stations.specs.Scans.{AreSplitBlocks, AreSplitParts, HaveParts}
+use Rattle.mq_kinds.specs.Servers.{AreSplitBlocks, AreSplitParts, HaveParts}
 use Rattle.mq_scan.proofs.lemmas.Blocks.{block-start, blocks-few, last-end}
 
 -- Parts of a list.

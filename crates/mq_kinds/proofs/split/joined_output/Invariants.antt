@@ -1,5 +1,5 @@
-use Rattle.mq_stations.proofs.SplitBlocks.{IsBehind}
-use Rattle.mq_stations.proofs.split.joined_output.Given as goal
+use Rattle.mq_kinds.proofs.SplitBlocks.{IsBehind}
+use Rattle.mq_kinds.proofs.split.joined_output.Given as goal
 
 -- the blocks so far, one behind the other
 abbrev pub invariant-parts : goal.invariant-parts

@@ -1,7 +1,7 @@
 use Rattle.std.proofs.Common.{◌≡◌, ◌+◌, length, length-append, ap, ◌∙◌, ◌∷◌, [], arith}
 use Rattle.mq_split.specs.Outs.{outs_from, picked_stream}
-use Rattle.mq_stations.proofs.SplitBlocks.{blocks-short, have-parts, part-more}
-use Rattle.mq_stations.proofs.split.split_joined.Goals as goal
+use Rattle.mq_kinds.proofs.SplitBlocks.{blocks-short, have-parts, part-more}
+use Rattle.mq_kinds.proofs.split.split_joined.Goals as goal
 
 pub joined_output-requires : goal.joined_output-requires
 joined_output-requires c =
