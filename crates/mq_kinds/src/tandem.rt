@@ -1,5 +1,5 @@
 // A tandem in two steps over its blocks.
-ghost use Rattle.std.specs.Prelude.{◌≡◌, ◌<◌, ◌≤◌, ◌+◌, ◌*◌, ◌/◌, All, map, max, IfOk};
+ghost use Rattle.std.specs.Prelude.{◌≡◌, ◌<◌, ◌≤◌, ◌+◌, ◌*◌, ◌/◌, ℕ, All, List as Items, length, map, max, IfOk, slice_index_or};
 ghost use Rattle.mq_asked.specs.Demands.{AreAsked};
 ghost use Rattle.mq_core.specs.Handling.{demand_of_job};
 ghost use Rattle.mq_core.specs.declared.model.Kind.TheVariants.{Tandem as TheTandem};
@@ -7,12 +7,15 @@ ghost use Rattle.mq_crew.specs.Crew.{AreAll};
 ghost use Rattle.mq_stations.specs.Leaving.{IsLoad};
 ghost use Rattle.mq_kinds.specs.Lefts.{IsLeft};
 ghost use Rattle.mq_kinds.specs.Pieces.{IsNext};
-ghost use Rattle.mq_kinds.specs.Tandems.{IsTandem, IsTandemPiece, tandem_steps};
+ghost use Rattle.mq_kinds.specs.Tandems.{AreTandemCarries, AreTandemTimes, IsTandem, IsTandemPiece, IsTandemSum, departs_of, tandem_steps};
+ghost use Rattle.mq_maxplus.specs.declared.mp.Mp.{Mp as TheMp};
+ghost use Rattle.mq_tandem.specs.Rows.{IsTandemLoad};
 
 use crate::pieces::{Left, Load, Piece, all_contents};
 use mq_asked::{Asked, all_asked_of};
 use mq_base::{List, OutOfMemory};
-use mq_core::{Rows, Stage};
+use mq_core::{Rows, Stage, Stream};
+use mq_maxplus::Matrix;
 use mq_scan::{Blocks, block_carries, block_summary, block_times, cut, joined_times};
 use mq_stations::{stage_demands, stage_places};
 use mq_tandem::{Latest, TandemStep, carries_hold_departures, tandem_departures};
@@ -104,21 +107,53 @@ pub fn tandem_next(
     match &tandem.before {
         None => {
             let sums = all_contents(alloc, made)?;
-            let step = TandemStep::new(load.arrivals, &tandem.demands, &tandem.places);
-            let carried = block_carries(alloc, &step, &tandem.blocks, &sums);
+            let carried = carries_of(alloc, load.arrivals, tandem, &sums);
             drop(sums);
             tandem.before = Some(carried?);
             Ok(None)
         }
         Some(_) => {
             let times = all_contents(alloc, made)?;
-            let step = TandemStep::new(load.arrivals, &tandem.demands, &tandem.places);
-            carries_hold_departures(&step);
-            let departs = joined_times(alloc, &step, &tandem.blocks, &times);
+            let departs = joined(alloc, load.arrivals, tandem, &times);
             drop(times);
             Ok(Some(Left::InTurn(departs?)))
         }
     }
+}
+
+// Returns the latest departures before each block, from the summaries of all blocks.
+fn carries_of(
+    alloc: Global,
+    arrivals: &Stream,
+    tandem: &Tandem,
+    sums: &List<Matrix>,
+) -> Result<List<Latest>, OutOfMemory>
+    requires load { IsTandemLoad arrivals.now.time tandem.now.demands tandem.now.places }
+    requires all { tandem.now.blocks.n ≡ length arrivals.now.time }
+    requires len { length sums.now ≡ tandem.now.blocks.blocks }
+    requires sums { (b : ℕ) (d : Items (Items TheMp)) → b < length sums.now → IsTandemSum arrivals.now tandem.now b (slice_index_or sums.now b d) }
+    ensures { IfOk result (λ carries. AreTandemCarries arrivals.now tandem.now carries) }
+{
+    let step = TandemStep::new(arrivals, &tandem.demands, &tandem.places);
+    block_carries(alloc, &step, &tandem.blocks, sums)
+}
+
+// Returns when all jobs depart, from the departures of all blocks.
+fn joined(
+    alloc: Global,
+    arrivals: &Stream,
+    tandem: &Tandem,
+    group: &List<List<u64>>,
+) -> Result<List<u64>, OutOfMemory>
+    requires load { IsTandemLoad arrivals.now.time tandem.now.demands tandem.now.places }
+    requires all { tandem.now.blocks.n ≡ length arrivals.now.time }
+    requires len { length group.now ≡ tandem.now.blocks.blocks }
+    requires group { (b : ℕ) (d : Items ℕ) → b < length group.now → AreTandemTimes arrivals.now tandem.now b (slice_index_or group.now b d) }
+    ensures { IfOk result (λ departs. departs ≡ departs_of arrivals.now tandem.now) }
+{
+    let step = TandemStep::new(arrivals, &tandem.demands, &tandem.places);
+    carries_hold_departures(&step);
+    joined_times(alloc, &step, &tandem.blocks, group)
 }
 
 /// Returns what leaves a tandem, computed by one worker. The only error is out of memory.
@@ -141,118 +176,6 @@ fn long_block(jobs: u32, block: u32) -> u32
     ensures few { jobs ≤ 1024 * result }
 {
     block.max(jobs.div_ceil(1024))
-}
-
-// Returns the demand of each job at each stage, in ticks.
-    pub demands: List<Asked<'a>>,
-    /// How many jobs each stage holds.
-    pub places: List<u8>,
-    /// The jobs by position, cut into blocks.
-    pub blocks: Blocks,
-}
-
-/// How a tandem is scanned: by blocks of at least so many jobs, which is 1 at least, at most 1,024 of them.
-/// It refuses for want of memory alone.
-pub fn tandem_scan<'a>(
-    alloc: Global,
-    rows: &'a Rows,
-    stages: &List<Stage>,
-    arrivals: &Stream,
-    block: u32,
-) -> Result<TandemScan<'a>, OutOfMemory>
-    requires load { IsLoad rows.now (Tandem stages.now) arrivals.now }
-    requires some { 1 ≤ block }
-    ensures { IfOk result (λ scan. IsTandemScan rows.now stages.now arrivals.now scan) }
-{
-    let size = arrivals.job.len() as u32;
-    let demands = demands_of_stages(alloc, rows, stages, &arrivals.job)?;
-    let Ok(places) = stage_places(alloc, stages) else {
-        drop(demands);
-        return Err(OutOfMemory);
-    };
-    let blocks = cut(size, long_block(size, block));
-    Ok(TandemScan {
-        demands,
-        places,
-        blocks,
-    })
-}
-
-// How many jobs a block of a tandem has: at least this many, and so many that there are at most 1,024
-// blocks, since the matrix of each takes some 4,000 bytes.
-fn long_block(jobs: u32, block: u32) -> u32
-    requires { 1 ≤ block }
-    ensures is { result ≡ max block ((jobs + 1023) / 1024) }
-    ensures some { 1 ≤ result }
-    ensures few { jobs ≤ 1024 * result }
-{
-    block.max(jobs.div_ceil(1024))
-}
-
-/// What the jobs of block `b` do together.
-pub fn tandem_sum(arrivals: &Stream, scan: &TandemScan, b: u32) -> Matrix
-    requires load { IsTandemLoad arrivals.now.time scan.now.demands scan.now.places }
-    requires all { scan.now.blocks.n ≡ length arrivals.now.time }
-    requires inside { b < scan.now.blocks.blocks }
-    ensures { IsTandemSum arrivals.now scan.now b result }
-{
-    let step = TandemStep::new(arrivals, &scan.demands, &scan.places);
-    block_summary(&step, &scan.blocks, b)
-}
-
-/// The latest departures before each block, of the summaries of all. It refuses for want of memory alone.
-pub fn tandem_carries(
-    alloc: Global,
-    arrivals: &Stream,
-    scan: &TandemScan,
-    sums: &List<Matrix>,
-) -> Result<List<Latest>, OutOfMemory>
-    requires load { IsTandemLoad arrivals.now.time scan.now.demands scan.now.places }
-    requires all { scan.now.blocks.n ≡ length arrivals.now.time }
-    requires len { length sums.now ≡ scan.now.blocks.blocks }
-    requires sums { (b : ℕ) (d : Items (Items TheMp)) → b < length sums.now → IsTandemSum arrivals.now scan.now b (slice_index_or sums.now b d) }
-    ensures { IfOk result (λ carries. AreTandemCarries arrivals.now scan.now carries) }
-{
-    let step = TandemStep::new(arrivals, &scan.demands, &scan.places);
-    block_carries(alloc, &step, &scan.blocks, sums)
-}
-
-/// When the jobs of block `b` depart, in ticks, from the latest departures before each block. It refuses
-/// for want of memory alone.
-pub fn tandem_times(
-    alloc: Global,
-    arrivals: &Stream,
-    scan: &TandemScan,
-    before: &List<Latest>,
-    b: u32,
-) -> Result<List<u64>, OutOfMemory>
-    requires load { IsTandemLoad arrivals.now.time scan.now.demands scan.now.places }
-    requires all { scan.now.blocks.n ≡ length arrivals.now.time }
-    requires inside { b < scan.now.blocks.blocks }
-    requires before { AreTandemCarries arrivals.now scan.now before.now }
-    ensures { IfOk result (λ times. AreTandemTimes arrivals.now scan.now b times) }
-{
-    let step = TandemStep::new(arrivals, &scan.demands, &scan.places);
-    block_times(alloc, &step, &scan.blocks, before, b)
-}
-
-/// When all jobs depart, in ticks, of the departures of each block, one after another. It refuses for want
-/// of memory alone.
-pub fn tandem_joined(
-    alloc: Global,
-    arrivals: &Stream,
-    scan: &TandemScan,
-    group: &List<List<u64>>,
-) -> Result<List<u64>, OutOfMemory>
-    requires load { IsTandemLoad arrivals.now.time scan.now.demands scan.now.places }
-    requires all { scan.now.blocks.n ≡ length arrivals.now.time }
-    requires len { length group.now ≡ scan.now.blocks.blocks }
-    requires group { (b : ℕ) (d : Items ℕ) → b < length group.now → AreTandemTimes arrivals.now scan.now b (slice_index_or group.now b d) }
-    ensures { IfOk result (λ departs. departs ≡ tandem_departs scan.now.places (map (λ _. []) scan.now.places) arrivals.now.time scan.now.demands) }
-{
-    let step = TandemStep::new(arrivals, &scan.demands, &scan.places);
-    carries_hold_departures(&step);
-    joined_times(alloc, &step, &scan.blocks, group)
 }
 
 // Returns the demand of each job at each stage, in ticks.

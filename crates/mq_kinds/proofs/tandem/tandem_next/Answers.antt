@@ -6,16 +6,16 @@ use Rattle.mq_kinds.proofs.Forms.{contents-are}
 use Rattle.mq_kinds.proofs.Stages.{are-products, are-times}
 use Rattle.mq_kinds.proofs.tandem.tandem_next.Goals as goal
 
-pub block_carries-carried-requires-clause-len : goal.block_carries-carried-requires-clause-len
-block_carries-carried-requires-clause-len c =
+pub carries_of-carried-requires-clause-len : goal.carries_of-carried-requires-clause-len
+carries_of-carried-requires-clause-len c =
     let arrivals = c.args.load.now.arrivals.now in
     let tandem = c.args.tandem.now in
     let blocks = tandem.blocks.blocks in
     (subst (AreAll (IsTandemSum arrivals tandem) blocks) (sym c.in_ok-sums-in-None.ensures)
     (contents-are product_in (IsTandemSum arrivals tandem) blocks c.args.made (are-products arrivals tandem blocks c.args.made c.requires.made c.in-None.is))).len
 
-pub block_carries-carried-requires-clause-sums : goal.block_carries-carried-requires-clause-sums
-block_carries-carried-requires-clause-sums c =
+pub carries_of-carried-requires-clause-sums : goal.carries_of-carried-requires-clause-sums
+carries_of-carried-requires-clause-sums c =
     let arrivals = c.args.load.now.arrivals.now in
     let tandem = c.args.tandem.now in
     let blocks = tandem.blocks.blocks in
@@ -23,16 +23,16 @@ block_carries-carried-requires-clause-sums c =
     (contents-are product_in (IsTandemSum arrivals tandem) blocks c.args.made (are-products arrivals tandem blocks c.args.made c.requires.made c.in-None.is)) in
     λ b d l. all.each b d (let len = all.len in omega arith)
 
-pub joined_times-departs-requires-clause-len : goal.joined_times-departs-requires-clause-len
-joined_times-departs-requires-clause-len c =
+pub joined-departs-requires-clause-len : goal.joined-departs-requires-clause-len
+joined-departs-requires-clause-len c =
     let arrivals = c.args.load.now.arrivals.now in
     let tandem = c.args.tandem.now in
     let blocks = tandem.blocks.blocks in
     (subst (AreAll (AreTandemTimes arrivals tandem) blocks) (sym c.in_ok-times-in-Some.ensures)
     (contents-are times_in (AreTandemTimes arrivals tandem) blocks c.args.made (are-times arrivals tandem blocks c.args.made c.requires.made _ c.in-Some.is))).len
 
-pub joined_times-departs-requires-clause-group : goal.joined_times-departs-requires-clause-group
-joined_times-departs-requires-clause-group c =
+pub joined-departs-requires-clause-group : goal.joined-departs-requires-clause-group
+joined-departs-requires-clause-group c =
     let arrivals = c.args.load.now.arrivals.now in
     let tandem = c.args.tandem.now in
     let blocks = tandem.blocks.blocks in
