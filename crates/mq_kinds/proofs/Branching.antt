@@ -10,8 +10,7 @@ use Rattle.mq_core.specs.Recurrences.{forkjoin_departs, in_series, later_of}
 use Rattle.mq_forkjoin.proofs.ForkJoining.{length-later_of}
 use Rattle.mq_forkjoin.proofs.Recurrence.{not-late, passing-begins, passing-ends, passing-next}
 use Rattle.mq_server.specs.Jobs.{IsLateLoad}
-use Rattle.mq_stations.specs.Scans.{AreBranchLoads, IsBranchLoad}
-use Rattle.mq_kinds.specs.Branches.{IsPassage, IsResumed, IsRunning, IsThrough, asked_at, departs_of, latest_of_all, next_departs, through_each}
+use Rattle.mq_kinds.specs.Branches.{AreBranchLoads, IsBranchLoad, IsPassage, IsResumed, IsRunning, IsThrough, asked_at, departs_of, latest_of_all, next_departs, through_each}
 use Rattle.mq_kinds.specs.declared.branches.Branch.{Branch}
 use Rattle.mq_kinds.specs.declared.branches.Passage.{Passage}
 use Rattle.mq_stations.proofs.lemmas.StageFacts.{All-index}

@@ -26,7 +26,7 @@ use Rattle.mq_rounds.specs.declared.settled.Settled.{Settled}
 use Rattle.mq_split.specs.Outs.{AreParts}
 use Rattle.mq_scan.specs.declared.blocks.Blocks.{Blocks}
 use Rattle.mq_stations.specs.Leaving.{AreServed, AreSettled, IsLoad}
-use Rattle.mq_stations.specs.Scans.{AreSplitBlocks, AreSplitParts}
+use Rattle.mq_kinds.specs.Servers.{AreSplitBlocks, AreSplitParts}
 use Rattle.mq_stations.proofs.lemmas.Leaves.{splits}
 use Rattle.mq_trunk.specs.Parts.{AreAdmitted}
 use Rattle.mq_kinds.specs.Lefts.{LeaveInTurn, PassThrough}

@@ -8,6 +8,7 @@ use Rattle.std.proofs.lemmas.Nat.{div-mul-add, mod-mul-add}
 use Rattle.std.proofs.lemmas.Option.{get_or_from_slice_get, slice_get_within}
 use Rattle.std.proofs.Math.Nat.{mul-le-mul_left}
 use Rattle.mq_base.proofs.lemmas.Lists.{get-last, get-push, some_inj, take-at}
+use Rattle.mq_core.specs.Kinds.ForkJoin.{branch_demands}
 use Rattle.mq_core.specs.declared.model.Demand.{Demand}
 use Rattle.mq_core.specs.declared.model.Kind.{Kind}
 use Rattle.mq_core.specs.declared.model.Kind.TheVariants.{ForkJoin as TheForkJoin}
@@ -23,10 +24,10 @@ use Rattle.mq_scan.specs.Folds.{AreBefore}
 use Rattle.mq_scan.specs.declared.blocks.Blocks.{Blocks}
 use Rattle.mq_server.specs.Jobs.{job}
 use Rattle.mq_stations.specs.Leaving.{AreServed, IsLoad}
-use Rattle.mq_stations.specs.Scans.{AreFewBlocks, IsForkJoinScan}
-use Rattle.mq_stations.specs.declared.forkjoin.ForkJoinScan.{ForkJoinScan}
-use Rattle.mq_stations.proofs.lemmas.StageFacts.{branch-loads, forkjoin-departs}
+use Rattle.mq_stations.specs.Scans.{AreFewBlocks}
+use Rattle.mq_stations.proofs.lemmas.StageFacts.{forkjoin-departs}
 use Rattle.mq_kinds.proofs.Branching.{begins, begins-departs}
+use Rattle.mq_kinds.proofs.ForkJoined.{branch-loads}
 use Rattle.mq_kinds.proofs.Forms.{part-of}
 use Rattle.mq_kinds.proofs.Loads.{in-turn}
 use Rattle.mq_kinds.specs.Branches.{IsPassage, asked_at}
@@ -118,17 +119,16 @@ carried-more server blocks branches at branch all all' carries arrive demands th
         subst (λ (z : Branch × List Mp). AreCarriesAt server blocks z.0 z.1) (λ k. (branch_is k, carries_are k)) own
 
 -- at the start
-pub forkjoin-begins : (rows : Rows) (kind : Kind) (branches : List (List Demand)) (arrivals : Stream) (scan : ForkJoinScan) (work : ForkJoin) → kind ≡ TheForkJoin branches → IsLoad rows kind arrivals → IsForkJoinScan rows branches arrivals scan → map (λ (b : Branch). b.servers) work.passage.branches ≡ scan.demands →
-    AllByRecursion (λ (b : Branch). b.arrive ≡ arrivals.time) work.passage.branches → work.passage.latest ≡ arrivals.time → work.server ≡ 0 → work.blocks ≡ scan.blocks → work.before ≡ None → IsForkJoin rows kind arrivals work
-forkjoin-begins rows kind branches arrivals scan work is load asked servers same latest first blocks before =
-    let demands = scan.demands in
-    let passage = begins arrivals.time demands work.passage (branch-loads rows branches arrivals demands (load-here rows kind branches arrivals is load) asked.demands) servers same latest in
+pub forkjoin-begins : (rows : Rows) (kind : Kind) (branches : List (List Demand)) (arrivals : Stream) (demands : List (List (List ℕ))) (work : ForkJoin) → kind ≡ TheForkJoin branches → IsLoad rows kind arrivals → demands ≡ branch_demands rows branches arrivals.job → map (λ (b : Branch). b.servers) work.passage.branches ≡ demands →
+    AllByRecursion (λ (b : Branch). b.arrive ≡ arrivals.time) work.passage.branches → work.passage.latest ≡ arrivals.time → work.server ≡ 0 → AreFewBlocks (length arrivals.time) 16384 work.blocks → work.before ≡ None → IsForkJoin rows kind arrivals work
+forkjoin-begins rows kind branches arrivals demands work is load d servers same latest first blocks before =
+    let passage = begins arrivals.time demands work.passage (branch-loads rows branches arrivals demands (load-here rows kind branches arrivals is load) d) servers same latest in
     record {
       tier = omega arith;
       passage = subst (λ (n : ℕ). IsPassage arrivals.time n work.passage) (sym first) passage;
-      blocks = subst (AreFewBlocks (length arrivals.time) 16384) (sym blocks) asked.blocks;
+      blocks = blocks;
       before = rw before tt;
-      serves = rw is (forkjoin-departs rows branches arrivals demands _ asked.demands (begins-departs arrivals.time demands work.passage servers latest));
+      serves = rw is (forkjoin-departs rows branches arrivals demands _ d (begins-departs arrivals.time demands work.passage servers latest));
     }
 
 -- after a tier

@@ -1,11 +1,23 @@
 -- The branches of a fork-join, server by server.
-use Rattle.std.specs.Prelude.{◌≡◌, ◌+◌, ◌<◌, ◌≤◌, ℕ, List, [], ◌∷◌, length, map, slice_index_or}
+use Rattle.std.specs.Prelude.{◌≡◌, ◌+◌, ◌<◌, ◌≤◌, ◌^◌, All, ℕ, List, [], ◌∷◌, length, map, slice_index_or}
 use Rattle.std.specs.List.{AllByRecursion}
 use Rattle.mq_core.specs.Recurrences.{in_series, later_of, lindley}
+use Rattle.mq_core.specs.Sequences.{IsSoundLoad}
 use Rattle.mq_forkjoin.specs.Branches.{Passing}
-use Rattle.mq_stations.specs.Scans.{IsBranchLoad}
 use Rattle.mq_kinds.specs.declared.branches.Branch.{Branch}
 use Rattle.mq_kinds.specs.declared.branches.Passage.{Passage}
+
+-- a branch has 1 to 4 servers, and what its jobs ask for at each is a sound load
+pub record IsBranchLoad (arrive : List ℕ) (servers : List (List ℕ)) : Type 0 where
+  pub some : 1 ≤ length servers
+  pub few : length servers ≤ 4
+  pub load : All (λ demands. IsSoundLoad arrive demands) servers
+
+-- a fork-join has at most 8 branches, each of them such a one
+pub record AreBranchLoads (arrive : List ℕ) (branches : List (List (List ℕ))) : Type 0 where
+  pub few : length branches ≤ 8
+  pub early : All (λ time. time ≤ 2 ^ 60) arrive
+  pub each : AllByRecursion (IsBranchLoad arrive) branches
 
 -- jobs are through the first servers of a branch, as many as this, at these times
 pub record IsThrough (arrive : List ℕ) (server : ℕ) (servers : List (List ℕ)) (times : List ℕ) : Type 0 where

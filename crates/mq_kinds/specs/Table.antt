@@ -40,7 +40,7 @@ abbrev pub serving_size : Serving → ℕ
 serving_size Whole = 1
 serving_size (Delay demand) = 1
 serving_size (Server demands) = 0
-serving_size (Tandem tandem) = tandem.scan.blocks.blocks
+serving_size (Tandem tandem) = tandem.blocks.blocks
 serving_size (ForkJoin work) = forkjoin_size work
 serving_size (Split split) = split.blocks.blocks
 

@@ -1,5 +1,5 @@
 // A fork-join in two steps for each tier, over all branches that have a server there.
-ghost use Rattle.std.specs.Prelude.{◌≡◌, ◌<◌, ◌≤◌, ◌+◌, ◌*◌, length, map, All, IfOk, OnOk};
+ghost use Rattle.std.specs.Prelude.{◌≡◌, ◌<◌, ◌≤◌, ◌+◌, ◌*◌, length, map, All, IfOk};
 ghost use Rattle.mq_core.specs.declared.model.Kind.TheVariants.{ForkJoin as TheForkJoin};
 ghost use Rattle.mq_crew.specs.Crew.{AreAll, AreGroups};
 ghost use Rattle.mq_stations.specs.Leaving.{IsLoad};
@@ -9,15 +9,15 @@ ghost use Rattle.mq_kinds.specs.Lefts.{IsLeft};
 ghost use Rattle.mq_kinds.specs.Pieces.{IsNext};
 
 use crate::branches::{Passage, begun, passed, step_of};
-use crate::pieces::{Left, Load, Piece, grouped};
-use mq_asked::all_asked_of;
+use crate::pieces::{Left, Load, Piece, blocks_of, grouped};
+use mq_asked::{all_asked_of, branches_asked_of};
 use mq_base::{List, OutOfMemory};
 use mq_core::{Demand, Stream};
 use mq_forkjoin::{copy_of, fork_departures};
 use mq_maxplus::{Affine, Mp};
 use mq_scan::{Blocks, block_carries, block_summary, block_times, joined_times};
 use mq_server::carries_are_departures;
-use mq_stations::{ForkJoinScan, branch_demands, forkjoin_scan};
+use mq_stations::branch_demands;
 use std::alloc::Global;
 use std::mem::replace;
 
@@ -46,8 +46,7 @@ pub fn forkjoin_begin<'r, 's>(
     ensures fit { IfOk result (λ work. IsForkJoin load.now.rows.now load.now.kind.now load.now.arrivals.now work) }
     ensures steps { IfOk result (λ work. forkjoin_steps work ≡ 9) }
 {
-    let scan = forkjoin_scan(alloc, load.rows, branches, load.arrivals, load.block)?;
-    let ForkJoinScan { demands, blocks } = scan;
+    let demands = branches_asked_of(alloc, load.rows, branches, &load.arrivals.job)?;
     let branches = begun(alloc, &load.arrivals.time, demands)?;
     let Ok(latest) = copy_of(alloc, &load.arrivals.time) else {
         drop(branches);
@@ -56,7 +55,7 @@ pub fn forkjoin_begin<'r, 's>(
     Ok(ForkJoin {
         passage: Passage { branches, latest },
         server: 0,
-        blocks,
+        blocks: blocks_of(load),
         before: None,
     })
 }

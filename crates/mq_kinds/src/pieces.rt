@@ -4,11 +4,13 @@ ghost use Rattle.std.specs.List.{filter_map};
 ghost use Rattle.std.specs.Vec.Iter.{into_iter_items, into_iter_len};
 ghost use Rattle.mq_kinds.specs.Pieces.{left_in, product_in, streams_in, sum_in, times_in};
 ghost use Rattle.mq_kinds.specs.declared.pieces.Piece.{Piece as ThePiece};
+ghost use Rattle.mq_stations.specs.Scans.{AreFewBlocks};
 
 use mq_base::{List, OutOfMemory};
 use mq_core::{Kind, Rows, Stream};
 use mq_maxplus::{Affine, Matrix};
 use mq_rounds::Settled;
+use mq_scan::{Blocks, block_size, cut};
 use std::alloc::Global;
 use std::vec::IntoIter;
 
@@ -23,6 +25,16 @@ pub struct Load<'r, 's> {
     /// The least number of jobs in a block, at least 1.
     pub block: u32,
     ghost some: { 1 ≤ block },
+}
+
+/// Returns how the arrivals are cut into blocks, by position. A block has at least as many jobs as the load says, and there are
+/// at most 16,384 blocks.
+pub fn blocks_of(load: &Load) -> Blocks
+    requires { length load.now.arrivals.now.time ≤ 1048576 }
+    ensures { AreFewBlocks (length load.now.arrivals.now.time) 16384 result }
+{
+    let jobs = load.arrivals.time.len() as u32;
+    cut(jobs, block_size(jobs, load.block))
 }
 
 /// What leaves a station.

@@ -1,7 +1,8 @@
 use Rattle.std.proofs.Common.{map}
 use Rattle.mq_core.specs.Handling.{demand_of_job}
 use Rattle.mq_core.specs.declared.model.Kind.TheVariants.{ForkJoin}
-use Rattle.mq_stations.proofs.lemmas.StageFacts.{branches-are, demands-asked, demands-told, forkjoin-served, loads-sound, narrow-branches}
+use Rattle.mq_stations.proofs.lemmas.StageFacts.{demands-asked, demands-told, loads-sound}
+use Rattle.mq_kinds.proofs.ForkJoined.{branches-are, forkjoin-served, narrow-branches}
 use Rattle.mq_kinds.proofs.Loads.{in-turn}
 use Rattle.mq_kinds.proofs.Tiers.{load-here}
 use Rattle.mq_kinds.proofs.forkjoin.forkjoin_whole.Goals as goal

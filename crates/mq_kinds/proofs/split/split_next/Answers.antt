@@ -2,7 +2,7 @@ use Rattle.std.proofs.Common.{map, refl, subst, sym}
 use Rattle.mq_core.specs.Kinds.Split.{route_value}
 use Rattle.mq_core.specs.declared.model.Kind.TheVariants.{Split}
 use Rattle.mq_crew.specs.Crew.{AreAll}
-use Rattle.mq_stations.specs.Scans.{AreSplitParts}
+use Rattle.mq_kinds.specs.Servers.{AreSplitParts}
 use Rattle.mq_stations.proofs.lemmas.Leaves.{routed-outputs}
 use Rattle.mq_kinds.specs.Pieces.{streams_in}
 use Rattle.mq_kinds.proofs.Forms.{contents-are}

@@ -1,41 +1,41 @@
 use Rattle.std.proofs.Common.{subst, sym, arith}
 use Rattle.mq_crew.specs.Crew.{AreAll}
-use Rattle.mq_stations.specs.Scans.{AreTandemTimes, IsTandemSum}
 use Rattle.mq_kinds.specs.Pieces.{product_in, times_in}
+use Rattle.mq_kinds.specs.Tandems.{AreTandemTimes, IsTandemSum}
 use Rattle.mq_kinds.proofs.Forms.{contents-are}
 use Rattle.mq_kinds.proofs.Stages.{are-products, are-times}
 use Rattle.mq_kinds.proofs.tandem.tandem_next.Goals as goal
 
-pub tandem_carries-carried-requires-clause-len : goal.tandem_carries-carried-requires-clause-len
-tandem_carries-carried-requires-clause-len c =
+pub carries_of-carried-requires-clause-len : goal.carries_of-carried-requires-clause-len
+carries_of-carried-requires-clause-len c =
     let arrivals = c.args.load.now.arrivals.now in
     let tandem = c.args.tandem.now in
-    let blocks = tandem.scan.blocks.blocks in
-    (subst (AreAll (IsTandemSum arrivals tandem.scan) blocks) (sym c.in_ok-sums-in-None.ensures)
-    (contents-are product_in (IsTandemSum arrivals tandem.scan) blocks c.args.made (are-products arrivals tandem blocks c.args.made c.requires.made c.in-None.is))).len
+    let blocks = tandem.blocks.blocks in
+    (subst (AreAll (IsTandemSum arrivals tandem) blocks) (sym c.in_ok-sums-in-None.ensures)
+    (contents-are product_in (IsTandemSum arrivals tandem) blocks c.args.made (are-products arrivals tandem blocks c.args.made c.requires.made c.in-None.is))).len
 
-pub tandem_carries-carried-requires-clause-sums : goal.tandem_carries-carried-requires-clause-sums
-tandem_carries-carried-requires-clause-sums c =
+pub carries_of-carried-requires-clause-sums : goal.carries_of-carried-requires-clause-sums
+carries_of-carried-requires-clause-sums c =
     let arrivals = c.args.load.now.arrivals.now in
     let tandem = c.args.tandem.now in
-    let blocks = tandem.scan.blocks.blocks in
-    let all = subst (AreAll (IsTandemSum arrivals tandem.scan) blocks) (sym c.in_ok-sums-in-None.ensures)
-    (contents-are product_in (IsTandemSum arrivals tandem.scan) blocks c.args.made (are-products arrivals tandem blocks c.args.made c.requires.made c.in-None.is)) in
+    let blocks = tandem.blocks.blocks in
+    let all = subst (AreAll (IsTandemSum arrivals tandem) blocks) (sym c.in_ok-sums-in-None.ensures)
+    (contents-are product_in (IsTandemSum arrivals tandem) blocks c.args.made (are-products arrivals tandem blocks c.args.made c.requires.made c.in-None.is)) in
     λ b d l. all.each b d (let len = all.len in omega arith)
 
-pub tandem_joined-departs-requires-clause-len : goal.tandem_joined-departs-requires-clause-len
-tandem_joined-departs-requires-clause-len c =
+pub joined-departs-requires-clause-len : goal.joined-departs-requires-clause-len
+joined-departs-requires-clause-len c =
     let arrivals = c.args.load.now.arrivals.now in
     let tandem = c.args.tandem.now in
-    let blocks = tandem.scan.blocks.blocks in
-    (subst (AreAll (AreTandemTimes arrivals tandem.scan) blocks) (sym c.in_ok-times-in-Some.ensures)
-    (contents-are times_in (AreTandemTimes arrivals tandem.scan) blocks c.args.made (are-times arrivals tandem blocks c.args.made c.requires.made _ c.in-Some.is))).len
+    let blocks = tandem.blocks.blocks in
+    (subst (AreAll (AreTandemTimes arrivals tandem) blocks) (sym c.in_ok-times-in-Some.ensures)
+    (contents-are times_in (AreTandemTimes arrivals tandem) blocks c.args.made (are-times arrivals tandem blocks c.args.made c.requires.made _ c.in-Some.is))).len
 
-pub tandem_joined-departs-requires-clause-group : goal.tandem_joined-departs-requires-clause-group
-tandem_joined-departs-requires-clause-group c =
+pub joined-departs-requires-clause-group : goal.joined-departs-requires-clause-group
+joined-departs-requires-clause-group c =
     let arrivals = c.args.load.now.arrivals.now in
     let tandem = c.args.tandem.now in
-    let blocks = tandem.scan.blocks.blocks in
-    let all = subst (AreAll (AreTandemTimes arrivals tandem.scan) blocks) (sym c.in_ok-times-in-Some.ensures)
-    (contents-are times_in (AreTandemTimes arrivals tandem.scan) blocks c.args.made (are-times arrivals tandem blocks c.args.made c.requires.made _ c.in-Some.is)) in
+    let blocks = tandem.blocks.blocks in
+    let all = subst (AreAll (AreTandemTimes arrivals tandem) blocks) (sym c.in_ok-times-in-Some.ensures)
+    (contents-are times_in (AreTandemTimes arrivals tandem) blocks c.args.made (are-times arrivals tandem blocks c.args.made c.requires.made _ c.in-Some.is)) in
     λ b d l. all.each b d (let len = all.len in omega arith)
