@@ -10,3 +10,5 @@ pub mod Numbers
 pub mod Parting
 pub mod Sent
 pub mod Sending
+pub mod Advancing
+pub mod InPlace
