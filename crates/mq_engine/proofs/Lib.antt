@@ -12,3 +12,4 @@ pub mod Sent
 pub mod Sending
 pub mod Advancing
 pub mod InPlace
+pub mod Placing

@@ -94,7 +94,7 @@ fn emptied_of<'a, R: Threads + Sync, G: Gate>(
 // What leaves a station on which the work has ended.
 fn left_in(work: Work) -> Left
     requires { HasEnded work }
-    ensures { work ≡ Ended result }
+    ensures { work.entry ≡ Ended result }
 {
     match work {
         Work::Ended(left) => left,
