@@ -20,7 +20,7 @@ pub record IsAdvancing (old now : List Place) (left : ℕ) : Type 0 where
   pub after : (k : ℕ) (a b : Place) → left ≤ k → slice_get old k ≡ Some a → slice_get now k ≡ Some b → IsAdvanced a b
 
 tail : (a b : Place) (xs ys : List Place) → AreAdvanced (a ∷ xs) (b ∷ ys) → AreAdvanced xs ys
-tail a b xs ys h = let l = h.len in record { len = omega arith; each = λ k x y e f. h.each (suc k) x y e f; }
+tail a b xs ys h = let l = h.len in record { len = omega arith; each = λ k x y e f. h.each (suc k) x y e f }
 
 -- a round later no more steps are left, and fewer if some station is under work
 pub no-further : (old new : List Place) → AreAdvanced old new → all_steps new ≤ all_steps old

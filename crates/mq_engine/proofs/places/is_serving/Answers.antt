@@ -1,7 +1,7 @@
-use Rattle.std.proofs.Common.{◌≡◌, ◌≤◌, ◌+◌, ◌∙◌, ap, arith, get_or}
+use Rattle.std.proofs.Common.{◌+◌, ◌∙◌, ap, arith, get_or}
 use Rattle.std.proofs.lemmas.Option.{slice_get-get_or}
 use Rattle.mq_engine.proofs.Advancing.{idle, steps-at, steps-take}
-use Rattle.mq_engine.specs.Places.{all_steps, place_steps, work_steps}
+use Rattle.mq_engine.specs.Places.{place_steps, work_steps}
 use Rattle.mq_engine.proofs.places.is_serving.Goals as goal
 
 pub returns-in-Serving-clause-some : goal.returns-in-Serving-clause-some

@@ -1,4 +1,4 @@
-use Rattle.std.proofs.Common.{◌≡◌, ◌≤◌, ◌∙◌, List, ap, arith, subst}
+use Rattle.std.proofs.Common.{◌≡◌, ◌≤◌, ◌∙◌, List, subst}
 use Rattle.mq_engine.proofs.Advancing.{all-ended, fits-later, nearer, same-later}
 use Rattle.mq_engine.specs.Places.{all_steps}
 use Rattle.mq_engine.specs.declared.places.Place.{Place}
