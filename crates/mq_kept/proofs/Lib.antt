@@ -18,4 +18,5 @@ pub mod Stays
 pub mod TailRuns
 pub mod Unchanged
 pub mod Within
+pub mod Whole
 pub mod WorkedTo
