@@ -7,7 +7,7 @@ use Rattle.mq_core.specs.declared.model.Stream.{Stream}
 use Rattle.mq_exits.proofs.Stations.{from-station, to-station}
 use Rattle.mq_kinds.specs.Lefts.{IsLeft}
 use Rattle.mq_stations.specs.Leaving.{AreDepartures, IsLoad}
-use Rattle.mq_kept.proofs.Whole.{loaded-at}
+use Rattle.mq_kept.proofs.Loading.{loaded-at}
 use Rattle.mq_kept.proofs.stations.delay_completion.Goals as goal
 
 pub delay_left-requires-clause-load : goal.delay_left-requires-clause-load

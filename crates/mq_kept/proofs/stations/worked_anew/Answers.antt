@@ -5,7 +5,7 @@ use Rattle.mq_exits.proofs.Stations.{from-station, to-station}
 use Rattle.mq_kinds.specs.Lefts.{IsLeft}
 use Rattle.mq_kinds.specs.Table.{IsWhole}
 use Rattle.mq_stations.specs.Leaving.{IsLoad}
-use Rattle.mq_kept.proofs.Whole.{loaded-at}
+use Rattle.mq_kept.proofs.Loading.{loaded-at}
 use Rattle.mq_kept.proofs.stations.worked_anew.Goals as goal
 
 pub station_whole-requires-clause-load : goal.station_whole-requires-clause-load
