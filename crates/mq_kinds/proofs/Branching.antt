@@ -4,7 +4,7 @@ use Rattle.std.proofs.lemmas.List.{length-map, map-append, same_from_push}
 use Rattle.std.proofs.lemmas.Option.{get_or_from_slice_get, slice_get-get_or}
 use Rattle.std.specs.Prelude.{slice_get}
 use Rattle.std.specs.List.{AllByRecursion}
-use Rattle.mq_base.proofs.lemmas.Each.{Each-append, Each-back, Each-front}
+use Rattle.mq_base.proofs.lemmas.Each.{Each-append, Each-back, Each-front, Each-get}
 use Rattle.mq_core.specs.Sequences.{IsSoundLoad}
 use Rattle.mq_core.specs.Recurrences.{forkjoin_departs, in_series, later_of}
 use Rattle.mq_forkjoin.proofs.ForkJoining.{length-later_of}
@@ -81,6 +81,18 @@ latest-all arrive (branch ∷ branches) = ap (later_of (in_series arrive branch)
 through-servers : (arrive : List ℕ) (branches : List Branch) → through_each arrive branches ≡ map (in_series arrive) (map servers_of branches)
 through-servers arrive [] = refl
 through-servers arrive (branch ∷ branches) = ap (λ l. in_series arrive branch.servers ∷ l) (through-servers arrive branches)
+
+-- one branch more before its first server
+pub begun-more : (arrive : List ℕ) (all all' : List Branch) (servers : List (List (List ℕ))) (branch : Branch) → all' ≡ all ++ branch ∷ [] → branch.arrive ≡ arrive → map servers_of all ≡ servers → AllByRecursion (λ (b : Branch). b.arrive ≡ arrive) all →
+    (map servers_of all' ≡ servers ++ branch.servers ∷ []) × AllByRecursion (λ (b : Branch). b.arrive ≡ arrive) all'
+begun-more arrive all all' servers branch e a s same = (
+  ap (map servers_of) e ∙ (map-append servers_of all (branch ∷ []) ∙ ap (λ (l : List (List (List ℕ))). l ++ branch.servers ∷ []) s),
+  subst (AllByRecursion (λ (b : Branch). b.arrive ≡ arrive)) (sym e) (Each-append (λ (b : Branch). b.arrive ≡ arrive) all (branch ∷ []) same (a, tt)),
+)
+
+-- a branch at its place among those that have a server left
+pub running-at : (arrive : List ℕ) (server : ℕ) (passage : Passage) (at : ℕ) (branch : Branch) → IsPassage arrive server passage → slice_get passage.branches at ≡ Some branch → IsRunning arrive server branch
+running-at arrive server passage at branch was there = Each-get (IsRunning arrive server) passage.branches at branch was.running there
 
 all-run : (arrive : List ℕ) (branches : List Branch) → All (λ time. time ≤ 2 ^ 60) arrive → AllByRecursion (λ (b : Branch). b.arrive ≡ arrive) branches → AllByRecursion (IsBranchLoad arrive) (map servers_of branches) → AllByRecursion (IsRunning arrive 0) branches
 all-run arrive [] early same loads = tt

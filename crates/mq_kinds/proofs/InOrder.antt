@@ -1,5 +1,5 @@
 -- Jobs of a delay that leave in the order in which they came.
-use Rattle.std.proofs.Common.{◌≡◌, ◌≤◌, ℕ, List, length, sym, ◌∙◌}
+use Rattle.std.proofs.Common.{◌≡◌, ◌≤◌, ℕ, List, sym, ◌∙◌}
 use Rattle.mq_core.specs.Laws.{Rises}
 use Rattle.mq_core.specs.SequenceLaws.{FatesAreInTime}
 use Rattle.mq_core.specs.Sequences.{IsStream, stream_in_order}
@@ -13,7 +13,7 @@ use Rattle.mq_stations.specs.Leaving.{AreDepartures, IsLoad}
 use Rattle.mq_stations.proofs.lemmas.Leaves.{departs-even}
 use Rattle.mq_kinds.specs.Lefts.{LeaveInTurn}
 
--- where jobs leave by time, and their departures never fall, they leave in turn
+-- if jobs leave by time and their departures never fall, they leave in turn
 pub in-turn-risen : FatesAreInTime → (rows : Rows) (kind : Kind) (arrivals : Stream) (departs : List ℕ) → IsLoad rows kind arrivals → AreDepartures rows kind arrivals departs → ((stream : Stream) → stream_in_order kind stream ≡ sorted stream) → Rises (λ a b. a ≤ b) departs → LeaveInTurn rows kind arrivals departs
 in-turn-risen law rows kind arrivals departs load d by rises =
     let leaving : Stream = record { job = arrivals.job; time = departs } in

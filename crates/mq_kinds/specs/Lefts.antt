@@ -1,5 +1,5 @@
 -- What leaves a station.
-use Rattle.std.specs.Prelude.{◌≡◌, ◌<◌, ◌≤◌, ℕ, List, map}
+use Rattle.std.specs.Prelude.{◌≡◌, ℕ, List, map}
 use Rattle.std.specs.List.{zip}
 use Rattle.mq_core.specs.Came.{Came, came_in}
 use Rattle.mq_core.specs.Laws.{in_order_of}

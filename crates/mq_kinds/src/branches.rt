@@ -51,6 +51,7 @@ pub fn begun<'r>(
 // Returns the jobs at the next server of a branch. `arrive` is when they came to the fork-join.
 pub fn step_of<'b>(arrive: &List<u64>, branch: &'b Branch, server: usize) -> ServerStep<'b>
     requires { IsRunning arrive.now server branch.now }
+    ensures all { length result.arrive.now ≡ length arrive.now }
     ensures arrive { result.arrive.now ≡ branch.now.arrive }
     ensures demands { result.demands.now ≡ asked_at server branch.now }
 {

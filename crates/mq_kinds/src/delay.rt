@@ -42,14 +42,14 @@ pub fn delay_next<R: Threads + Sync, G: Gate>(
     ensures { IfOk result (λ end. IsSomeAnd end (IsLeft load.now.rows.now load.now.kind.now load.now.arrivals.now)) }
 {
     match only_content(made) {
-        Some(departs) => Ok(Some(in_order(crew, load, departs)?)),
+        Some(departs) => Ok(Some(delay_left(crew, load, departs)?)),
         None => Ok(None),
     }
 }
 
-// Returns what leaves a delay whose jobs depart at these times, by position. If no time is below the one before it, the jobs
-// leave in the order in which they came, and nothing is sorted.
-fn in_order<R: Threads + Sync, G: Gate>(
+/// Returns what leaves a delay whose jobs depart at these times, in ticks, by position. If no time is below the one before it, the
+/// jobs leave in the order in which they came, and nothing is sorted. The only error is out of memory.
+pub fn delay_left<R: Threads + Sync, G: Gate>(
     crew: &Crew<R, G>,
     load: &Load,
     departs: List<u64>,

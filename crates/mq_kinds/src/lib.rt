@@ -16,8 +16,11 @@ mod tandem;
 mod trunk;
 
 pub use branches::{Branch, Passage};
+pub use delay::delay_left;
 pub use forkjoin::ForkJoin;
 pub use pieces::{Content, Left, Load, Piece, all_contents, grouped, only_content};
 pub use split::Split;
-pub use table::{Serving, Step, serving_count, serving_next, serving_of, serving_piece};
+pub use table::{
+    Serving, Step, serving_count, serving_next, serving_of, serving_piece, station_whole,
+};
 pub use tandem::Tandem;

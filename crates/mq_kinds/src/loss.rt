@@ -51,5 +51,12 @@ fn settled<L: Ledger>(
 {
     let asked = asked_of(alloc, load.rows, demand, &load.arrivals.job)?;
     let mut steps = Steps::<L>::new(blank);
-    settle(alloc, load.arrivals, asked.list(), places, load.block, &mut steps)
+    settle(
+        alloc,
+        load.arrivals,
+        asked.list(),
+        places,
+        load.block,
+        &mut steps,
+    )
 }

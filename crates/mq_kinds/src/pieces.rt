@@ -148,10 +148,7 @@ pub fn only_content<X: Content>(made: List<Piece>) -> Option<X>
 }
 
 /// Returns what all these pieces contain, in order. Pieces of another form are left out. The only error is out of memory.
-pub fn all_contents<X: Content>(
-    alloc: Global,
-    made: List<Piece>,
-) -> Result<List<X>, OutOfMemory>
+pub fn all_contents<X: Content>(alloc: Global, made: List<Piece>) -> Result<List<X>, OutOfMemory>
     ensures { IfOk result (λ contents. contents ≡ filter_map X.within made) }
 {
     let count = made.len();

@@ -44,17 +44,19 @@ pub fn split_begin<'r, 's>(load: &Load<'r, 's>, route: &'r Route) -> Split<'r>
 }
 
 /// Makes piece `b`: what leaves the block by each output. The only error is out of memory.
-pub fn split_piece(
-    alloc: Global,
-    load: &Load,
-    split: &Split,
-    b: u32,
-) -> Result<Piece, OutOfMemory>
+pub fn split_piece(alloc: Global, load: &Load, split: &Split, b: u32) -> Result<Piece, OutOfMemory>
     requires fit { IsSplit load.now.rows.now load.now.kind.now load.now.arrivals.now split.now }
     requires inside { b < split.now.blocks.blocks }
     ensures { IfOk result (IsSplitPiece load.now.rows.now load.now.arrivals.now split.now b) }
 {
-    let streams = split_part(alloc, load.rows, split.route, load.arrivals, &split.blocks, b)?;
+    let streams = split_part(
+        alloc,
+        load.rows,
+        split.route,
+        load.arrivals,
+        &split.blocks,
+        b,
+    )?;
     Ok(Piece::Streams(streams))
 }
 

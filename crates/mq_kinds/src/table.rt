@@ -1,5 +1,5 @@
 // The table of the kinds: how a station is computed, step by step.
-// A further kind that is one piece adds an arm to `serving_of` and to `whole_of`. One with steps of its own adds an arm to each function.
+// A further kind that is one piece adds an arm to `serving_of` and to `station_whole`. One with steps of its own adds an arm to each function.
 ghost use Rattle.std.specs.Prelude.{◌≡◌, ◌<◌, ◌≤◌, Ok, IfOk};
 ghost use Rattle.mq_crew.specs.Crew.{AreAll};
 ghost use Rattle.mq_kinds.specs.Lefts.{IsLeft};
@@ -111,7 +111,7 @@ pub fn serving_piece(
     ensures { IfOk result (IsServingPiece load.now.rows.now load.now.kind.now load.now.arrivals.now serving.now b) }
 {
     match serving {
-        Serving::Whole => left_piece(whole_of(alloc, load)),
+        Serving::Whole => left_piece(station_whole(alloc, load)),
         Serving::Delay(demand) => delay_piece(alloc, load, demand),
         Serving::Server(_) => unreachable!(),
         Serving::Tandem(tandem) => tandem_piece(alloc, load, tandem, b),
@@ -183,8 +183,9 @@ fn left_piece(left: Result<Left, OutOfMemory>) -> Result<Piece, OutOfMemory>
     Ok(Piece::Left(left?))
 }
 
-// Returns what leaves a station, computed as one piece.
-fn whole_of(alloc: Global, load: &Load) -> Result<Left, OutOfMemory>
+/// Returns what leaves a station of a kind that is one piece: not a delay, whose jobs have to be put in order, and not a join.
+/// The only error is out of memory.
+pub fn station_whole(alloc: Global, load: &Load) -> Result<Left, OutOfMemory>
     requires load { IsLoad load.now.rows.now load.now.kind.now load.now.arrivals.now }
     requires kind { IsWhole load.now.kind.now }
     ensures { IfOk result (IsLeft load.now.rows.now load.now.kind.now load.now.arrivals.now) }

@@ -101,11 +101,7 @@ pub fn tandem_next(
 }
 
 /// Returns what leaves a tandem, computed by one worker. The only error is out of memory.
-pub fn tandem_whole(
-    alloc: Global,
-    load: &Load,
-    stages: &List<Stage>,
-) -> Result<Left, OutOfMemory>
+pub fn tandem_whole(alloc: Global, load: &Load, stages: &List<Stage>) -> Result<Left, OutOfMemory>
     requires load { IsLoad load.now.rows.now load.now.kind.now load.now.arrivals.now }
     requires kind { load.now.kind.now ≡ TheTandem stages.now }
     ensures { IfOk result (IsLeft load.now.rows.now load.now.kind.now load.now.arrivals.now) }

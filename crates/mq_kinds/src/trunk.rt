@@ -51,5 +51,12 @@ fn settled<L: Ledger>(
 {
     let asked = asked_of(alloc, load.rows, demand, &load.arrivals.job)?;
     let mut steps = Steps::<L>::new(blank);
-    admit_trunk(alloc, load.arrivals, asked.list(), servers, load.block, &mut steps)
+    admit_trunk(
+        alloc,
+        load.arrivals,
+        asked.list(),
+        servers,
+        load.block,
+        &mut steps,
+    )
 }

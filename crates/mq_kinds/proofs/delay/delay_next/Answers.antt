@@ -10,11 +10,11 @@ use Rattle.mq_kinds.proofs.delay.delay_next.Goals as goal
 pub only_content-requires : goal.only_content-requires
 only_content-requires g c = c.requires.made.len
 
-pub in_order-requires-clause-overtake : goal.in_order-requires-clause-overtake
-in_order-requires-clause-overtake g c = λ stream. subst (λ (k : Kind). stream_in_order k stream ≡ sorted stream) (sym c.requires.fit.is) refl
+pub delay_left-requires-clause-overtake : goal.delay_left-requires-clause-overtake
+delay_left-requires-clause-overtake g c _ _ = λ stream. subst (λ (k : Kind). stream_in_order k stream ≡ sorted stream) (sym c.requires.fit.is) refl
 
-pub in_order-requires-clause-departs : goal.in_order-requires-clause-departs
-in_order-requires-clause-departs g c =
+pub delay_left-requires-clause-departs : goal.delay_left-requires-clause-departs
+delay_left-requires-clause-departs g c _ _ =
     let load = c.args.load.now in
     only-there times_in (AreDepartures load.rows.now load.kind.now load.arrivals.now) c.args.made _ c.requires.made (λ d. c.only_content.ensures d ∙ c.in-Some.is)
 

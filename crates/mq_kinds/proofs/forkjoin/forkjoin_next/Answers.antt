@@ -15,7 +15,7 @@ joined-departs-requires-clause-groups c =
     let groups = c.in_ok-groups-in-Some.ensures in
     times-parted c.args.work.now c.args.made c.requires.made _ c.in_ok-groups-in-Some.groups c.in-Some.is (groups.len ∙ count) (λ i d l. groups.each i d (omega arith))
 
-pub returns-in-Some : goal.returns-in-Some
-returns-in-Some c =
+pub returns-in_ok-departs-in-Some : goal.returns-in_ok-departs-in-Some
+returns-in_ok-departs-in-Some c =
     let load = c.args.load.now in
-    IfOk-weaker c.tier_passed.result _ _ (λ end tier. tier-next load.rows.now load.kind.now load.arrivals.now c.args.work.now c.tier_passed.new.work end c.requires.fit tier) c.tier_passed.ensures
+    IfOk-weaker c.tier_passed.result _ _ (λ end tier. tier-next load.rows.now load.kind.now load.arrivals.now c.args.work.now _ end c.requires.fit tier) c.tier_passed.ensures

@@ -1,6 +1,5 @@
-use Rattle.std.proofs.Common.{◌≡◌, ◌≤◌, ◌<◌, ◌*◌, ℕ, List, drop, get_or, length, take}
+use Rattle.std.proofs.Common.{◌≡◌, ◌<◌, ◌*◌, ℕ, List, drop, get_or, length, take}
 use Rattle.std.specs.List.{filter_map}
-use Rattle.std.specs.Vec.{vec_len, vec_capacity}
 use Rattle.std.specs.Vec.Iter.{into_iter_items, into_iter_len}
 use Rattle.mq_kinds.proofs.pieces.grouped.Given as goal
 
@@ -8,9 +7,7 @@ use Rattle.mq_kinds.proofs.pieces.grouped.Given as goal
 abbrev pub invariant-groups : goal.invariant-groups
 invariant-groups g l = record {
   len : into_iter_len l.left ≡ length (into_iter_items l.left);
-  short : vec_len l.groups ≤ l.counter;
-  room : l.count ≤ vec_capacity l.groups;
-  many : length l.groups.items ≡ l.counter;
-  each : (i : ℕ) (d : List g.row.X.Denot) → i < l.counter → get_or l.groups.items i d ≡ filter_map g.X.Content.within (take l.size (drop (i * l.size) l.fn.made));
+  many : length l.groups ≡ l.counter;
+  each : (i : ℕ) (d : List g.row.X.Denot) → i < l.counter → get_or l.groups i d ≡ filter_map g.X.Content.within (take l.size (drop (i * l.size) l.fn.made));
   rest : into_iter_items l.left ≡ drop (l.counter * l.size) l.fn.made;
 }

@@ -5,7 +5,7 @@ use Rattle.mq_kinds.proofs.Loads.{in-turn, load-as}
 use Rattle.mq_kinds.proofs.server.server_next.Goals as goal
 
 pub chain_departures-requires-clause-load : goal.chain_departures-requires-clause-load
-chain_departures-requires-clause-load g c =
+chain_departures-requires-clause-load g c _ _ =
     let load = c.args.load.now in
     let s = c.requires in
     let here = load-as load.rows.now load.kind.now (Server s.demand) load.arrivals.now s.is s.load in

@@ -32,4 +32,4 @@ returns c =
     let values = map (route_value load.rows.now route) load.arrivals.now.job in
     let parts = subst (AreAll (AreSplitParts route load.arrivals.now values blocks) blocks.blocks) (sym c.in_ok-parts.ensures) (contents-are streams_in (AreSplitParts route load.arrivals.now values blocks) blocks.blocks c.args.made c.requires.made) in
     let whole = blocks-split load.rows.now load.kind.now route load.arrivals.now blocks c.in_ok-parts.parts c.requires.fit.load c.requires.fit.cut.0 parts in
-    routes load.rows.now load.kind.now route load.arrivals.now values _ c.requires.fit.is c.requires.fit.load refl (c.in_ok.ensures load.arrivals.now values blocks whole)
+    routes load.rows.now load.kind.now route load.arrivals.now values _ c.requires.fit.is c.requires.fit.load refl (c.in_ok-joined.ensures load.arrivals.now values blocks whole)

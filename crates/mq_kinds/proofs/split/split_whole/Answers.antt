@@ -20,4 +20,4 @@ split-streams-requires-clause-route c =
 pub returns : goal.returns
 returns c =
     let load = c.args.load.now in
-    routes load.rows.now load.kind.now c.args.route.now load.arrivals.now _ c.in_ok.streams c.requires.kind c.requires.load (c.in_ok-values.ensures ∙ ap (map (route_value load.rows.now c.args.route.now)) c.as_slice.ensures) c.in_ok.ensures
+    routes load.rows.now load.kind.now c.args.route.now load.arrivals.now _ _ c.requires.kind c.requires.load (c.in_ok-values.ensures ∙ ap (map (route_value load.rows.now c.args.route.now)) c.as_slice.ensures) c.in_ok-streams.ensures

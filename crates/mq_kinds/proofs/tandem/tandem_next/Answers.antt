@@ -1,4 +1,4 @@
-use Rattle.std.proofs.Common.{subst, sym, ap, ◌∙◌, arith}
+use Rattle.std.proofs.Common.{subst, sym, arith}
 use Rattle.mq_crew.specs.Crew.{AreAll}
 use Rattle.mq_stations.specs.Scans.{AreTandemTimes, IsTandemSum}
 use Rattle.mq_kinds.specs.Pieces.{product_in, times_in}

@@ -1,15 +1,15 @@
 use Rattle.std.proofs.Common.{◌∙◌, sym}
 use Rattle.mq_stations.proofs.lemmas.Leaves.{departs-even}
 use Rattle.mq_kinds.proofs.InOrder.{in-turn-risen}
-use Rattle.mq_kinds.proofs.delay.in_order.Goals as goal
+use Rattle.mq_kinds.proofs.delay.delay_left.Goals as goal
 
 pub returns-then-never_fall : goal.returns-then-never_fall
 returns-then-never_fall g c =
     let load = c.args.load.now in
     in-turn-risen c.fates_are_in_time.ensures load.rows.now load.kind.now load.arrivals.now c.args.departs c.requires.load c.requires.departs c.requires.overtake (c.never_fall.ensures c.if-never_fall.true)
 
-pub by_departure-requires : goal.by_departure-requires
-by_departure-requires g c =
+pub by_departure-requires-clause-even : goal.by_departure-requires-clause-even
+by_departure-requires-clause-even g c _ _ =
     let load = c.args.load.now in
     c.requires.load.ordered.ordered.even ∙ sym (departs-even c.fates_are_in_time.ensures load.rows.now load.kind.now load.arrivals.now c.args.departs c.requires.load c.requires.departs)
 
