@@ -47,7 +47,6 @@ pub fn completion_of<R: Threads + Sync, G: Gate>(
         Left::Overtaking(departs, leaving) => overtaken_of(crew, load, departs, leaving),
         Left::Settled(settled) => Ok(Completion::Settled(settled)),
         Left::Passing(streams) => Ok(Completion::Passed(streams)),
-        Left::Visits(..) => unreachable!(),
     }
 }
 
