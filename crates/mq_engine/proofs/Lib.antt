@@ -3,8 +3,6 @@ pub mod Early
 pub mod Waves
 pub mod Settling
 pub mod Endings
-pub mod Scanning
-pub mod Groups
 pub mod Gathers
 pub mod Telling
 pub mod Kept
@@ -12,3 +10,6 @@ pub mod Numbers
 pub mod Parting
 pub mod Sent
 pub mod Sending
+pub mod Advancing
+pub mod InPlace
+pub mod Placing

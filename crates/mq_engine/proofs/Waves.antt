@@ -41,7 +41,7 @@ use Rattle.mq_exits.specs.declared.working.Ending.TheVariants.{OnTime, TooMany, 
 use Rattle.mq_exits.specs.declared.working.NodeResult.{NodeResult}
 use Rattle.mq_exits.proofs.Known.{fine-few}
 use Rattle.mq_engine.specs.CoreLaws.{CoreLaws}
-use Rattle.mq_engine.specs.Loads.{IsArrivedAt}
+use Rattle.mq_engine.specs.Places.{IsArrivedAt}
 use Rattle.mq_engine.specs.Progress.{AreEarly, CanWork, CanWorkAll, HasAll, IsEndPut, IsPut, IsReached, Tells, is_done, is_read, is_ready, is_waiting, read_by, reads_done, stands_at}
 use Rattle.mq_engine.specs.declared.progress.Stand.{Stand}
 use Rattle.mq_engine.specs.declared.progress.Stand.TheVariants.{Waiting, Done, Crowded, Late}

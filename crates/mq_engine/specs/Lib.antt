@@ -2,7 +2,7 @@ pub mod Answer
 pub mod Apart
 pub mod CoreLaws
 pub mod Counting
-pub mod Loads
+pub mod Places
 pub mod Progress
 pub mod Sources
 pub mod Waves

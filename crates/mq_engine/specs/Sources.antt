@@ -6,7 +6,7 @@ use Rattle.mq_core.specs.declared.model.Node.{Node}
 use Rattle.mq_core.specs.declared.model.Plan.{Plan}
 use Rattle.mq_arrivals.specs.declared.nodes.Arrived.{Arrived}
 use Rattle.mq_arrivals.specs.declared.nodes.Arriving.{Arriving}
-use Rattle.mq_engine.specs.Loads.{IsArrivedAt}
+use Rattle.mq_engine.specs.Places.{IsArrivedAt}
 
 -- a source, if it is there
 abbrev pub IsSource : Plan → ℕ → Type 0

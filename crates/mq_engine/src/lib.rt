@@ -13,14 +13,13 @@ ghost use Rattle.mq_engine.specs.Answer.{IsCause};
 ghost use Rattle.mq_engine.specs.CoreLaws.{CoreLaws};
 ghost use Rattle.mq_engine.specs.Progress.{IsReached, is_ready};
 
+mod begun;
 mod counted;
 mod counting;
 mod fault;
-mod firsts;
 mod gathering;
 mod laws;
-mod loads;
-mod middles;
+mod places;
 mod progress;
 mod ready;
 mod sides;

@@ -2,11 +2,9 @@
 use Rattle.std.proofs.Common.{◌≡◌, ℕ, ◌≤◌, List, [], ◌∷◌, length, map, None, refl, sym, ◌∙◌, subst}
 use Rattle.std.specs.List.{AllByRecursion, zip}
 use Rattle.mq_core.specs.Came.{came_in}
-use Rattle.mq_core.specs.Laws.{in_order_of}
 use Rattle.mq_core.specs.Results.{first_of}
 use Rattle.mq_core.specs.SequenceLaws.{FatesAreInTime, FatesInTime, LeavesFrom, SequencesGoByFates}
-use Rattle.mq_core.specs.Sequences.{IsStream, sequence_late_from}
-use Rattle.mq_core.specs.Streams.{by_first, pairs_of}
+use Rattle.mq_core.specs.Sequences.{sequence_late_from}
 use Rattle.mq_core.specs.declared.model.Fate.{Fate}
 use Rattle.mq_core.specs.declared.model.Fate.TheVariants.{Departs}
 use Rattle.mq_core.specs.declared.model.Kind.{Kind}
@@ -18,9 +16,9 @@ use Rattle.mq_stats.specs.Ahead.{IsAhead}
 use Rattle.mq_stats.specs.declared.pieces.AheadTable.{AheadTable}
 use Rattle.mq_stations.specs.Leaving.{AreDepartures, AreStreams, IsLoad}
 use Rattle.mq_stations.specs.Scans.{AreFewBlocks}
-use Rattle.mq_exits.specs.Afters.{AreDeparturesAt}
+use Rattle.mq_kinds.specs.declared.pieces.Left.TheVariants.{Overtaking}
 use Rattle.mq_exits.specs.Loads.{IsLoaded}
-use Rattle.mq_exits.specs.Exits.{IsOvertaken, Overtakes}
+use Rattle.mq_exits.specs.Exits.{IsLeftAt, IsOvertaken}
 use Rattle.mq_stations.proofs.lemmas.Leaves.{departs-even, once-leaves}
 use Rattle.mq_exits.proofs.Leavings.{departures-order, late-by, sorted-streams}
 
@@ -34,15 +32,17 @@ pub departs-few : FatesAreInTime → (rows : Rows) (kind : Kind) (arrivals : Str
 departs-few law rows kind arrivals departs load d = subst (λ n. n ≤ 1048576) (sym (departs-even law rows kind arrivals departs load d)) load.few
 
 -- what is known of it then
-pub is-overtaken : SequencesGoByFates → FatesAreInTime → (plan : Plan) (rows : Rows) (v : ℕ) (arrivals : Stream) (departs : List ℕ) (leaving : Stream) (ahead : AheadTable) (blocks : Blocks) → IsLoaded plan rows v arrivals → AreDeparturesAt plan rows v arrivals departs → Overtakes plan v →
-    IsStream leaving → pairs_of leaving ≡ by_first (zip departs arrivals.job) → leaving.time ≡ in_order_of (λ t. t) departs → first_of (sequence_late_from plan.net.bound v 0 (map (λ time. Departs time) departs)) ≡ None → IsAhead arrivals.time (map (λ time. Departs time) departs) ahead → AreFewBlocks (length arrivals.time) 16384 blocks →
+pub is-overtaken : SequencesGoByFates → FatesAreInTime → (plan : Plan) (rows : Rows) (v : ℕ) (arrivals : Stream) (departs : List ℕ) (leaving : Stream) (ahead : AheadTable) (blocks : Blocks) → IsLoaded plan rows v arrivals → IsLeftAt plan rows v arrivals (Overtaking departs leaving) →
+    first_of (sequence_late_from plan.net.bound v 0 (map (λ time. Departs time) departs)) ≡ None → IsAhead arrivals.time (map (λ time. Departs time) departs) ahead → AreFewBlocks (length arrivals.time) 16384 blocks →
     IsOvertaken plan rows v arrivals (record { departs = departs; job = leaving.job; ahead = ahead; blocks = blocks })
-is-overtaken fated law plan rows v arrivals departs leaving ahead blocks loaded d overtakes s e order none table few =
+is-overtaken fated law plan rows v arrivals departs leaving ahead blocks loaded left none table few =
     record {
-      on_time = λ node there. record {
-        fates_are = sym (d node there).fates;
-        streams_are = subst (λ (times : List ℕ). AreStreams rows node.kind arrivals (record { job = leaving.job; time = times } ∷ [])) (departures-order departs leaving.time _ refl order ∙ sym table.leaving) (sorted-streams fated law rows node.kind arrivals departs leaving loaded.load.ordered.ordered.even (d node there) (overtakes node there) s e);
-        none = late-by plan.net.bound v _ (map (λ time. Departs time) departs) None (d node there).fates none;
-      };
+      on_time = λ node there.
+          let its = left node there in
+          record {
+            fates_are = sym its.depart.fates;
+            streams_are = subst (λ (times : List ℕ). AreStreams rows node.kind arrivals (record { job = leaving.job; time = times } ∷ [])) (departures-order departs leaving.time _ refl its.times ∙ sym table.leaving) (sorted-streams fated law rows node.kind arrivals departs leaving loaded.load.ordered.ordered.even its.depart its.overtake its.ordered its.items);
+            none = late-by plan.net.bound v _ (map (λ time. Departs time) departs) None its.depart.fates none;
+          };
       counted = record { ahead = table; blocks = few };
     }

@@ -15,7 +15,7 @@ use Rattle.mq_exits.specs.Results.{IsResultOf, IsWorkedOut}
 use Rattle.mq_exits.specs.declared.exits.Closed.{Closed}
 use Rattle.mq_exits.specs.declared.exits.Emptied.{Emptied}
 use Rattle.mq_exits.specs.declared.exits.Completion.{Completion}
-use Rattle.mq_exits.specs.declared.exits.Completion.TheVariants.{Known, Passed, Sent, Served, Settled, Sorted}
+use Rattle.mq_exits.specs.declared.exits.Completion.TheVariants.{Known, Passed, Served, Settled, Sorted}
 use Rattle.mq_exits.specs.declared.working.NodeResult.{NodeResult}
 use Rattle.mq_exits.proofs.Lasts.{copies-few}
 use Rattle.mq_exits.proofs.OfWave.{IsEmptiedOf, Wave}
@@ -44,7 +44,6 @@ completion-few plan rows v arrivals (Served departs) h = omega arith
 completion-few plan rows v arrivals (Sorted overtaken) h = let few = h.counted.blocks.1 in omega arith
 completion-few plan rows v arrivals (Settled settled) h = omega arith
 completion-few plan rows v arrivals (Passed streams) h = omega arith
-completion-few plan rows v arrivals Sent h = omega arith
 
 pub emptied-few : (those_emptied : List Emptied) → length those_emptied ≤ 64 → AllByRecursion IsReadyCompletion those_emptied → total_size emptied_size those_emptied < 2 ^ 32
 emptied-few those_emptied few ready =

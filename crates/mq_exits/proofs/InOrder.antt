@@ -4,16 +4,13 @@ use Rattle.std.specs.Prelude.{slice_get}
 use Rattle.mq_core.specs.Came.{came_in}
 use Rattle.mq_core.specs.Laws.{Rises}
 use Rattle.mq_core.specs.SequenceLaws.{FatesAreInTime, SequencesGoByFates}
-use Rattle.mq_core.specs.Sequences.{IsStream, sequence_stream, stream_in_order}
-use Rattle.mq_core.specs.Streams.{sorted}
+use Rattle.mq_core.specs.Sequences.{sequence_stream, stream_in_order}
 use Rattle.mq_core.specs.declared.model.Kind.{Kind}
 use Rattle.mq_core.specs.declared.model.Rows.{Rows}
 use Rattle.mq_core.specs.declared.model.Stream.{Stream}
-use Rattle.mq_core.proofs.lemmas.Orders.{is-sorted}
-use Rattle.mq_merge.proofs.Merging.{by_first-rises}
-use Rattle.mq_stations.specs.Leaving.{AreDepartures, AreServed, AreStreams, IsLoad}
-use Rattle.mq_stations.proofs.lemmas.Leaves.{departs-even, departs-one}
-use Rattle.mq_exits.specs.Afters.{LeaveInTurn}
+use Rattle.mq_stations.specs.Leaving.{AreServed, AreStreams, IsLoad}
+use Rattle.mq_stations.proofs.lemmas.Leaves.{departs-one}
+use Rattle.mq_kinds.specs.Lefts.{LeaveInTurn}
 
 -- those of a kind whose jobs keep their order do
 pub in-turn-served : (rows : Rows) (kind : Kind) (arrivals : Stream) (departs : List ℕ) → AreServed rows kind arrivals departs → LeaveInTurn rows kind arrivals departs
@@ -39,10 +36,3 @@ in-turn-streams fated law rows kind arrivals departs even t =
 pub in-turn-rises : SequencesGoByFates → FatesAreInTime → (rows : Rows) (kind : Kind) (arrivals : Stream) (departs : List ℕ) → IsLoad rows kind arrivals → LeaveInTurn rows kind arrivals departs → Rises (λ a b. a ≤ b) departs
 in-turn-rises fated law rows kind arrivals departs load t =
     subst (λ (stream : Stream). Rises (λ a b. a ≤ b) stream.time) (sym (in-turn-sequence fated law rows kind arrivals departs load.ordered.ordered.even t)) (load.leaves 0).rising
-
--- Where jobs leave by time, and their departures never fall, they leave in the order in which they came.
-pub in-turn-risen : FatesAreInTime → (rows : Rows) (kind : Kind) (arrivals : Stream) (departs : List ℕ) → IsLoad rows kind arrivals → AreDepartures rows kind arrivals departs → ((stream : Stream) → stream_in_order kind stream ≡ sorted stream) → Rises (λ a b. a ≤ b) departs → LeaveInTurn rows kind arrivals departs
-in-turn-risen law rows kind arrivals departs load d by rises =
-    let leaving : Stream = record { job = arrivals.job; time = departs } in
-    let ordered : IsStream leaving = record { even = load.ordered.ordered.even ∙ sym (departs-even law rows kind arrivals departs load d); rising = rises } in
-    (d, by leaving ∙ sym (is-sorted leaving leaving ordered (sym (by_first-rises departs arrivals.job rises))))

@@ -1,17 +1,15 @@
 -- What leaves a node, in emission order.
-use Rattle.std.proofs.Common.{◌≡◌, ℕ, zero, suc, ◌<◌, true, false, List, [], ◌∷◌, length, map, Option, Some, sym, refl, ap, ◌∙◌, subst, arith}
+use Rattle.std.proofs.Common.{◌≡◌, ℕ, zero, suc, ◌<◌, true, List, [], ◌∷◌, length, map, Option, Some, sym, ap, ◌∙◌, subst, arith}
 use Rattle.std.specs.Prelude.{slice_get}
 use Rattle.std.specs.List.{zip}
 use Rattle.mq_core.specs.Fates.{departure_times}
 use Rattle.mq_core.specs.Came.{came_in}
-use Rattle.mq_core.specs.EmissionOrder.{EmissionOrder}
-use Rattle.mq_core.specs.EmissionOrder.EmissionOrder.{ByPosition, Mixed, Overtaking}
 use Rattle.mq_core.specs.Laws.{in_order_of}
 use Rattle.mq_core.specs.Results.{Late, first_of}
 use Rattle.mq_core.specs.SequenceLaws.{FatesAreInTime, SequencesGoByFates, sends_once}
 use Rattle.mq_core.specs.Sequences.{IsStream, sequence_late_from, sequence_stream, stream_in_order, sequence_visits}
 use Rattle.mq_core.specs.OnceOut.{founds_of}
-use Rattle.mq_core.specs.Streams.{by_first, pairs_of, sorted, stream_by}
+use Rattle.mq_core.specs.Streams.{by_first, pairs_of, sorted}
 use Rattle.mq_core.specs.declared.model.Fate.{Fate}
 use Rattle.mq_core.specs.declared.model.Fate.TheVariants.{Departs}
 use Rattle.mq_core.specs.declared.model.Kind.{Kind}
@@ -24,7 +22,6 @@ use Rattle.mq_stats.specs.Ahead.{departure_order}
 use Rattle.mq_stations.specs.Leaving.{AreDepartures, AreLeft, AreStreams, KeepsOrder, left_by}
 use Rattle.mq_stations.proofs.lemmas.Leaves.{departs-one}
 use Rattle.mq_exits.specs.Afters.{AreOnTime}
-use Rattle.mq_exits.specs.Exits.{overtaking}
 use Rattle.mq_exits.specs.Results.{IsResult}
 
 -- where the jobs keep their order, what leaves by position is what the sequences say
@@ -34,18 +31,6 @@ kept-streams law rows kind arrivals streams once keeps left =
       count = left.count;
       each = λ out l. left.each out l ∙ ap Some (sym ((law rows kind (came_in arrivals) once).stream out ∙ keeps (left_by rows kind arrivals out)));
     }
-
--- what leaves in an order in which jobs may overtake one another leaves by time
-pub by-time : (order : EmissionOrder) → overtaking order ≡ true → (stream : Stream) → stream_by order stream ≡ sorted stream
-by-time ByPosition h stream = absurd cc
-by-time Mixed h stream = absurd cc
-by-time Overtaking h stream = refl
-
--- what leaves in another keeps its order
-pub by-position : (order : EmissionOrder) → overtaking order ≡ false → (stream : Stream) → stream_by order stream ≡ stream
-by-position ByPosition h stream = refl
-by-position Mixed h stream = refl
-by-position Overtaking h stream = absurd cc
 
 -- what has been seen of a node is what it gives
 pub seen-result : SequencesGoByFates → (net : Network) (rows : Rows) (v : ℕ) (kind : Kind) (arrivals : Stream) (fates : List Fate) (found : List ℕ) (streams : List Stream) → sends_once kind ≡ true → AreOnTime net rows v kind arrivals fates streams → found ≡ founds_of arrivals.time fates →

@@ -5,6 +5,7 @@ pub mod Known
 pub mod Closings
 pub mod InOrder
 pub mod Opening
+pub mod Stations
 pub mod DelayOrder
 pub mod SplitBlocks
 pub mod Founding

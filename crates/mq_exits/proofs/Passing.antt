@@ -1,5 +1,5 @@
 -- That nobody is found where each job leaves when it comes.
-use Rattle.std.proofs.Common.{◌≡◌, ℕ, suc, ◌+◌, ◌≤◌, ◌⊎◌, inl, inr, Bool, false, cond, List, [], ◌∷◌, ◌++◌, map, Some, sym, refl, ap, ◌∙◌, arith}
+use Rattle.std.proofs.Common.{◌≡◌, ℕ, suc, ◌+◌, ◌≤◌, Bool, false, cond, List, [], ◌∷◌, ◌++◌, map, Some, sym, refl, ap, ◌∙◌, arith}
 use Rattle.std.specs.Prelude.{count_by, slice_get}
 use Rattle.std.specs.List.{AllByRecursion as Each}
 use Rattle.std.proofs.lemmas.Bool.Decides.{nat_tests}
@@ -13,8 +13,7 @@ use Rattle.mq_core.specs.Laws.{Rises}
 use Rattle.mq_core.specs.declared.model.Fate.{Fate}
 use Rattle.mq_core.specs.declared.model.Fate.TheVariants.{Departs}
 use Rattle.mq_core.specs.declared.model.Kind.{Kind}
-use Rattle.mq_core.specs.declared.model.Kind.TheVariants.{Source, Split}
-use Rattle.mq_core.specs.declared.model.Route.{Route}
+use Rattle.mq_core.specs.declared.model.Kind.TheVariants.{Source}
 use Rattle.mq_core.specs.declared.model.Rows.{Rows}
 use Rattle.mq_stations.proofs.lemmas.Lists.{Each-get}
 
@@ -38,6 +37,6 @@ none-among before (time ∷ times) h up =
 pub none-found : (times : List ℕ) → Rises (λ a b. a ≤ b) times → founds_of times (map (λ time. Departs time) times) ≡ map (λ _. 0) times
 none-found times up = none-among [] times (λ k time g. tt) up
 
-pub passing-finds_none : (rows : Rows) (kind : Kind) (job arrive : List ℕ) (fates : List Fate) → (kind ≡ Source) ⊎ ((route : Route) × (kind ≡ Split route)) → Rises (λ a b. a ≤ b) arrive → fates ≡ sequence_fates rows kind (came_by job arrive) → founds_of arrive fates ≡ map (λ _. 0) arrive
-passing-finds_none rows kind job arrive fates (inl e) up f = ap (founds_of arrive) (f ∙ ap (λ k. sequence_fates rows k (came_by job arrive)) e) ∙ none-among [] arrive (λ k time g. tt) up
-passing-finds_none rows kind job arrive fates (inr e) up f = ap (founds_of arrive) (f ∙ ap (λ k. sequence_fates rows k (came_by job arrive)) e.1) ∙ none-among [] arrive (λ k time g. tt) up
+-- so at a source
+pub source-finds_none : (rows : Rows) (kind : Kind) (job arrive : List ℕ) (fates : List Fate) → kind ≡ Source → Rises (λ a b. a ≤ b) arrive → fates ≡ sequence_fates rows kind (came_by job arrive) → founds_of arrive fates ≡ map (λ _. 0) arrive
+source-finds_none rows kind job arrive fates e up f = ap (founds_of arrive) (f ∙ ap (λ k. sequence_fates rows k (came_by job arrive)) e) ∙ none-found arrive up

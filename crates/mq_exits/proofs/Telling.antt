@@ -8,7 +8,7 @@ use Rattle.mq_core.specs.declared.refusals.PastFault.{PastFault}
 use Rattle.mq_exits.specs.Exits.{IsSettledPiece, IsShut}
 use Rattle.mq_exits.specs.declared.settling.Faring.{Faring}
 use Rattle.mq_exits.specs.declared.exits.Closed.{Closed}
-use Rattle.mq_exits.specs.declared.exits.Closed.TheVariants.{Departures, Fared, Found, Jobs, Late, Streams, Times}
+use Rattle.mq_exits.specs.declared.exits.Closed.TheVariants.{Fared, Found, Jobs, Late, Streams, Times}
 
 pub some-last : (is : ℕ → Closed → Type 0) (n : ℕ) (group : List Closed) → AreAll is (suc n) group → 1 ≤ length group
 some-last is n group all = let count = all.len in omega arith
@@ -19,7 +19,6 @@ module _ (plan : Plan) (rows : Rows) (v : ℕ) (arrivals : Stream) (departs : Li
   shut-left (Late past) h = inr (past, refl)
   shut-left (Found found) h = let no = h.0 in absurd (omega arith)
   shut-left (Jobs jobs) h = let no = h.0 in absurd (omega arith)
-  shut-left (Departures times) h = let no = h.0 in absurd (omega arith)
   shut-left _ h = absurd h
 
   pub shut-founds : (closed : Closed) → IsShut plan rows v arrivals departs 1 closed → (found : List ℕ) × (closed ≡ Found found)
@@ -27,7 +26,6 @@ module _ (plan : Plan) (rows : Rows) (v : ℕ) (arrivals : Stream) (departs : Li
   shut-founds (Late past) h = let no = h.0 in absurd (omega arith)
   shut-founds (Found found) h = (found, refl)
   shut-founds (Jobs jobs) h = let no = h.0 in absurd (omega arith)
-  shut-founds (Departures times) h = let no = h.0 in absurd (omega arith)
   shut-founds _ h = absurd h
 
   pub shut-jobs : (closed : Closed) → IsShut plan rows v arrivals departs 2 closed → (jobs : List ℕ) × (closed ≡ Jobs jobs)
@@ -35,16 +33,7 @@ module _ (plan : Plan) (rows : Rows) (v : ℕ) (arrivals : Stream) (departs : Li
   shut-jobs (Late past) h = let no = h.0 in absurd (omega arith)
   shut-jobs (Found found) h = let no = h.0 in absurd (omega arith)
   shut-jobs (Jobs jobs) h = (jobs, refl)
-  shut-jobs (Departures times) h = let no = h.0 in absurd (omega arith)
   shut-jobs _ h = absurd h
-
-  pub shut-departures : (closed : Closed) → IsShut plan rows v arrivals departs 3 closed → (times : List ℕ) × (closed ≡ Departures times)
-  shut-departures (Times times) h = let no = h.0 in absurd (omega arith)
-  shut-departures (Late past) h = let no = h.0 in absurd (omega arith)
-  shut-departures (Found found) h = let no = h.0 in absurd (omega arith)
-  shut-departures (Jobs jobs) h = let no = h.0 in absurd (omega arith)
-  shut-departures (Departures times) h = (times, refl)
-  shut-departures _ h = absurd h
 
 -- the same of a station that admits or loses each arrival
 module _ (plan : Plan) (rows : Rows) (v : ℕ) (arrivals : Stream) where

@@ -3,7 +3,7 @@ use Rattle.std.specs.Prelude.{◌≡◌, ℕ, List, map, Some, None, slice_get}
 use Rattle.mq_core.specs.Came.{came_in}
 use Rattle.mq_core.specs.OnceOut.{founds_of}
 use Rattle.mq_core.specs.Results.{first_of}
-use Rattle.mq_core.specs.Sequences.{sequence_fates, sequence_late_from, stream_in_order}
+use Rattle.mq_core.specs.Sequences.{sequence_fates, sequence_late_from}
 use Rattle.mq_core.specs.declared.model.Fate.{Fate}
 use Rattle.mq_core.specs.declared.model.Fate.TheVariants.{Departs}
 use Rattle.mq_core.specs.declared.model.Kind.{Kind}
@@ -13,14 +13,13 @@ use Rattle.mq_core.specs.declared.model.Plan.{Plan}
 use Rattle.mq_core.specs.declared.model.Rows.{Rows}
 use Rattle.mq_core.specs.declared.model.Stream.{Stream}
 use Rattle.mq_stations.specs.Late.{late_told}
-use Rattle.mq_stations.specs.Leaving.{AreDepartures, AreServed, AreSettled, AreStreams}
+use Rattle.mq_stations.specs.Leaving.{AreSettled, AreStreams}
 use Rattle.mq_rounds.specs.declared.settled.Settled.{Settled}
+use Rattle.mq_kinds.specs.Lefts.{LeaveInTurn}
 use Rattle.mq_exits.specs.declared.settling.Faring.{Faring}
 use Rattle.mq_exits.specs.declared.settling.Faring.TheVariants.{Late, OnTime}
 use Rattle.mq_exits.specs.declared.working.After.{After}
 use Rattle.mq_exits.specs.declared.working.After.TheVariants.{Missed, Seen}
-use Rattle.mq_exits.specs.declared.working.Worked.{Worked}
-use Rattle.mq_exits.specs.declared.working.Worked.TheVariants.{Departed, Finished, Sent, Settled as TheSettled}
 
 -- the fates of the arrivals at a node of this kind, none of them late, and what leaves by each output
 pub record AreOnTime (net : Network) (rows : Rows) (v : ℕ) (kind : Kind) (arrivals : Stream) (fates : List Fate) (streams : List Stream) : Type 0 where
@@ -51,32 +50,10 @@ IsFaring net rows v kind arrivals (Late fault) =
 abbrev pub AreSettledAt : Plan → Rows → ℕ → Stream → Settled → Type 0
 AreSettledAt plan rows v arrivals settled = (node : Node) → slice_get plan.net.nodes v ≡ Some node → AreSettled rows node.kind arrivals settled
 
--- the jobs of a station of the plan depart at these times, by position
-abbrev pub AreDeparturesAt : Plan → Rows → ℕ → Stream → List ℕ → Type 0
-AreDeparturesAt plan rows v arrivals departs = (node : Node) → slice_get plan.net.nodes v ≡ Some node → AreDepartures rows node.kind arrivals departs
-
 -- all jobs of a station of the plan depart, at these times, by position
 abbrev pub AllDepartAt : Plan → Rows → ℕ → Stream → List ℕ → Type 0
 AllDepartAt plan rows v arrivals departs = (node : Node) → slice_get plan.net.nodes v ≡ Some node → sequence_fates rows node.kind (came_in arrivals) ≡ map (λ time. Departs time) departs
 
--- the jobs of a station of this kind depart at these times, by position, and leave in the order in which they came
-abbrev pub LeaveInTurn : Rows → Kind → Stream → List ℕ → Type 0
-LeaveInTurn rows kind arrivals departs =
-    let leaving : Stream = record { job = arrivals.job; time = departs } in
-    AreDepartures rows kind arrivals departs × (stream_in_order kind leaving ≡ leaving)
-
--- those of a station of the plan do
+-- the jobs of a station of the plan depart at these times, by position, and leave in the order in which they came
 abbrev pub IsServed : Plan → Rows → ℕ → Stream → List ℕ → Type 0
 IsServed plan rows v arrivals departs = (node : Node) → slice_get plan.net.nodes v ≡ Some node → LeaveInTurn rows node.kind arrivals departs
-
--- what one piece tells of a node of this kind: what becomes of its arrivals; when its jobs depart, which may be as they come; or which
--- are admitted and when those depart
-abbrev pub IsWorked : Network → Rows → ℕ → Kind → Stream → Worked → Type 0
-IsWorked net rows v kind arrivals (Finished after) = IsAfter net rows v kind arrivals after
-IsWorked net rows v kind arrivals (Departed departs) = AreDepartures rows kind arrivals departs
-IsWorked net rows v kind arrivals (TheSettled settled) = AreSettled rows kind arrivals settled
-IsWorked net rows v kind arrivals Sent = AreServed rows kind arrivals arrivals.time
-
--- the same at a node of the plan
-abbrev pub IsWorkedAt : Plan → Rows → ℕ → Stream → Worked → Type 0
-IsWorkedAt plan rows v arrivals worked = (node : Node) → slice_get plan.net.nodes v ≡ Some node → IsWorked plan.net rows v node.kind arrivals worked

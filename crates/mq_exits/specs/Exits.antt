@@ -1,17 +1,12 @@
 -- What is known of a station when all its jobs have left, and its last pieces.
 -- A table's last row `_ = ⊥` gathers all that can't be: a function that gives something without a row of its own isn't proved.
-use Rattle.std.specs.Prelude.{◌≡◌, ◌+◌, ◌*◌, ◌<◌, ℕ, Bool, true, false, List, [], ◌∷◌, length, map, min, Some, None, slice_get}
+use Rattle.std.specs.Prelude.{◌≡◌, ◌+◌, ◌*◌, ◌<◌, ℕ, List, [], ◌∷◌, length, map, min, Some, None, slice_get}
 use Rattle.mq_base.specs.Lists.{between}
 use Rattle.mq_core.specs.Came.{came_in}
-use Rattle.mq_core.specs.EmissionOrder.{EmissionOrder}
-use Rattle.mq_core.specs.EmissionOrder.EmissionOrder.{ByPosition, Mixed, Overtaking}
-use Rattle.mq_core.specs.KindTable.{behaviour_of}
 use Rattle.mq_core.specs.OnceOut.{founds_of}
 use Rattle.mq_core.specs.Results.{first_of}
-use Rattle.mq_core.specs.Sequences.{sequence_fates, sequence_late_from, stream_in_order}
-use Rattle.mq_core.specs.Streams.{sorted}
+use Rattle.mq_core.specs.Sequences.{sequence_fates, sequence_late_from}
 use Rattle.mq_core.specs.declared.model.Fate.TheVariants.{Departs}
-use Rattle.mq_core.specs.declared.model.Kind.{Kind}
 use Rattle.mq_core.specs.declared.model.Node.{Node}
 use Rattle.mq_core.specs.declared.model.Plan.{Plan}
 use Rattle.mq_core.specs.declared.model.Rows.{Rows}
@@ -24,29 +19,21 @@ use Rattle.mq_stations.specs.Scans.{AreFewBlocks}
 use Rattle.mq_merge.specs.Borrowed.{stream_in}
 use Rattle.mq_merge.specs.declared.arrivals.Arrivals.{Arrivals}
 use Rattle.mq_merge.specs.declared.arrivals.Arrivals.TheVariants.{Merged, Read}
+use Rattle.mq_kinds.specs.Lefts.{IsLeft}
+use Rattle.mq_kinds.specs.declared.pieces.Left.{Left}
 use Rattle.mq_exits.specs.Afters.{AreOnTime, AreSettledAt, IsAfterAt, IsFaring, IsServed}
 use Rattle.mq_exits.specs.Loads.{IsReadyLoad}
 use Rattle.mq_exits.specs.Splits.{AreSplitStreams}
 use Rattle.mq_exits.specs.declared.exits.Closed.{Closed}
-use Rattle.mq_exits.specs.declared.exits.Closed.TheVariants.{Came, Departures, Fared, Found, Jobs, Late, Streams, Times}
+use Rattle.mq_exits.specs.declared.exits.Closed.TheVariants.{Came, Fared, Found, Jobs, Late, Streams, Times}
 use Rattle.mq_exits.specs.declared.exits.Emptied.{Emptied}
 use Rattle.mq_exits.specs.declared.exits.Completion.{Completion}
-use Rattle.mq_exits.specs.declared.exits.Completion.TheVariants.{Known, Passed, Sent, Served, Settled, Sorted}
+use Rattle.mq_exits.specs.declared.exits.Completion.TheVariants.{Known, Passed, Served, Settled, Sorted}
 use Rattle.mq_exits.specs.declared.overtaking.Overtaken.{Overtaken}
 
--- whether jobs that leave in this order may overtake one another
-abbrev pub overtaking : EmissionOrder → Bool
-overtaking ByPosition = false
-overtaking Mixed = false
-overtaking Overtaking = true
-
--- whether jobs that leave a node of this kind may
-abbrev pub may_overtake : Kind → Bool
-may_overtake kind = overtaking (behaviour_of kind).order
-
--- jobs that leave a node of the plan do so by time
-abbrev pub Overtakes : Plan → ℕ → Type 0
-Overtakes plan v = (node : Node) → slice_get plan.net.nodes v ≡ Some node → (stream : Stream) → stream_in_order node.kind stream ≡ sorted stream
+-- this leaves a station of the plan
+abbrev pub IsLeftAt : Plan → Rows → ℕ → Stream → Left → Type 0
+IsLeftAt plan rows v arrivals left = (node : Node) → slice_get plan.net.nodes v ≡ Some node → IsLeft rows node.kind arrivals left
 
 -- the table of a delay is that of these arrivals, which are in its blocks, 16,384 at most
 pub record IsCounted (arrivals : Stream) (overtaken : Overtaken) : Type 0 where
@@ -65,7 +52,6 @@ IsCompletion plan rows v arrivals (Served departs) = IsServed plan rows v arriva
 IsCompletion plan rows v arrivals (Sorted overtaken) = IsOvertaken plan rows v arrivals overtaken
 IsCompletion plan rows v arrivals (Settled settled) = AreSettledAt plan rows v arrivals settled
 IsCompletion plan rows v arrivals (Passed streams) = AreSplitStreams plan rows v arrivals streams
-IsCompletion plan rows v arrivals Sent = IsServed plan rows v arrivals arrivals.time
 
 -- how many last pieces a station has by what is known of it
 abbrev pub closings_of : Completion → ℕ
@@ -74,9 +60,8 @@ closings_of (Served departs) = 3
 closings_of (Sorted overtaken) = overtaken.blocks.blocks
 closings_of (Settled settled) = 2
 closings_of (Passed streams) = 2
-closings_of Sent = 4
 
--- a last piece: these departures, none of them late, or the first that is; how many each found; the jobs; or the departures, late or not
+-- a last piece: these departures, none of them late, or the first that is; how many each found; or the jobs
 abbrev pub IsShut : Plan → Rows → ℕ → Stream → List ℕ → ℕ → Closed → Type 0
 IsShut plan rows v arrivals departs b (Times times) =
     (b ≡ 0) × (times ≡ departs)
@@ -86,7 +71,6 @@ IsShut plan rows v arrivals departs b (Late fault) =
     × ((node : Node) → slice_get plan.net.nodes v ≡ Some node → first_of (sequence_late_from plan.net.bound v 0 (sequence_fates rows node.kind (came_in arrivals))) ≡ Some (late_told fault))
 IsShut plan rows v arrivals departs b (Found found) = (b ≡ 1) × (found ≡ founds_of arrivals.time (map (λ time. Departs time) departs))
 IsShut plan rows v arrivals departs b (Jobs jobs) = (b ≡ 2) × (jobs ≡ arrivals.job)
-IsShut plan rows v arrivals departs b (Departures times) = (b ≡ 3) × (times ≡ departs)
 IsShut _ _ _ _ _ _ _ = ⊥
 
 -- what each of these arrivals found, where they depart at these times
@@ -120,7 +104,6 @@ IsClosed plan rows v arrivals (Served departs) b closed = IsShut plan rows v arr
 IsClosed plan rows v arrivals (Sorted overtaken) b closed = IsDelayPiece arrivals overtaken b closed
 IsClosed plan rows v arrivals (Settled settled) b closed = IsSettledPiece plan rows v arrivals b closed
 IsClosed plan rows v arrivals (Passed streams) b closed = IsShut plan rows v arrivals arrivals.time b closed
-IsClosed plan rows v arrivals Sent b closed = IsShut plan rows v arrivals arrivals.time b closed
 IsClosed _ _ _ _ _ _ _ = ⊥
 
 -- how many last pieces copy what came: the visits need jobs and times of their own where it was only read

@@ -3,12 +3,14 @@ use Rattle.std.specs.Prelude.{◌≡◌, ◌≤◌, ℕ, List, Contains, Some, s
 use Rattle.mq_core.specs.SequenceLaws.{arrives_of, jobs_of, sends_once}
 use Rattle.mq_core.specs.StandardTable.{run_of}
 use Rattle.mq_core.specs.Theorems.{IsReadFor}
+use Rattle.mq_core.specs.declared.model.Kind.{Kind}
 use Rattle.mq_core.specs.declared.model.Node.{Node}
 use Rattle.mq_core.specs.declared.model.Plan.{Plan}
 use Rattle.mq_core.specs.declared.model.Rows.{Rows}
 use Rattle.mq_core.specs.declared.model.Stream.{Stream}
 use Rattle.mq_stations.specs.Leaving.{IsLoad}
 use Rattle.mq_merge.specs.Borrowed.{stream_in}
+use Rattle.mq_kinds.specs.declared.pieces.Load.{Load as StationLoad}
 use Rattle.mq_exits.specs.declared.load.Held.{Held}
 use Rattle.mq_exits.specs.declared.load.Load.{Load}
 
@@ -24,6 +26,19 @@ pub record IsLoaded (plan : Plan) (rows : Rows) (v : ℕ) (arrivals : Stream) : 
   pub once : sends_once node.kind ≡ true
   pub came : IsArrived plan rows v arrivals
   pub load : IsLoad rows node.kind arrivals
+
+-- what a station needs: rows, its kind, and what comes to it
+abbrev pub Needs : Type 0
+Needs = Rows × Kind × Stream
+
+abbrev pub needs_of : StationLoad → Needs
+needs_of load = (load.rows.now, load.kind.now, load.arrivals.now)
+
+-- what a station of the plan needs to be computed from these arrivals
+pub record IsStationOf (plan : Plan) (rows : Rows) (v : ℕ) (arrivals : Stream) (load : StationLoad) : Type 0 where
+  pub node : Node
+  pub there : slice_get plan.net.nodes v ≡ Some node
+  pub same : needs_of load ≡ (rows, node.kind, arrivals)
 
 -- what a load tells: a plan, rows, a node, and what comes to it
 abbrev pub Told : Type 0

@@ -16,7 +16,7 @@ use crate::load::{Held, Load};
 use crate::overtaking::Overtaken;
 use crate::settling::{Faring, after_settled, settled_piece};
 use crate::splitting::{passed, passed_of};
-use crate::taking::{departures_in, founds_in, jobs_in, last_of, left_in};
+use crate::taking::{founds_in, jobs_in, last_of, left_in};
 use crate::working::{After, NodeResult, ending_of, found_by_position, nobody, on_time};
 use mq_base::{List, OutOfMemory};
 use mq_core::{Kind, PastFault, Stream, fates_are_in_time, sequences_go_by_fates};
@@ -38,8 +38,6 @@ pub enum Completion {
     Settled(Settled),
     /// What leaves by each output, where they depart as they come.
     Passed(List<Stream>),
-    /// That they depart as they come, by one output.
-    Sent,
 }
 
 /// A station whose departures are known.
@@ -61,8 +59,6 @@ pub enum Closed {
     Found(List<u32>),
     /// The jobs, as they leave, or by position, as the visits keep them.
     Jobs(List<u32>),
-    /// When the jobs depart, by position, as the visits keep it.
-    Departures(List<u64>),
     /// When they came, by position, as the visits keep it.
     Came(List<u64>),
     /// How the arrivals fared, where some may be lost.
@@ -104,7 +100,6 @@ fn closings(completion: &Completion) -> u32
         Completion::Sorted(overtaken) => overtaken.blocks.blocks,
         Completion::Settled(_) => 2,
         Completion::Passed(_) => 2,
-        Completion::Sent => 4,
     }
 }
 
@@ -125,7 +120,6 @@ fn closed_of(
         Completion::Sorted(overtaken) => delay_piece(alloc, load.arrivals, overtaken, b),
         Completion::Settled(settled) => settled_piece(alloc, load, settled, b),
         Completion::Passed(_) => passed_of(alloc, load, b),
-        Completion::Sent => sent_piece(alloc, load, b),
         _ => unreachable!(),
     }
 }
@@ -152,22 +146,6 @@ fn closing_of(
     }
     let jobs = Vec::from_slice(alloc, load.arrivals.job.as_slice())?;
     Ok(Closed::Jobs(List::from_vec(jobs)))
-}
-
-// A last piece of a station whose jobs depart as they come: its departures are a piece too, since they are what
-// came.
-fn sent_piece(alloc: Global, load: &Load, b: u32) -> Result<Closed, OutOfMemory>
-    requires loaded { IsLoaded load.now.plan.now load.now.rows.now load.now.number load.now.arrivals.now }
-    requires served { IsServed load.now.plan.now load.now.rows.now load.now.number load.now.arrivals.now load.now.arrivals.now.time }
-    requires inside { b < 4 }
-    ensures { IfOk result (λ closed. IsShut load.now.plan.now load.now.rows.now load.now.number load.now.arrivals.now load.now.arrivals.now.time b closed) }
-{
-    let times = &load.arrivals.time;
-    if b < 3 {
-        return closing_of(alloc, load, times, b);
-    }
-    let departs = Vec::from_slice(alloc, times.as_slice())?;
-    Ok(Closed::Departures(List::from_vec(departs)))
 }
 
 // When the jobs leave that depart so, where these times never fall, or the first departure that is after
@@ -268,20 +246,7 @@ fn after_of(
             Ok(after_settled(load, group))
         }
         Completion::Passed(streams) => Ok(passed(load, group, streams)),
-        Completion::Sent => sent(alloc, load, group),
     }
-}
-
-// What becomes of the arrivals at a station whose jobs depart as they come, of its last pieces.
-fn sent(alloc: Global, load: &Load, group: List<Closed>) -> Result<After, OutOfMemory>
-    requires loaded { IsLoaded load.now.plan.now load.now.rows.now load.now.number load.now.arrivals.now }
-    requires served { IsServed load.now.plan.now load.now.rows.now load.now.number load.now.arrivals.now load.now.arrivals.now.time }
-    requires group { AreAll (IsShut load.now.plan.now load.now.rows.now load.now.number load.now.arrivals.now load.now.arrivals.now.time) 4 group }
-    ensures { IfOk result (λ after. IsAfterAt load.now.plan.now load.now.rows.now load.now.number load.now.arrivals.now after) }
-{
-    let mut group = group.into_vec();
-    let departs = departures_in(last_of(&mut group));
-    opened(alloc, load, List::from_vec(group), departs)
 }
 
 // What becomes of the arrivals at a station whose jobs leave in their order, of its last pieces and the

@@ -27,16 +27,15 @@ mod working;
 
 use crate::exits::result_of;
 pub use exits::{Closed, Completion, Emptied};
-pub use load::{Held, Load};
+pub use load::{Held, Load, station_of};
 use mq_base::{List, OutOfMemory};
 use mq_crew::{Crew, Gate};
-pub use overtaking::{Overtaken, left_by};
+pub use overtaking::{Overtaken, completion_of};
 pub use settling::Faring;
-pub use splitting::{parted, routed};
 use std::alloc::Global;
 use std::thread::Threads;
 pub use turns::{Given, InTurn, finished, given_of, with_ended};
-pub use working::{After, Ending, NodeResult, Worked, nobody, station_whole};
+pub use working::{After, Ending, NodeResult, nobody};
 
 /// What these stations give, at most 64 of them, in some order: of each its visits and what leaves it by each output,
 /// or its first visit that departs after the bound.

@@ -1,8 +1,9 @@
 // What comes to a node.
-ghost use Rattle.std.specs.Prelude.{◌≡◌};
-ghost use Rattle.mq_exits.specs.Loads.{told_by, told_of};
+ghost use Rattle.std.specs.Prelude.{◌≡◌, ◌≤◌};
+ghost use Rattle.mq_exits.specs.Loads.{IsLoaded, IsStationOf, told_by, told_of};
 
 use mq_core::{Plan, Rows, Stream};
+use mq_kinds::Load as StationLoad;
 use mq_merge::Arrivals;
 
 /// What comes to a node of a plan, of which its station is worked out.
@@ -43,5 +44,26 @@ impl<'a> Held<'a> {
             arrivals: self.arrivals.stream(),
             block: self.block,
         }
+    }
+}
+
+/// Returns what a station of the plan needs to be computed from these arrivals.
+pub fn station_of<'r, 's>(
+    plan: &'r Plan,
+    rows: &'r Rows,
+    number: u32,
+    arrivals: &'s Stream,
+    block: u32,
+) -> StationLoad<'r, 's>
+    requires loaded { IsLoaded plan.now rows.now number arrivals.now }
+    requires some { 1 ≤ block }
+    ensures { IsStationOf plan.now rows.now number arrivals.now result }
+{
+    let kind = &plan.net.nodes.get(number as usize).kind;
+    StationLoad {
+        rows,
+        kind,
+        arrivals,
+        block,
     }
 }

@@ -16,13 +16,14 @@ ghost use Rattle.mq_stations.specs.Leaving.{AreStreams, IsLoad};
 use crate::exits::Closed;
 use crate::load::Load;
 use crate::taking::{faring_in, last_of, streams_in};
-use crate::working::{After, found_at};
+use crate::working::After;
 use mq_base::{List, OutOfMemory};
 use mq_core::{
     Fate, Fates, Kind, Network, PastFault, Rows, Stream, fates_are_in_time, sequences_go_by_fates,
 };
 use mq_rounds::Settled;
 use mq_stations::{fates_by_admission, first_late, settled_streams};
+use mq_stats::found;
 use std::alloc::Global;
 
 /// How the arrivals at a node fared.
@@ -58,7 +59,7 @@ pub fn faring_of(
         }
         None => {
             let fates = Fates::each(fates);
-            match found_at(alloc, rows, kind, arrivals, &fates) {
+            match found(alloc, &arrivals.time, &fates) {
                 Ok(found) => Ok(Faring::OnTime(fates, found)),
                 Err(fault) => {
                     drop(fates);

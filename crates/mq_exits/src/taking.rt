@@ -1,6 +1,6 @@
 // Last pieces, taken off the back of those of a station, and what they tell.
 ghost use Rattle.std.specs.Prelude.{◌≡◌, ◌≤◌, ◌⊎◌, ℕ, List as Items, [], ◌∷◌, ◌++◌, length, MatchResult};
-ghost use Rattle.mq_exits.specs.declared.exits.Closed.TheVariants.{Came, Departures, Fared, Found, Jobs, Late, Streams, Times};
+ghost use Rattle.mq_exits.specs.declared.exits.Closed.TheVariants.{Came, Fared, Found, Jobs, Late, Streams, Times};
 ghost use Rattle.mq_exits.specs.declared.settling.Faring.{Faring as TheFaring};
 ghost use Rattle.mq_core.specs.declared.model.Stream.{Stream as TheStream};
 ghost use Rattle.mq_core.specs.declared.refusals.PastFault.{PastFault as ThePast};
@@ -40,17 +40,6 @@ pub fn founds_in(closed: Closed) -> List<u32>
 {
     match closed {
         Closed::Found(found) => found,
-        _ => unreachable!(),
-    }
-}
-
-// When the jobs depart, of the piece that tells it.
-pub fn departures_in(closed: Closed) -> List<u64>
-    requires { (times : Items ℕ) × (closed ≡ Departures times) }
-    ensures { closed ≡ Departures result }
-{
-    match closed {
-        Closed::Departures(times) => times,
         _ => unreachable!(),
     }
 }

@@ -1,30 +1,21 @@
 // How a node is worked out, from its arrivals to its visits and what leaves it.
 ghost use Rattle.std.specs.Prelude.{◌≡◌, ◌≤◌, ◌∷◌, [], ℕ, length, map, true, IfOk};
-ghost use Rattle.mq_core.specs.Came.{came_in};
 ghost use Rattle.mq_core.specs.SequenceLaws.{sends_once};
-ghost use Rattle.mq_core.specs.Sequences.{IsStream, sequence_fates};
+ghost use Rattle.mq_core.specs.Sequences.{IsStream};
 ghost use Rattle.mq_core.specs.OnceOut.{founds_of};
 ghost use Rattle.mq_core.specs.Laws.{Rises};
 ghost use Rattle.mq_core.specs.declared.model.Fate.TheVariants.{Departs};
 ghost use Rattle.mq_core.specs.declared.model.Kind.{Kind as TheKind};
 ghost use Rattle.mq_core.specs.declared.model.Network.{Network as TheNetwork};
 ghost use Rattle.mq_core.specs.declared.model.Rows.{Rows as TheRows};
-ghost use Rattle.mq_exits.specs.Afters.{IsAfter, IsWorked, IsWorkedAt};
-ghost use Rattle.mq_exits.specs.Loads.{IsLoaded};
+ghost use Rattle.mq_exits.specs.Afters.{IsAfter};
 ghost use Rattle.mq_exits.specs.Results.{IsEnding};
 ghost use Rattle.mq_exits.specs.declared.working.After.TheVariants.{Seen};
-ghost use Rattle.mq_stations.specs.Leaving.{IsLeaving, IsLoad};
 
-use crate::load::Load;
-use crate::settling::{after_faring, faring_of};
 use mq_base::{List, OutOfMemory};
-use mq_core::{
-    Fates, Kind, Network, OverFault, PastFault, Rows, Stream, Visits, fates_are_in_time,
-    sequences_go_by_fates,
-};
-use mq_rounds::Settled;
-use mq_stations::{Left, Outflow, leaving, only};
-use mq_stats::{found, found_piece_in_order};
+use mq_core::{Fates, OverFault, PastFault, Stream, Visits, sequences_go_by_fates};
+use mq_stations::only;
+use mq_stats::found_piece_in_order;
 use std::alloc::Global;
 
 /// A node that was worked out: what it gives.
@@ -56,88 +47,6 @@ pub enum After {
     Missed(PastFault),
 }
 
-/// What one piece tells of a station that is not scanned.
-#[derive(Drop)]
-pub enum Worked {
-    /// What becomes of its arrivals.
-    Finished(After),
-    /// When its jobs depart, by position: none is lost.
-    Departed(List<u64>),
-    /// Which of its arrivals are admitted, and when those depart.
-    Settled(Settled),
-    /// That its jobs depart as they come, by one output.
-    Sent,
-}
-
-/// What one piece tells of a whole station: of a source, that its jobs depart as they come. It refuses for
-/// want of memory alone.
-pub fn station_whole(alloc: Global, load: &Load) -> Result<Worked, OutOfMemory>
-    requires loaded { IsLoaded load.now.plan.now load.now.rows.now load.now.number load.now.arrivals.now }
-    requires some { 1 ≤ load.now.block }
-    ensures { IfOk result (λ worked. IsWorkedAt load.now.plan.now load.now.rows.now load.now.number load.now.arrivals.now worked) }
-{
-    let kind = &load.plan.net.nodes.get(load.number as usize).kind;
-    match kind {
-        Kind::Source => Ok(Worked::Sent),
-        _ => work_out(
-            alloc,
-            &load.plan.net,
-            load.rows,
-            load.number,
-            kind,
-            load.arrivals,
-            load.block,
-        ),
-    }
-}
-
-// What one piece tells of a node of this kind, given its arrivals.
-fn work_out(
-    alloc: Global,
-    net: &Network,
-    rows: &Rows,
-    number: u32,
-    kind: &Kind,
-    arrivals: &Stream,
-    block: u32,
-) -> Result<Worked, OutOfMemory>
-    requires once { sends_once kind.now ≡ true }
-    requires load { IsLoad rows.now kind.now arrivals.now }
-    requires some { 1 ≤ block }
-    ensures { IfOk result (λ worked. IsWorked net.now rows.now number kind.now arrivals.now worked) }
-{
-    match leaving(alloc, rows, kind, arrivals, block)? {
-        Left::Departures(departs) => Ok(Worked::Departed(departs)),
-        Left::Settled(settled) => Ok(Worked::Settled(settled)),
-        Left::Streams(outflow) => seen(alloc, net, rows, number, kind, arrivals, outflow),
-    }
-}
-
-// What becomes of the arrivals at a node of this kind, of their fates and what leaves it.
-fn seen(
-    alloc: Global,
-    net: &Network,
-    rows: &Rows,
-    number: u32,
-    kind: &Kind,
-    arrivals: &Stream,
-    leaving: Outflow,
-) -> Result<Worked, OutOfMemory>
-    requires once { sends_once kind.now ≡ true }
-    requires load { IsLoad rows.now kind.now arrivals.now }
-    requires leaving { IsLeaving rows.now kind.now arrivals.now leaving.fates leaving.streams }
-    ensures { IfOk result (λ worked. IsWorked net.now rows.now number kind.now arrivals.now worked) }
-{
-    let Outflow { fates, streams } = leaving;
-    match faring_of(alloc, net, rows, number, kind, arrivals, fates) {
-        Ok(faring) => Ok(Worked::Finished(after_faring(faring, streams))),
-        Err(fault) => {
-            drop(streams);
-            Err(fault)
-        }
-    }
-}
-
 // How a node ends to which these came.
 pub fn ending_of(arrivals: Stream, after: After) -> Ending
     ensures { (net : TheNetwork) (rows : TheRows) (v : ℕ) (kind : TheKind) → sends_once kind ≡ true → IsAfter net rows v kind arrivals after → IsEnding net rows v kind arrivals result }
@@ -157,27 +66,6 @@ pub fn ending_of(arrivals: Stream, after: After) -> Ending
             drop(arrivals);
             Ending::TooLate(past)
         }
-    }
-}
-
-// How many jobs each visit to a node of this kind found. A split holds none.
-pub fn found_at(
-    alloc: Global,
-    rows: &Rows,
-    kind: &Kind,
-    arrivals: &Stream,
-    fates: &Fates,
-) -> Result<List<u32>, OutOfMemory>
-    requires once { sends_once kind.now ≡ true }
-    requires load { IsLoad rows.now kind.now arrivals.now }
-    requires leave { fates.now ≡ sequence_fates rows.now kind.now (came_in arrivals.now) }
-    ensures { IfOk result (λ found. found ≡ founds_of arrivals.now.time fates.now) }
-{
-    sequences_go_by_fates();
-    fates_are_in_time();
-    match kind {
-        Kind::Split(_) => nobody(alloc, &arrivals.time),
-        _ => found(alloc, &arrivals.time, fates),
     }
 }
 

@@ -7,6 +7,7 @@ pub mod InTurn
 pub mod KeptNodes
 pub mod KeptRuns
 pub mod LastVisits
+pub mod Loading
 pub mod None
 pub mod Numbers
 pub mod Ranks

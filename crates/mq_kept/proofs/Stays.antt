@@ -1,5 +1,5 @@
 -- What stays of a server, a tandem and a fork-join.
-use Rattle.std.proofs.Common.{◌≡◌, ℕ, ◌*◌, ◌++◌, ◌≤◌, List, length, map, take, sym, ap, ◌∙◌, subst, arith}
+use Rattle.std.proofs.Common.{◌≡◌, ℕ, ◌*◌, ◌++◌, ◌≤◌, List, length, map, take, refl, sym, ap, ◌∙◌, subst, arith}
 use Rattle.std.proofs.lemmas.List.{length-map, map-append, take-map}
 use Rattle.mq_alike.specs.Again.{AlikeIsFirst, Coming}
 use Rattle.mq_core.specs.Came.{came_in}
@@ -16,7 +16,8 @@ use Rattle.mq_maxplus.specs.declared.mp.Mp.{Mp}
 use Rattle.mq_redo.proofs.Staying.{kept-many}
 use Rattle.mq_redo.specs.Kept.{IsForkJoinStaying, IsKeptForkJoin, IsKeptServer, IsKeptTandem, IsServerStaying, IsTandemStaying, coming_as}
 use Rattle.mq_redo.specs.Staying.{IsKeptStation}
-use Rattle.mq_stations.specs.Leaving.{AreDepartures}
+use Rattle.mq_kinds.specs.Lefts.{LeaveInTurn}
+use Rattle.mq_kinds.proofs.Loads.{in-turn}
 use Rattle.mq_kept.proofs.LastVisits.{times-back}
 use Rattle.mq_kept.specs.InTurn.{HasTail, IsBehind}
 use Rattle.mq_kept.specs.Carries.{forkjoin_carries, server_carries, tandem_carries}
@@ -59,11 +60,11 @@ module _ (law : AlikeIsFirst) (rows : Rows) (arrivals : Stream) (kind : Kind) (t
       let few = (law kind h.0 (coming_as rows arrivals)).old_few in
       (map time_of_fate stays.fates.now, kept.0, omega arith)
 
-  -- with those behind them they are the departures of all jobs, and what is kept goes by them
+  -- with those behind them they are the departures of all jobs, which leave in turn, and what is kept goes by them
   module _ (behind : Behind) (is : IsBehind kind rows arrivals block stays behind) where
-    pub all-depart : (all : List ℕ) → ((first : List ℕ) → stays.fates.now ≡ map (λ time. Departs time) first → all ≡ take (stays.blocks * block) first ++ behind.times.items) → AreDepartures rows kind arrivals all
+    pub leave-in-turn : (all : List ℕ) → ((first : List ℕ) → stays.fates.now ≡ map (λ time. Departs time) first → all ≡ take (stays.blocks * block) first ++ behind.times.items) → LeaveInTurn rows kind arrivals all
     unfolding first-times
-    all-depart all told = subst (AreDepartures rows kind arrivals) (sym (told first-times.0 first-times.1)) is.served.0
+    leave-in-turn all told = subst (LeaveInTurn rows kind arrivals) (sym (told first-times.0 first-times.1)) (in-turn rows kind kind arrivals (take (stays.blocks * block) first-times.0 ++ behind.times.items) refl is.served)
 
     pub all-kept : IsKeptNode kind (coming_as rows arrivals) block (sequence_fates rows kind (came_in arrivals)) behind.checkpoints
     unfolding first-times

@@ -3,16 +3,18 @@
 ghost use Rattle.std.specs.Prelude.{◌≡◌, ◌+◌, ◌≤◌, Some, length, slice_get, IfOk, OnOk};
 ghost use Rattle.mq_alike.specs.Again.{Coming as TheComing, blocks_in};
 ghost use Rattle.mq_core.specs.Came.{came_in};
-ghost use Rattle.mq_core.specs.Sequences.{sequence_fates};
+ghost use Rattle.mq_core.specs.Sequences.{sequence_fates, stream_in_order};
+ghost use Rattle.mq_core.specs.Streams.{sorted};
 ghost use Rattle.mq_core.specs.declared.model.Kind.TheVariants.{Delay, Split};
 ghost use Rattle.mq_core.specs.declared.model.Node.{Node as TheNode};
-ghost use Rattle.mq_exits.specs.Afters.{IsWorkedAt};
+ghost use Rattle.mq_core.specs.declared.model.Stream.{Stream as TheStream};
 ghost use Rattle.mq_exits.specs.Exits.{IsCompletion};
 ghost use Rattle.mq_exits.specs.Loads.{IsLoaded};
-ghost use Rattle.mq_exits.specs.declared.working.Worked.TheVariants.{Departed};
 ghost use Rattle.mq_kept.specs.InTurn.{HasTail};
 ghost use Rattle.mq_kept.specs.KeptNodes.{IsKeptNode, IsNodeOf, IsStayingNode, blocks_behind};
+ghost use Rattle.mq_kinds.specs.Table.{IsWhole};
 ghost use Rattle.mq_redo.specs.Kept.{coming_as};
+ghost use Rattle.mq_stations.specs.Leaving.{AreDepartures};
 
 use crate::checkpoints::Checkpoints;
 use crate::in_turn::{Behind, behind_first};
@@ -20,7 +22,8 @@ use mq_alike::alike_is_first;
 use mq_base::{List, OutOfMemory, Steps};
 use mq_core::{Demand, Fates, Kind, Route};
 use mq_crew::{Crew, Open};
-use mq_exits::{Completion, Load, Worked, left_by, station_whole};
+use mq_exits::{Completion, Load, completion_of, station_of};
+use mq_kinds::{delay_left, station_whole};
 use mq_redo::{all_departures, blocks_hold, delayed_again, routed_again};
 use mq_scan::cut;
 use std::alloc::Global;
@@ -65,7 +68,7 @@ pub fn work_again<R: Threads + Sync, L: Ledger>(
 {
     match &load.plan.net.nodes.get(load.number as usize).kind {
         Kind::Server(_) | Kind::Tandem(_) | Kind::ForkJoin(_) => {
-            in_turn_again(crew, load, stays, steps)
+            in_turn_again(crew.alloc, load, stays, steps)
         }
         Kind::Delay(demand) => delay_again(crew, load, demand, stays, steps),
         Kind::Split(route) => split_again(crew.alloc, load, route, stays, steps),
@@ -76,8 +79,8 @@ pub fn work_again<R: Threads + Sync, L: Ledger>(
 }
 
 // Redoes a server, a tandem or a fork-join.
-fn in_turn_again<R: Threads + Sync, L: Ledger>(
-    crew: &Crew<R, Open>,
+fn in_turn_again<L: Ledger>(
+    alloc: Global,
     load: &Load,
     stays: &Stays,
     steps: &mut Steps<L>,
@@ -94,9 +97,12 @@ fn in_turn_again<R: Threads + Sync, L: Ledger>(
     ensures counted { OnOk result (steps.new + stays.now.blocks ≡ steps.old + blocks_in load.now.block (length load.now.arrivals.now.job)) }
 {
     alike_is_first();
-    let Behind { times, checkpoints } = behind_first(crew.alloc, load, stays, steps)?;
-    match all_departures(crew.alloc, stays.fates, stays.blocks * load.block, times) {
-        Ok(times) => departed(crew, load, times, checkpoints),
+    let Behind { times, checkpoints } = behind_first(alloc, load, stays, steps)?;
+    match all_departures(alloc, stays.fates, stays.blocks * load.block, times) {
+        Ok(times) => Ok(Reworked {
+            completion: Completion::Served(List::from_vec(times)),
+            checkpoints,
+        }),
         Err(fault) => {
             drop(checkpoints);
             Err(fault)
@@ -139,23 +145,7 @@ fn delay_again<R: Threads + Sync, L: Ledger>(
         steps,
     )?;
     let checkpoints = Checkpoints::Delay(List::from_vec(done.carries));
-    departed(crew, load, done.times, checkpoints)
-}
-
-// Returns what is known of a station whose jobs depart at these times, in ticks, with its checkpoints.
-fn departed<R: Threads + Sync>(
-    crew: &Crew<R, Open>,
-    load: &Load,
-    times: Vec<u64>,
-    checkpoints: Checkpoints,
-) -> Result<Reworked, OutOfMemory>
-    requires loaded { IsLoaded load.now.plan.now load.now.rows.now load.now.number load.now.arrivals.now }
-    requires some { 1 ≤ load.now.block }
-    requires worked { IsWorkedAt load.now.plan.now load.now.rows.now load.now.number load.now.arrivals.now (Departed times.items) }
-    ensures completion { IfOk result (λ r. IsCompletion load.now.plan.now load.now.rows.now load.now.number load.now.arrivals.now r.completion) }
-    ensures checkpoints { IfOk result (λ r. r.checkpoints ≡ checkpoints) }
-{
-    match left_by(crew, load, Worked::Departed(List::from_vec(times))) {
+    match delay_completion(crew, load, List::from_vec(done.times)) {
         Ok(completion) => Ok(Reworked {
             completion,
             checkpoints,
@@ -165,6 +155,23 @@ fn departed<R: Threads + Sync>(
             Err(fault)
         }
     }
+}
+
+// Returns what is known of a delay whose jobs depart at these times, in ticks, by position.
+fn delay_completion<R: Threads + Sync>(
+    crew: &Crew<R, Open>,
+    load: &Load,
+    departs: List<u64>,
+) -> Result<Completion, OutOfMemory>
+    requires loaded { IsLoaded load.now.plan.now load.now.rows.now load.now.number load.now.arrivals.now }
+    requires some { 1 ≤ load.now.block }
+    requires overtake { (node : TheNode) → slice_get load.now.plan.now.net.nodes load.now.number ≡ Some node → (stream : TheStream) → stream_in_order node.kind stream ≡ sorted stream }
+    requires departs { (node : TheNode) → slice_get load.now.plan.now.net.nodes load.now.number ≡ Some node → AreDepartures load.now.rows.now node.kind load.now.arrivals.now departs }
+    ensures { IfOk result (λ completion. IsCompletion load.now.plan.now load.now.rows.now load.now.number load.now.arrivals.now completion) }
+{
+    let station = station_of(load.plan, load.rows, load.number, load.arrivals, load.block);
+    let left = delay_left(crew, &station, departs)?;
+    completion_of(crew, load, left)
 }
 
 // Redoes a split.
@@ -217,10 +224,12 @@ fn worked_anew<R: Threads + Sync>(
 ) -> Result<Reworked, OutOfMemory>
     requires loaded { IsLoaded load.now.plan.now load.now.rows.now load.now.number load.now.arrivals.now }
     requires some { 1 ≤ load.now.block }
+    requires whole { (node : TheNode) → slice_get load.now.plan.now.net.nodes load.now.number ≡ Some node → IsWhole node.kind }
     ensures completion { IfOk result (λ r. IsCompletion load.now.plan.now load.now.rows.now load.now.number load.now.arrivals.now r.completion) }
 {
-    let worked = station_whole(crew.alloc, load)?;
-    let completion = left_by(crew, load, worked)?;
+    let station = station_of(load.plan, load.rows, load.number, load.arrivals, load.block);
+    let left = station_whole(crew.alloc, &station)?;
+    let completion = completion_of(crew, load, left)?;
     Ok(Reworked {
         completion,
         checkpoints: Checkpoints::Nothing,

@@ -16,6 +16,7 @@ use mq_asked::{Asked, all_asked_of};
 use mq_base::{List, OutOfMemory, Steps};
 use mq_core::{Demand, Rows, Stage, Stream};
 use mq_scan::{Blocks, Step, cut};
+use mq_stations::{stage_demands, stage_places};
 use mq_tandem::{Latest, TandemStep};
 use std::alloc::Global;
 use std::sync::ledger::Ledger;
@@ -108,26 +109,4 @@ fn staged_last<L: Ledger>(
     let step = TandemStep::new(behind, demands, places);
     let carry = carry_before(carries, first, step.first());
     redone_last(alloc, &step, &cut(step.count(), blocks.block), carry, steps)
-}
-
-// Returns what each stage asks for.
-fn stage_demands(alloc: Global, stages: &List<Stage>) -> Result<List<Demand>, OutOfMemory>
-    ensures { IfOk result (λ asked. asked ≡ map (λ stage. stage.demand) stages.now) }
-{
-    let mut asked = List::new(alloc);
-    for at in 0..stages.len() {
-        asked.push(stages.get(at).demand)?;
-    }
-    Ok(asked)
-}
-
-// Returns the number of jobs that each stage can hold.
-fn stage_places(alloc: Global, stages: &List<Stage>) -> Result<List<u8>, OutOfMemory>
-    ensures { IfOk result (λ places. places ≡ places_of stages.now) }
-{
-    let mut places = List::new(alloc);
-    for at in 0..stages.len() {
-        places.push(stages.get(at).places)?;
-    }
-    Ok(places)
 }

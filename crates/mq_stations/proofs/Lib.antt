@@ -2,4 +2,3 @@ pub mod lemmas
 mod LossFates
 mod TrunkFates
 mod FirstLate
-mod SplitBlocks

@@ -1,9 +1,7 @@
 -- What becomes of the arrivals at a loss station.
-use Rattle.std.proofs.Common.{◌≡◌, ℕ, zero, suc, ◌+◌, ◌<◌, ◌≤◌, Bool, true, false, not, List, [], ◌∷◌, ◌++◌, length, get_or, drop, map, Some, sym, refl, ap, ◌∙◌, arith, append_assoc, drop-cons, inl, length-append}
-use Rattle.std.specs.Prelude.{IsTrue, nat_le, slice_get}
+use Rattle.std.proofs.Common.{◌≡◌, ℕ, zero, suc, ◌+◌, ◌<◌, ◌≤◌, Bool, true, false, not, List, [], ◌∷◌, ◌++◌, length, get_or, drop, map, Some, sym, refl, ap, ◌∙◌, arith, append_assoc, drop-cons, length-append}
+use Rattle.std.specs.Prelude.{slice_get}
 use Rattle.std.specs.List.{AllByRecursion as Each}
-use Rattle.std.proofs.lemmas.Bool.{and_parts}
-use Rattle.std.proofs.lemmas.Bool.Decides.{nat_tests}
 use Rattle.std.proofs.lemmas.List.{append-nil, drop_all, length-map}
 use Rattle.mq_base.proofs.lemmas.Lists.{drop_suc}
 use Rattle.mq_core.specs.Fates.{departure_times}
@@ -13,9 +11,6 @@ use Rattle.mq_core.specs.Sequences.{sequence_fates}
 use Rattle.mq_core.specs.OnceOut.{leaving_times, out_of_fate}
 use Rattle.mq_core.specs.Streams.{picked}
 use Rattle.mq_core.specs.Handling.{demand_of_job}
-use Rattle.mq_core.specs.Recurrences.{loss_fates}
-use Rattle.mq_core.specs.Ranges.{is_sound_demand, is_within}
-use Rattle.mq_core.specs.Sound.{is_sound_kind}
 use Rattle.mq_core.specs.declared.model.Demand.{Demand}
 use Rattle.mq_core.specs.declared.model.Fate.{Fate}
 use Rattle.mq_core.specs.declared.model.Fate.TheVariants.{Departs, Held, Lost}
@@ -23,12 +18,11 @@ use Rattle.mq_core.specs.declared.model.Kind.TheVariants.{Loss}
 use Rattle.mq_core.specs.declared.model.Rows.{Rows}
 use Rattle.mq_core.specs.declared.model.Stream.{Stream}
 use Rattle.mq_core.proofs.lemmas.Over.{IsOver, loss-over}
-use Rattle.mq_loss.specs.Rounds.{IsSettled}
 use Rattle.mq_rounds.specs.Rounds.{admits, fates_by}
-use Rattle.mq_rounds.proofs.lemmas.Fates.{admitted-leave, fates-back, lost-leave}
+use Rattle.mq_rounds.proofs.lemmas.Fates.{admitted-leave, lost-leave}
 use Rattle.mq_rounds.specs.declared.settled.Settled.{Settled}
 use Rattle.mq_stations.specs.Losses.{AreAdmittedAndLost, out_of_admission}
-use Rattle.mq_stations.specs.Leaving.{AreSettled, IsLeaving, left_by}
+use Rattle.mq_stations.specs.Leaving.{AreSettled, AreStreams, left_by}
 
 -- one arrival further: one that is admitted takes the next departure
 pub fates-yes : (done done' all : List Fate) (admitted : List Bool) (departs : List ℕ) (at next time : ℕ) → slice_get admitted at ≡ Some true → slice_get departs next ≡ Some time → done' ≡ done ++ Departs time ∷ [] →
@@ -119,11 +113,6 @@ both (admit ∷ admitted) [] e = absurd (omega arith)
 both (true ∷ admitted) (item ∷ items) e = let h = both admitted items (omega arith) in omega arith
 both (false ∷ admitted) (item ∷ items) e = let h = both admitted items (omega arith) in omega arith
 
-pub settled-fates : (rows : Rows) (places : ℕ) (demand : Demand) (arrivals : Stream) (demands : List ℕ) (settled : Settled) (fates : List Fate) → demands ≡ map (demand_of_job rows demand) arrivals.job → IsSettled places arrivals.time demands settled → fates ≡ fates_by settled.admitted settled.departs →
-    fates ≡ sequence_fates rows (Loss places demand) (came_in arrivals)
-settled-fates rows places demand arrivals demands settled fates m s f =
-    f ∙ ((λ k. fates_by (s.admitted k) (s.departs k)) ∙ (fates-back (loss_fates places [] arrivals.time demands) (loss-over places [] arrivals.time demands) ∙ ap (loss_fates places [] arrivals.time) m))
-
 -- the outputs by admission are those by fate
 outs-back : (fates : List Fate) → map out_of_admission (map admits fates) ≡ map out_of_fate fates
 outs-back [] = refl
@@ -139,10 +128,9 @@ admitted-many (one ∷ job) (Departs departs ∷ fates) e o = ap suc (admitted-m
 admitted-many (one ∷ job) (Lost ∷ fates) e o = admitted-many job fates (omega arith) o.1
 admitted-many (one ∷ job) (Held ∷ fates) e o = absurd o.0
 
--- a settled station: its fates, as many as there are arrivals
-settled-is : (rows : Rows) (places : ℕ) (demand : Demand) (arrivals : Stream) (demands : List ℕ) → demands ≡ map (demand_of_job rows demand) arrivals.job →
-    loss_fates places [] arrivals.time demands ≡ sequence_fates rows (Loss places demand) (came_in arrivals)
-settled-is rows places demand arrivals demands m = ap (loss_fates places [] arrivals.time) m
+-- no fate at a loss station is held
+over : (rows : Rows) (places : ℕ) (demand : Demand) (arrivals : Stream) → Each IsOver (sequence_fates rows (Loss places demand) (came_in arrivals))
+over rows places demand arrivals = loss-over places [] arrivals.time (map (demand_of_job rows demand) arrivals.job)
 
 -- there is one answer an arrival, and a departure for each that is admitted
 pub record IsEven (arrivals : Stream) (settled : Settled) : Type 0 where
@@ -150,26 +138,20 @@ pub record IsEven (arrivals : Stream) (settled : Settled) : Type 0 where
   pub times : length arrivals.time ≡ length settled.admitted
   pub departs : length settled.departs ≡ length (picked 0 (map out_of_admission settled.admitted) arrivals.job)
 
-pub settled-even : FatesAreInTime → (rows : Rows) (places : ℕ) (demand : Demand) (arrivals : Stream) (demands : List ℕ) (settled : Settled) → length arrivals.job ≡ length arrivals.time → demands ≡ map (demand_of_job rows demand) arrivals.job → IsSettled places arrivals.time demands settled →
-    IsEven arrivals settled
-settled-even law rows places demand arrivals demands settled e m s =
-    let fates : List Fate = loss_fates places [] arrivals.time demands in
-    let many : length fates ≡ length arrivals.time = ap length (settled-is rows places demand arrivals demands m) ∙ (law rows (Loss places demand) (came_in arrivals) refl e).even in
-    let answers : length settled.admitted ≡ length fates = ap length s.admitted ∙ length-map fates admits in
+pub settled-even : FatesAreInTime → (rows : Rows) (places : ℕ) (demand : Demand) (arrivals : Stream) (settled : Settled) → length arrivals.job ≡ length arrivals.time → AreSettled rows (Loss places demand) arrivals settled → IsEven arrivals settled
+settled-even law rows places demand arrivals settled e s =
+    let those : List Fate = sequence_fates rows (Loss places demand) (came_in arrivals) in
+    let many : length those ≡ length arrivals.time = (law rows (Loss places demand) (came_in arrivals) refl e).even in
+    let answers : length settled.admitted ≡ length those = ap length s.admitted ∙ length-map those admits in
     record {
       jobs = e ∙ sym (answers ∙ many);
       times = sym (answers ∙ many);
-      departs = ap length s.departs ∙ (admitted-many arrivals.job fates (many ∙ sym e) (loss-over places [] arrivals.time demands) ∙ ap (λ (xs : List Bool). length (picked 0 (map out_of_admission xs) arrivals.job)) (sym s.admitted));
+      departs = ap length s.departs ∙ (admitted-many arrivals.job those (many ∙ sym e) (over rows places demand arrivals) ∙ ap (λ (xs : List Bool). length (picked 0 (map out_of_admission xs) arrivals.job)) (sym s.admitted));
     }
 
 -- the two streams of a loss station
-pub loses : FatesAreInTime → (rows : Rows) (places : ℕ) (demand : Demand) (arrivals : Stream) (demands : List ℕ) (settled : Settled) (fates : List Fate) (streams : List Stream) → length arrivals.job ≡ length arrivals.time → demands ≡ map (demand_of_job rows demand) arrivals.job →
-    IsSettled places arrivals.time demands settled → fates ≡ fates_by settled.admitted settled.departs → AreAdmittedAndLost arrivals settled.admitted settled.departs streams → IsLeaving rows (Loss places demand) arrivals fates streams
-loses law rows places demand arrivals demands settled fates streams even m s f e =
-    record {
-      leave = settled-fates rows places demand arrivals demands settled fates m s f;
-      outflow = record { count = ap length e; each = λ out l. ap (λ (ss : List Stream). slice_get ss out) e ∙ at out l };
-    }
+pub loses : FatesAreInTime → (rows : Rows) (places : ℕ) (demand : Demand) (arrivals : Stream) (settled : Settled) (streams : List Stream) → length arrivals.job ≡ length arrivals.time → AreSettled rows (Loss places demand) arrivals settled → AreAdmittedAndLost arrivals settled.admitted settled.departs streams → AreStreams rows (Loss places demand) arrivals streams
+loses law rows places demand arrivals settled streams even s e = record { count = ap length e; each = λ out l. ap (λ (ss : List Stream). slice_get ss out) e ∙ at out l }
   where
     those : List Fate
     those = sequence_fates rows (Loss places demand) (came_in arrivals)
@@ -177,14 +159,11 @@ loses law rows places demand arrivals demands settled fates streams even m s f e
     many : length those ≡ length arrivals.time
     many = (law rows (Loss places demand) (came_in arrivals) refl even).even
 
-    same : loss_fates places [] arrivals.time demands ≡ those
-    same = settled-is rows places demand arrivals demands m
-
     outs : map out_of_admission settled.admitted ≡ map out_of_fate those
-    outs = ap (map out_of_admission) s.admitted ∙ (outs-back (loss_fates places [] arrivals.time demands) ∙ ap (map out_of_fate) same)
+    outs = ap (map out_of_admission) s.admitted ∙ outs-back those
 
     departs : settled.departs ≡ picked 0 (map out_of_fate those) (leaving_times arrivals.time those)
-    departs = s.departs ∙ (ap departure_times same ∙ sym (admitted-leave arrivals.time those many (loss-over places [] arrivals.time (map (demand_of_job rows demand) arrivals.job))))
+    departs = s.departs ∙ sym (admitted-leave arrivals.time those many (over rows places demand arrivals))
 
     first : ◌≡◌ {A = Stream} (record { job = picked 0 (map out_of_admission settled.admitted) arrivals.job; time = settled.departs }) (left_by rows (Loss places demand) arrivals 0)
     first = λ k. record { job = picked 0 (outs k) arrivals.job; time = departs k }
@@ -201,22 +180,3 @@ loses law rows places demand arrivals demands settled fates streams even m s f e
     at zero l = ap Some first
     at (suc zero) l = ap Some second
     at (suc (suc out)) l = absurd (omega arith)
-
-pub some-places : (columns places : ℕ) (demand : Demand) → IsTrue (is_sound_kind columns (Loss places demand)) → 1 ≤ places
-some-places columns places demand h =
-    let a = and_parts (is_within 1 1048576 places) (is_sound_demand columns demand) h in
-    let b = (and_parts (nat_le 1 places) (nat_le places 1048576) a.0).0 in
-    grind (arith, nat_tests)
-
--- what a loss station settles tells all fates
-pub settled-at : (rows : Rows) (places : ℕ) (demand : Demand) (arrivals : Stream) (settled : Settled) → IsSettled places arrivals.time (map (demand_of_job rows demand) arrivals.job) settled → AreSettled rows (Loss places demand) arrivals settled
-settled-at rows places demand arrivals settled s =
-    record {
-      loses = inl (places, demand, refl);
-      admitted = s.admitted;
-      departs = s.departs;
-      fates = settled-fates rows places demand arrivals (map (demand_of_job rows demand) arrivals.job) settled _ refl s refl;
-    }
-
-pub loss-settled : (rows : Rows) (places : ℕ) (demand : Demand) (arrivals : Stream) (settled : Settled) → AreSettled rows (Loss places demand) arrivals settled → IsSettled places arrivals.time (map (demand_of_job rows demand) arrivals.job) settled
-loss-settled rows places demand arrivals settled s = record { admitted = s.admitted; departs = s.departs }

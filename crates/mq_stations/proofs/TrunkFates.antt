@@ -1,5 +1,5 @@
 -- What becomes of the arrivals at a trunk group.
-use Rattle.std.proofs.Common.{◌≡◌, ℕ, zero, suc, ◌<◌, List, [], ◌∷◌, inr, length, map, refl, Some, ap, ◌∙◌, arith}
+use Rattle.std.proofs.Common.{◌≡◌, ℕ, zero, suc, ◌<◌, List, [], ◌∷◌, length, map, Some, ap, ◌∙◌, arith}
 use Rattle.std.specs.Prelude.{slice_get}
 use Rattle.std.proofs.lemmas.List.{length-map}
 use Rattle.mq_core.specs.Came.{came_in}
@@ -13,10 +13,6 @@ use Rattle.mq_rounds.specs.declared.settled.Settled.{Settled}
 use Rattle.mq_trunk.specs.Parts.{AreAdmitted, ArePartedBy}
 use Rattle.mq_trunk.specs.declared.settling.Parts.{Parts}
 use Rattle.mq_stations.specs.Leaving.{AreSettled, AreStreams}
-
--- what a trunk group settles tells all fates
-pub settled-at : (rows : Rows) (servers : ℕ) (demand : Demand) (arrivals : Stream) (settled : Settled) → AreAdmitted servers arrivals (map (demand_of_job rows demand) arrivals.job) settled.admitted settled.departs → AreSettled rows (Trunk servers demand) arrivals settled
-settled-at rows servers demand arrivals settled a = record { loses = inr (servers, demand, refl); admitted = a.admission; departs = a.departures; fates = a.fates }
 
 pub trunk-settled : (rows : Rows) (servers : ℕ) (demand : Demand) (arrivals : Stream) (settled : Settled) → IsStream arrivals → AreSettled rows (Trunk servers demand) arrivals settled → AreAdmitted servers arrivals (map (demand_of_job rows demand) arrivals.job) settled.admitted settled.departs
 trunk-settled rows servers demand arrivals settled stream s =

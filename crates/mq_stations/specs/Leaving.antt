@@ -20,8 +20,6 @@ use Rattle.mq_core.specs.declared.model.Rows.{Rows}
 use Rattle.mq_core.specs.declared.model.Stream.{Stream}
 use Rattle.mq_rounds.specs.Rounds.{admits, fates_by}
 use Rattle.mq_rounds.specs.declared.settled.Settled.{Settled}
-use Rattle.mq_stations.specs.declared.outflow.Left.{Left}
-use Rattle.mq_stations.specs.declared.outflow.Left.TheVariants.{Departures, Settled as TheSettled, Streams}
 
 -- a stream whose times are at most 2^60
 pub record IsEarlyStream (stream : Stream) : Type 0 where
@@ -95,10 +93,3 @@ pub record AreSettled (rows : Rows) (kind : Kind) (arrivals : Stream) (settled :
   pub admitted : settled.admitted ≡ map admits (sequence_fates rows kind (came_in arrivals))
   pub departs : settled.departs ≡ departure_times (sequence_fates rows kind (came_in arrivals))
   pub fates : fates_by settled.admitted settled.departs ≡ sequence_fates rows kind (came_in arrivals)
-
--- what leaves a station of this kind: when its jobs depart; which are admitted and when those do; or the fate of each and what
--- leaves by each output
-abbrev pub IsLeft : Rows → Kind → Stream → Left → Type 0
-IsLeft rows kind arrivals (Departures departs) = AreDepartures rows kind arrivals departs
-IsLeft rows kind arrivals (TheSettled settled) = AreSettled rows kind arrivals settled
-IsLeft rows kind arrivals (Streams outflow) = IsLeaving rows kind arrivals outflow.fates outflow.streams

@@ -1,66 +1,18 @@
-// A loss station: which arrivals find a place, and where each goes.
-ghost use Rattle.std.specs.Prelude.{◌≡◌, ◌<◌, ◌≤◌, ℕ, length, map, IfOk};
-ghost use Rattle.mq_core.specs.Handling.{demand_of_job};
-ghost use Rattle.mq_core.specs.Sequences.{IsSoundLoad, IsStream};
+// What leaves a loss station by each output.
+ghost use Rattle.std.specs.Prelude.{◌≡◌, ℕ, length, map, IfOk};
+ghost use Rattle.mq_core.specs.Sequences.{IsStream};
 ghost use Rattle.mq_core.specs.Streams.{picked};
 ghost use Rattle.mq_core.specs.declared.model.Demand.{Demand as TheDemand};
 ghost use Rattle.mq_core.specs.declared.model.Kind.TheVariants.{Loss};
 ghost use Rattle.mq_core.specs.declared.model.Rows.{Rows as TheRows};
 ghost use Rattle.mq_stations.specs.Losses.{AreAdmittedAndLost, out_of_admission};
-ghost use Rattle.mq_asked.specs.Demands.{AreAsked};
-ghost use Rattle.mq_stations.specs.Leaving.{AreSettled, AreStreams, IsLoad};
-ghost use Rattle.mq_loss.specs.Rounds.{IsSettled};
+ghost use Rattle.mq_stations.specs.Leaving.{AreSettled, AreStreams};
 
-use crate::outflow::both;
-use mq_asked::asked_of;
-use mq_base::{List, OutOfMemory, Steps};
-use mq_core::{Demand, Rows, Stream, fates_are_in_time};
-use mq_loss::settle;
+use crate::streams::both;
+use mq_base::{List, OutOfMemory};
+use mq_core::{Stream, fates_are_in_time};
 use mq_rounds::Settled;
 use std::alloc::Global;
-use std::marker::Brand;
-use std::sync::ledger::{Blank, Ledger};
-
-// Which arrivals at a loss station find a place, and when those depart. So many are judged first.
-pub fn settled_loss(
-    alloc: Global,
-    rows: &Rows,
-    places: u32,
-    demand: &Demand,
-    arrivals: &Stream,
-    window: u32,
-) -> Result<Settled, OutOfMemory>
-    requires load { IsLoad rows.now (Loss places demand.now) arrivals.now }
-    requires some { 1 ≤ window }
-    ensures { IfOk result (λ settled. AreSettled rows.now (Loss places demand.now) arrivals.now settled) }
-{
-    settled::<Brand>(alloc, rows, places, demand, arrivals, window, Blank::new(1))
-}
-
-// Which arrivals find a place, and when those depart, settled with a counter of their own.
-// The demands are let go here, so that what comes next takes their room.
-fn settled<L: Ledger>(
-    alloc: Global,
-    rows: &Rows,
-    places: u32,
-    demand: &Demand,
-    arrivals: &Stream,
-    window: u32,
-    blank: Blank,
-) -> Result<Settled, OutOfMemory>
-    requires asked { AreAsked rows.now demand.now arrivals.now.job }
-    requires load { IsSoundLoad arrivals.now.time (map (demand_of_job rows.now demand.now) arrivals.now.job) }
-    requires places { 1 ≤ places }
-    requires window { 1 ≤ window }
-    requires name { blank.name ≡ L.name }
-    requires parts { blank.parts ≡ L.parts }
-    requires some { 0 < blank.parts }
-    ensures { IfOk result (λ settled. IsSettled places arrivals.now.time (map (demand_of_job rows.now demand.now) arrivals.now.job) settled) }
-{
-    let asked = asked_of(alloc, rows, demand, &arrivals.job)?;
-    let mut steps = Steps::<L>::new(blank);
-    settle(alloc, arrivals, asked.list(), places, window, &mut steps)
-}
 
 // What leaves a loss station: the jobs that find a place leave by output 0 once they are served, the
 // others by output 1 as they come.

@@ -1,12 +1,11 @@
 -- What leaves a station, by its kind.
-use Rattle.std.proofs.Common.{◌≡◌, ℕ, zero, suc, ◌^◌, ◌<◌, ◌≤◌, ◌⊎◌, inl, inr, All, false, true, List, [], ◌∷◌, length, map, Some, sym, refl, ap, ◌∙◌, subst, arith}
-use Rattle.std.specs.Prelude.{nat_le, nat_lt, slice_get, IfOk, Result, Ok, Err}
+use Rattle.std.proofs.Common.{◌≡◌, ℕ, zero, suc, ◌^◌, ◌<◌, ◌≤◌, All, false, true, List, [], ◌∷◌, length, map, Some, sym, refl, ap, ◌∙◌, subst, arith}
+use Rattle.std.specs.Prelude.{nat_le, nat_lt, slice_get}
 use Rattle.std.specs.List.{AllByRecursion as Each, list_all}
 use Rattle.std.proofs.lemmas.Bool.{and_parts}
 use Rattle.std.proofs.lemmas.Bool.Decides.{nat_tests}
 use Rattle.std.proofs.lemmas.List.{length-map}
 use Rattle.mq_base.proofs.lemmas.Lists.{some_inj}
-use Rattle.mq_base.specs.declared.list.OutOfMemory.{OutOfMemory}
 use Rattle.mq_core.specs.Came.{came_in}
 use Rattle.mq_core.specs.Fates.{keeps_visits}
 use Rattle.mq_core.specs.SequenceLaws.{SequencesGoByFates, FatesAreInTime, sends_once}
@@ -31,11 +30,7 @@ use Rattle.mq_core.specs.declared.model.Rows.{Rows}
 use Rattle.mq_core.specs.declared.model.Stream.{Stream}
 use Rattle.mq_split.specs.Outs.{AreParts, HasOutputs, outs_from}
 use Rattle.mq_asked.specs.Demands.{AreAsked}
-use Rattle.mq_stations.specs.Leaving.{AreDepartures, AreServed, AreLeft, AreSettled, IsLeaving, IsLeft, IsLoad, left_by}
-use Rattle.mq_rounds.specs.declared.settled.Settled.{Settled as SettledAt}
-use Rattle.mq_stations.specs.declared.outflow.Left.{Left}
-use Rattle.mq_stations.specs.declared.outflow.Left.TheVariants.{Departures, Settled, Streams}
-use Rattle.mq_stations.specs.declared.outflow.Outflow.{Outflow}
+use Rattle.mq_stations.specs.Leaving.{AreDepartures, AreServed, AreLeft, IsLeaving, IsLoad, left_by}
 use Rattle.mq_stations.proofs.lemmas.Lists.{Each-get_or}
 
 -- a departure of each time is at that time
@@ -154,11 +149,6 @@ once-leaves (Fork outputs) once = refl
 once-leaves Join once = absurd cc
 once-leaves (Trunk servers demand) once = refl
 
--- forks and joins don't
-pub never-once : (kind : Kind) → ((outputs : ℕ) × (kind ≡ Fork outputs)) ⊎ (kind ≡ Join) → sends_once kind ≡ true → ⊥
-never-once kind (inl e) once = let no : sends_once (Fork e.0) ≡ true = ap sends_once (sym e.1) ∙ once in absurd cc
-never-once kind (inr e) once = let no : sends_once Join ≡ true = ap sends_once (sym e) ∙ once in absurd cc
-
 -- there is one time an arrival
 times-many : FatesAreInTime → (rows : Rows) (kind : Kind) (arrivals : Stream) (times : List ℕ) → sends_once kind ≡ true → length arrivals.job ≡ length arrivals.time → sequence_fates rows kind (came_in arrivals) ≡ map (λ time. Departs time) times → length times ≡ length arrivals.job
 times-many law rows kind arrivals times once e f = sym (length-map times (λ time. Departs time)) ∙ (ap length (sym f) ∙ ((law rows kind (came_in arrivals) (once-leaves kind once) e).even ∙ sym e))
@@ -200,21 +190,3 @@ source-served rows arrivals departs d = (record { once = refl; one = refl; outs 
 -- from a delay all depart too
 pub delay-departs : (rows : Rows) (demand : Demand) (arrivals : Stream) (demands departs : List ℕ) → demands ≡ map (demand_of_job rows demand) arrivals.job → departs ≡ delayed arrivals.time demands → AreDepartures rows (Delay demand) arrivals departs
 delay-departs rows demand arrivals demands departs m d = record { once = refl; one = refl; outs = refl; fates = ap (map (λ time. Departs time)) (sym (d ∙ ap (delayed arrivals.time) m)) }
-
--- what leaves, where it is departures that were worked out
-pub departs-by : (rows : Rows) (kind : Kind) (arrivals : Stream) (Holds : List ℕ → Type 0) (given : Result (List ℕ) OutOfMemory) (result : Result Left OutOfMemory) → IfOk given Holds → ((departs : List ℕ) → Holds departs → AreDepartures rows kind arrivals departs) →
-    IfOk result (λ left. (times : List ℕ) × (given ≡ Ok times) × (left ≡ Departures times)) → IfOk result (λ left. IsLeft rows kind arrivals left)
-departs-by rows kind arrivals Holds given (Err e) ok are is = tt
-departs-by rows kind arrivals Holds given (Ok left) ok are (times, g, l) = rw l (are times (rw g at ok))
-
--- the same, where it is by several outputs
-pub streams-by : (rows : Rows) (kind : Kind) (arrivals : Stream) (given : Result Outflow OutOfMemory) (result : Result Left OutOfMemory) → IfOk given (λ out. IsLeaving rows kind arrivals out.fates out.streams) →
-    IfOk result (λ left. (out : Outflow) × (given ≡ Ok out) × (left ≡ Streams out)) → IfOk result (λ left. IsLeft rows kind arrivals left)
-streams-by rows kind arrivals given (Err e) ok is = tt
-streams-by rows kind arrivals given (Ok left) ok (out, g, l) = rw l (rw g at ok)
-
--- the same, where each job is admitted or lost
-pub settles-by : (rows : Rows) (kind : Kind) (arrivals : Stream) (given : Result SettledAt OutOfMemory) (result : Result Left OutOfMemory) → IfOk given (λ one. AreSettled rows kind arrivals one) →
-    IfOk result (λ left. (one : SettledAt) × (given ≡ Ok one) × (left ≡ Settled one)) → IfOk result (λ left. IsLeft rows kind arrivals left)
-settles-by rows kind arrivals given (Err e) ok is = tt
-settles-by rows kind arrivals given (Ok left) ok (one, g, l) = rw l (rw g at ok)

@@ -18,8 +18,8 @@ const JOBS: &[u8] = b"source,time,a,b,c\nsrc,0,2,3,1\nsrc,1,1,1,4\nsrc,2,2,1,1\n
 // A run with this many workers and this form of the report, with or without job lines, and the number of pieces in each list that it makes, in
 // order. A list of at most one piece enters no gate and isn't given here. Without job lines, nothing is computed for a source, and a station
 // whose jobs leave in turn has no last pieces. After each wave come the totals of its nodes, with a piece for each node, and what leaves by the
-// outputs that nobody reads, with a piece for each node that has one. With job lines, the 4 last pieces of the source come first (when its jobs
-// leave, how many each found, the jobs, and when each departs). The totals of all nodes, and what leaves, then come at the end.
+// outputs that nobody reads, with a piece for each node that has one. With job lines, the 3 last pieces of the source come first (when its jobs
+// leave, how many each found, and the jobs). The totals of all nodes, and what leaves, then come at the end.
 #[derive(Clone, Copy)]
 struct Case<'a> {
     model: &'a [u8],
@@ -46,7 +46,7 @@ const SERVER: Case = Case {
 // The server with job lines. It has 5 last pieces: when the jobs leave, how many each found, the jobs, and the jobs and times of what came.
 const SERVER_OF_A_KEPT_RUN: Case = Case {
     jobs: true,
-    lists: &[4, 5, 2],
+    lists: &[3, 5, 2],
     ..SERVER
 };
 
@@ -116,7 +116,7 @@ const DELAY_IN_TURN: Case = Case {
 // That delay with job lines. Its last pieces are those of a server.
 const DELAY_IN_TURN_OF_A_KEPT_RUN: Case = Case {
     jobs: true,
-    lists: &[4, 5, 2],
+    lists: &[3, 5, 2],
     ..DELAY_IN_TURN
 };
 
@@ -157,7 +157,7 @@ const UNTOLD_WAITS: Case = Case {
 const LONG_WAITS_OF_A_KEPT_RUN: Case = Case {
     model: b"model 1\nsource src\ntandem first =1 / 1 =20000 from src\ntandem then =1 / 1 =30000 from first\n",
     jobs: true,
-    lists: &[4, 3, 3, 5, 3, 3, 5, 3, 3],
+    lists: &[3, 3, 3, 5, 3, 3, 5, 3, 3],
     ..TANDEM
 };
 

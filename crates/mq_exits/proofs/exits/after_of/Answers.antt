@@ -19,11 +19,6 @@ passed-requires-clause-group c =
     let load = c.args.load.now in
     subst (λ (e : Completion). AreAll (IsClosed load.plan.now load.rows.now load.number load.arrivals.now e) (closings_of e) c.args.group) c.in-Passed.is c.requires.group
 
-pub sent-requires-clause-group : goal.sent-requires-clause-group
-sent-requires-clause-group c =
-    let load = c.args.load.now in
-    subst (λ (e : Completion). AreAll (IsClosed load.plan.now load.rows.now load.number load.arrivals.now e) (closings_of e) c.args.group) c.in-Sent.is c.requires.group
-
 pub after_settled-requires : goal.after_settled-requires
 after_settled-requires c =
     let load = c.args.load.now in

@@ -1,9 +1,9 @@
-use Rattle.std.proofs.Common.{sym, ◌∙◌, inl}
+use Rattle.std.proofs.Common.{sym, ◌∙◌}
 use Rattle.std.proofs.lemmas.Result.{IfOk-weaker}
 use Rattle.mq_stations.proofs.lemmas.Leaves.{departs-even}
 use Rattle.mq_exits.proofs.InOrder.{in-turn-rises}
 use Rattle.mq_exits.proofs.Opening.{loaded-inside}
-use Rattle.mq_exits.proofs.Passing.{passing-finds_none}
+use Rattle.mq_exits.proofs.Passing.{source-finds_none}
 use Rattle.mq_exits.proofs.exits.found_in_turn.Goals as goal
 
 pub get-requires : goal.get-requires
@@ -23,4 +23,4 @@ pub returns-in-Source : goal.returns-in-Source
 returns-in-Source c =
     let load = c.args.load.now in
     let served = c.requires.served c.get.result.now c.get.ensures in
-    IfOk-weaker c.nobody.result _ _ (λ x e. e ∙ sym (passing-finds_none load.rows.now c.get.result.now.kind load.arrivals.now.job load.arrivals.now.time _ (inl c.in-Source.is) c.requires.loaded.load.ordered.ordered.rising (sym served.0.fates))) c.nobody.ensures
+    IfOk-weaker c.nobody.result _ _ (λ x e. e ∙ sym (source-finds_none load.rows.now c.get.result.now.kind load.arrivals.now.job load.arrivals.now.time _ c.in-Source.is c.requires.loaded.load.ordered.ordered.rising (sym served.0.fates))) c.nobody.ensures

@@ -1,13 +1,10 @@
 use Rattle.std.proofs.Common.{ℕ, List, sym, subst, arith}
-use Rattle.std.proofs.lemmas.Result.{IfOk-weaker}
 use Rattle.mq_core.specs.Came.{came_in}
 use Rattle.mq_core.specs.Sequences.{sequence_fates}
 use Rattle.mq_core.specs.declared.model.Fate.{Fate}
 use Rattle.mq_core.specs.declared.model.Kind.TheVariants.{Delay}
 use Rattle.mq_redo.specs.Kept.{IsKeptDelay, coming_as}
 use Rattle.mq_kept.proofs.Within.{staying-within}
-use Rattle.mq_kept.specs.KeptNodes.{IsKeptNode}
-use Rattle.mq_kept.specs.declared.checkpoints.Checkpoints.{Checkpoints}
 use Rattle.mq_kept.proofs.stations.delay_again.Goals as goal
 
 pub delayed_again-requires-clause-inside : goal.delayed_again-requires-clause-inside
@@ -22,14 +19,12 @@ delayed_again-requires-clause-inside g c =
 pub delayed_again-requires-clause-kept : goal.delayed_again-requires-clause-kept
 delayed_again-requires-clause-kept g c = let h = c.requires.stays in (h.0, rw (c.cut-blocks.ensures.1, c.delay-carries.ensures) h.1.0, rw c.cut-blocks.ensures.1 h.1.1)
 
-pub returns-clause-checkpoints : goal.returns-clause-checkpoints
-returns-clause-checkpoints g c =
+pub returns-in-Ok-clause-checkpoints : goal.returns-in-Ok-clause-checkpoints
+returns-in-Ok-clause-checkpoints g c =
     let load = c.args.load.now in
     let rows = load.rows.now in
     let arrivals = load.arrivals.now in
     let demand = c.args.demand.now in
     let done = c.in_ok-done.ensures in
-    IfOk-weaker c.departed.result _ _
-    (λ r is. subst (λ (points : Checkpoints). IsKeptNode (Delay demand) (coming_as rows arrivals) load.block (sequence_fates rows (Delay demand) (came_in arrivals)) points) (sym is)
-    (subst (λ (p : ℕ × List Fate × List ℕ). IsKeptDelay demand (coming_as rows arrivals) p.0 p.1 p.2) (λ k. (c.cut-blocks.ensures.1 k, sym {a = sequence_fates rows (Delay demand) (came_in arrivals)} done.departs.fates k, sym c.from_vec.ensures k)) done.kept))
-    c.departed.ensures.checkpoints
+    subst (λ (p : ℕ × List Fate × List ℕ). IsKeptDelay demand (coming_as rows arrivals) p.0 p.1 p.2)
+    (λ k. (c.cut-blocks.ensures.1 k, sym {a = sequence_fates rows (Delay demand) (came_in arrivals)} done.departs.fates k, sym c.from_vec.ensures k)) done.kept

@@ -1,7 +1,7 @@
-use Rattle.std.proofs.Common.{arith}
-use Rattle.std.proofs.lemmas.Result.{IfOk-weaker}
+use Rattle.std.proofs.Common.{sym, subst, arith}
+use Rattle.mq_kinds.specs.Lefts.{LeaveInTurn}
 use Rattle.mq_redo.specs.Kept.{coming_as}
-use Rattle.mq_kept.proofs.Stays.{all-depart, all-kept, first-times}
+use Rattle.mq_kept.proofs.Stays.{all-kept, first-times, leave-in-turn}
 use Rattle.mq_kept.proofs.Within.{staying-within}
 use Rattle.mq_kept.proofs.stations.in_turn_again.Goals as goal
 
@@ -21,15 +21,13 @@ all_departures-requires g c =
     let loaded = c.requires.loaded in
     first-times c.alike_is_first.ensures load.rows.now load.arrivals.now loaded.node.kind (c.requires.tail loaded.node loaded.there) load.block c.args.stays.now (c.requires.stays loaded.node loaded.there)
 
-pub departed-requires-clause-worked : goal.departed-requires-clause-worked
-departed-requires-clause-worked g c κs within = λ node there.
+pub returns-in-Ok-clause-completion : goal.returns-in-Ok-clause-completion
+returns-in-Ok-clause-completion g c = λ node there.
     let load = c.args.load.now in
-    all-depart c.alike_is_first.ensures load.rows.now load.arrivals.now node.kind (c.requires.tail node there) load.block c.args.stays.now (c.requires.stays node there) c.in_ok-times.field-0 (c.in_ok-times.ensures.done node there) c.in-Ok.times.items c.in-Ok.ensures
+    subst (LeaveInTurn load.rows.now node.kind load.arrivals.now) (sym c.from_vec.ensures)
+    (leave-in-turn c.alike_is_first.ensures load.rows.now load.arrivals.now node.kind (c.requires.tail node there) load.block c.args.stays.now (c.requires.stays node there) c.in_ok-times.field-0 (c.in_ok-times.ensures.done node there) c.in-Ok.times.items c.in-Ok.ensures)
 
 pub returns-in-Ok-clause-checkpoints : goal.returns-in-Ok-clause-checkpoints
-returns-in-Ok-clause-checkpoints g c =
-    IfOk-weaker c.departed.result _ _
-    (λ done is node there.
+returns-in-Ok-clause-checkpoints g c = λ node there.
     let load = c.args.load.now in
-    rw is (all-kept c.alike_is_first.ensures load.rows.now load.arrivals.now node.kind (c.requires.tail node there) load.block c.args.stays.now (c.requires.stays node there) c.in_ok-times.field-0 (c.in_ok-times.ensures.done node there)))
-    c.departed.ensures.checkpoints
+    all-kept c.alike_is_first.ensures load.rows.now load.arrivals.now node.kind (c.requires.tail node there) load.block c.args.stays.now (c.requires.stays node there) c.in_ok-times.field-0 (c.in_ok-times.ensures.done node there)

@@ -1,0 +1,91 @@
+-- A station in its place.
+use Rattle.std.proofs.Common.{◌≡◌, ℕ, zero, suc, ◌*◌, ◌^◌, ◌<◌, ◌≤◌, List, [], ◌∷◌, length, map, Option, Some, None, sym, ◌∙◌, subst, arith, true}
+use Rattle.std.specs.List.{AllByRecursion}
+use Rattle.mq_base.proofs.lemmas.Each.{Each-weaker}
+use Rattle.mq_base.proofs.lemmas.Lists.{some_inj}
+use Rattle.mq_core.specs.SequenceLaws.{sends_once}
+use Rattle.mq_core.specs.declared.model.Kind.{Kind}
+use Rattle.mq_core.specs.declared.model.Kind.TheVariants.{Join as TheJoin}
+use Rattle.mq_core.specs.declared.model.Node.{Node}
+use Rattle.mq_core.specs.declared.model.Plan.{Plan}
+use Rattle.mq_core.specs.declared.model.Rows.{Rows}
+use Rattle.mq_core.specs.declared.model.Stream.{Stream}
+use Rattle.mq_crew.specs.Crew.{total_size}
+use Rattle.mq_crew.proofs.lemmas.Sizes.{total-most}
+use Rattle.mq_kinds.specs.Lefts.{IsLeft}
+use Rattle.mq_kinds.specs.Pieces.{IsNext}
+use Rattle.mq_kinds.specs.Table.{HasLoad, IsEnd, IsServing, serving_size, serving_steps}
+use Rattle.mq_kinds.specs.declared.pieces.Left.{Left}
+use Rattle.mq_kinds.specs.declared.pieces.Load.{Load}
+use Rattle.mq_kinds.specs.declared.table.Serving.{Serving}
+use Rattle.mq_kinds.specs.declared.table.Serving.TheVariants.{Delay, ForkJoin, Join, Server, Split, Tandem, Whole}
+use Rattle.mq_merge.specs.Borrowed.{stream_in}
+use Rattle.mq_exits.proofs.Stations.{from-station, to-station}
+use Rattle.mq_exits.specs.Loads.{IsLoaded, IsReadyLoad, IsStationOf}
+use Rattle.mq_exits.specs.declared.load.Held.{Held}
+use Rattle.mq_engine.specs.Places.{IsLeftOf, IsPlace, IsServingOf, IsWorkOf, place_size, work_size}
+use Rattle.mq_engine.specs.declared.places.Place.{Place}
+use Rattle.mq_engine.specs.declared.places.Work.{Work}
+use Rattle.mq_engine.specs.declared.places.Work.TheVariants.{Ended, Serving as Serves}
+
+-- a node that lets each job out once, alone, is no join
+pub sends-load : (kind : Kind) → sends_once kind ≡ true → HasLoad kind
+sends-load TheJoin h = absurd cc
+sends-load _ h = tt
+
+-- what leaves such a station
+end-left : (rows : Rows) (kind : Kind) (arrivals : Stream) (serving : Serving) (left : Left) → HasLoad kind → IsServing rows kind arrivals serving → IsEnd rows kind arrivals serving left → IsLeft rows kind arrivals left
+end-left rows kind arrivals Whole left load fit h = h
+end-left rows kind arrivals (Delay demand) left load fit h = h
+end-left rows kind arrivals (Server demands) left load fit h = h
+end-left rows kind arrivals (Tandem tandem) left load fit h = h
+end-left rows kind arrivals (ForkJoin work) left load fit h = h
+end-left rows kind arrivals (Split split) left load fit h = h
+end-left rows kind arrivals (Join gathered) left load fit h = absurd (subst HasLoad fit load)
+
+-- no kind needs what a join has not
+pub station-load : (plan : Plan) (rows : Rows) (v : ℕ) (arrivals : Stream) (load : Load) → IsStationOf plan rows v arrivals load → IsLoaded plan rows v arrivals → HasLoad load.kind.now
+station-load plan rows v arrivals load is loaded =
+    to-station plan rows v arrivals load is (λ _ k _. HasLoad k) (λ node there. sends-load node.kind (subst (λ (n : Node). sends_once n.kind ≡ true) (some_inj loaded.node node (sym loaded.there ∙ there)) loaded.once))
+
+-- after a step of the station that a load is of
+pub next-of : (held : Held) (load : Load) → IsStationOf held.plan.now held.rows.now held.number (stream_in held.arrivals) load → IsReadyLoad held → (old new : Serving) (end : Option Left) → IsServing load.rows.now load.kind.now load.arrivals.now old →
+    IsNext (IsServing load.rows.now load.kind.now load.arrivals.now) serving_steps (IsEnd load.rows.now load.kind.now load.arrivals.now old) old new end → IsNext (IsServingOf held) serving_steps (IsLeftOf held) old new end
+next-of held load is ready old new None fit h = (from-station held.plan.now held.rows.now held.number (stream_in held.arrivals) load is (λ r k s. IsServing r k s new) h.0, h.1)
+next-of held load is ready old new (Some left) fit h =
+    from-station held.plan.now held.rows.now held.number (stream_in held.arrivals) load is (λ r k s. IsLeft r k s left) (end-left load.rows.now load.kind.now load.arrivals.now old left (station-load held.plan.now held.rows.now held.number (stream_in held.arrivals) load is ready.1) fit h)
+
+each-most : (a b : ℕ) → b ≤ 16384 → a * b ≤ a * 16384
+each-most zero b h = omega arith
+each-most (suc a) b h = let rest = each-most a b h in omega arith
+
+-- a step has few pieces
+serving-few : (rows : Rows) (kind : Kind) (arrivals : Stream) (serving : Serving) → IsServing rows kind arrivals serving → serving_size serving ≤ 1048576
+serving-few rows kind arrivals Whole h = omega arith
+serving-few rows kind arrivals (Delay demand) h = omega arith
+serving-few rows kind arrivals (Server demands) h = omega arith
+serving-few rows kind arrivals (Tandem tandem) h = let few = h.blocks.1 in omega arith
+serving-few rows kind arrivals (ForkJoin work) h = let most = each-most (length work.passage.branches) work.blocks.blocks h.blocks.1 in let few = h.passage.few in omega arith
+serving-few rows kind arrivals (Split split) h = let few = h.cut.1 in omega arith
+serving-few rows kind arrivals (Join gathered) h = omega arith
+
+pub places-few : (places : List Place) → length places ≤ 64 → AllByRecursion IsPlace places → total_size place_size places < 2 ^ 32
+places-few places few fit =
+    let most = total-most 1048576 place_size places (Each-weaker IsPlace (λ p. place_size p ≤ 1048576) (λ p h. work-few p.held p.work h.0 h.1) places fit) in
+    omega arith
+  where
+    work-few : (held : Held) (work : Work) → IsReadyLoad held → IsWorkOf held work → work_size work ≤ 1048576
+    work-few held (Serves serving) ready h = let loaded = ready.1 in serving-few held.rows.now loaded.node.kind (stream_in held.arrivals) serving (h loaded.node loaded.there)
+    work-few held (Ended left) ready h = omega arith
+
+-- what holds of what came to all stations, holds of what came to the same stations later
+pub each-same : (P : Held → Type 0) (new old : List Place) → map (λ (p : Place). p.held) new ≡ map (λ (p : Place). p.held) old → AllByRecursion (λ (p : Place). P p.held) old → AllByRecursion (λ (p : Place). P p.held) new
+each-same P new old same h = from-map new (subst (AllByRecursion P) (sym same) (to-map old h))
+  where
+    to-map : (places : List Place) → AllByRecursion (λ (p : Place). P p.held) places → AllByRecursion P (map (λ (p : Place). p.held) places)
+    to-map [] h = tt
+    to-map (p ∷ ps) h = (h.0, to-map ps h.1)
+
+    from-map : (places : List Place) → AllByRecursion P (map (λ (p : Place). p.held) places) → AllByRecursion (λ (p : Place). P p.held) places
+    from-map [] h = tt
+    from-map (p ∷ ps) h = (h.0, from-map ps h.1)

@@ -1,0 +1,10 @@
+pub mod Branching
+pub mod ForkJoined
+pub mod Forms
+pub mod InOrder
+pub mod Loads
+pub mod SplitBlocks
+pub mod Stages
+pub mod Taking
+pub mod Tiers
+pub mod Wholes

@@ -1,6 +1,0 @@
-use Rattle.mq_stations.proofs.SplitBlocks.{IsBehind}
-use Rattle.mq_stations.proofs.split.joined_output.Given as goal
-
--- the blocks so far, one behind the other
-abbrev pub invariant-parts : goal.invariant-parts
-invariant-parts l = IsBehind l.out l.group l.b l.job.items l.time.items

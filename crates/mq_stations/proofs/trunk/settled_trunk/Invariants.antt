@@ -1,5 +1,0 @@
-use Rattle.mq_stations.proofs.trunk.settled_trunk.Given as goal
-
--- the counter's ledger is the one that was opened for it
-abbrev pub ghosts-settled : goal.ghosts-settled
-ghosts-settled a = record { name = a.blank.name; parts = a.blank.parts }
