@@ -14,11 +14,11 @@ use Rattle.mq_crew.specs.Crew.{total_size}
 use Rattle.mq_crew.proofs.lemmas.Sizes.{total-most}
 use Rattle.mq_kinds.specs.Lefts.{IsLeft}
 use Rattle.mq_kinds.specs.Pieces.{IsNext}
-use Rattle.mq_kinds.specs.Table.{HasLoad, IsEnd, IsServing, serving_size, serving_steps}
+use Rattle.mq_kinds.specs.Table.{HasLoad, IsServing, serving_size, serving_steps}
 use Rattle.mq_kinds.specs.declared.pieces.Left.{Left}
 use Rattle.mq_kinds.specs.declared.pieces.Load.{Load}
 use Rattle.mq_kinds.specs.declared.table.Serving.{Serving}
-use Rattle.mq_kinds.specs.declared.table.Serving.TheVariants.{Delay, ForkJoin, Join, Server, Split, Tandem, Whole}
+use Rattle.mq_kinds.specs.declared.table.Serving.TheVariants.{Delay, ForkJoin, Server, Split, Tandem, Whole}
 use Rattle.mq_merge.specs.Borrowed.{stream_in}
 use Rattle.mq_exits.proofs.Stations.{from-station, to-station}
 use Rattle.mq_exits.specs.Loads.{IsLoaded, IsReadyLoad, IsStationOf}
@@ -33,27 +33,16 @@ pub sends-load : (kind : Kind) → sends_once kind ≡ true → HasLoad kind
 sends-load TheJoin h = absurd cc
 sends-load _ h = tt
 
--- what leaves such a station
-end-left : (rows : Rows) (kind : Kind) (arrivals : Stream) (serving : Serving) (left : Left) → HasLoad kind → IsServing rows kind arrivals serving → IsEnd rows kind arrivals serving left → IsLeft rows kind arrivals left
-end-left rows kind arrivals Whole left load fit h = h
-end-left rows kind arrivals (Delay demand) left load fit h = h
-end-left rows kind arrivals (Server demands) left load fit h = h
-end-left rows kind arrivals (Tandem tandem) left load fit h = h
-end-left rows kind arrivals (ForkJoin work) left load fit h = h
-end-left rows kind arrivals (Split split) left load fit h = h
-end-left rows kind arrivals (Join gathered) left load fit h = absurd (subst HasLoad fit load)
-
 -- no kind needs what a join has not
 pub station-load : (plan : Plan) (rows : Rows) (v : ℕ) (arrivals : Stream) (load : Load) → IsStationOf plan rows v arrivals load → IsLoaded plan rows v arrivals → HasLoad load.kind.now
 station-load plan rows v arrivals load is loaded =
     to-station plan rows v arrivals load is (λ _ k _. HasLoad k) (λ node there. sends-load node.kind (subst (λ (n : Node). sends_once n.kind ≡ true) (some_inj loaded.node node (sym loaded.there ∙ there)) loaded.once))
 
 -- after a step of the station that a load is of
-pub next-of : (held : Held) (load : Load) → IsStationOf held.plan.now held.rows.now held.number (stream_in held.arrivals) load → IsReadyLoad held → (old new : Serving) (end : Option Left) → IsServing load.rows.now load.kind.now load.arrivals.now old →
-    IsNext (IsServing load.rows.now load.kind.now load.arrivals.now) serving_steps (IsEnd load.rows.now load.kind.now load.arrivals.now old) old new end → IsNext (IsServingOf held) serving_steps (IsLeftOf held) old new end
-next-of held load is ready old new None fit h = (from-station held.plan.now held.rows.now held.number (stream_in held.arrivals) load is (λ r k s. IsServing r k s new) h.0, h.1)
-next-of held load is ready old new (Some left) fit h =
-    from-station held.plan.now held.rows.now held.number (stream_in held.arrivals) load is (λ r k s. IsLeft r k s left) (end-left load.rows.now load.kind.now load.arrivals.now old left (station-load held.plan.now held.rows.now held.number (stream_in held.arrivals) load is ready.1) fit h)
+pub next-of : (held : Held) (load : Load) → IsStationOf held.plan.now held.rows.now held.number (stream_in held.arrivals) load → (old new : Serving) (end : Option Left) →
+    IsNext (IsServing load.rows.now load.kind.now load.arrivals.now) serving_steps (IsLeft load.rows.now load.kind.now load.arrivals.now) old new end → IsNext (IsServingOf held) serving_steps (IsLeftOf held) old new end
+next-of held load is old new None h = (from-station held.plan.now held.rows.now held.number (stream_in held.arrivals) load is (λ r k s. IsServing r k s new) h.0, h.1)
+next-of held load is old new (Some left) h = from-station held.plan.now held.rows.now held.number (stream_in held.arrivals) load is (λ r k s. IsLeft r k s left) h
 
 each-most : (a b : ℕ) → b ≤ 16384 → a * b ≤ a * 16384
 each-most zero b h = omega arith
@@ -67,7 +56,6 @@ serving-few rows kind arrivals (Server demands) h = omega arith
 serving-few rows kind arrivals (Tandem tandem) h = let few = h.blocks.1 in omega arith
 serving-few rows kind arrivals (ForkJoin work) h = let most = each-most (length work.passage.branches) work.blocks.blocks h.blocks.1 in let few = h.passage.few in omega arith
 serving-few rows kind arrivals (Split split) h = let few = h.cut.1 in omega arith
-serving-few rows kind arrivals (Join gathered) h = omega arith
 
 pub places-few : (places : List Place) → length places ≤ 64 → AllByRecursion IsPlace places → total_size place_size places < 2 ^ 32
 places-few places few fit =
