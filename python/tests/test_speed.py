@@ -1,6 +1,7 @@
 """What makes long exports and reports fast: many rows at once, with the same results as one by one."""
 
 import contextlib
+import csv
 import io
 import random
 import sys
@@ -12,8 +13,10 @@ from ground import DESK, Test
 from test_prepare import table
 
 import mpsim
+from mpsim.exports.delimited import Export
 from mpsim.exports.prepare import prepare
 from mpsim.exports.records import Records
+from mpsim.exports.table import Table
 from mpsim.exports.workbook import Workbook
 from mpsim.job_lines import is_read
 from mpsim.leaving import ends_of
@@ -22,6 +25,7 @@ from mpsim.tables import sojourns
 from mpsim.times.moments import Moments
 from mpsim.times.texts import Unread
 from mpsim.times.zones import Zone
+from mpsim.traces.trace import fields_up_to
 
 ONE_BY_ONE = unittest.mock.patch.object(Records, "many", side_effect=Unread("one by one"))
 AT_ONCE = unittest.mock.patch.object(Records, "of", side_effect=AssertionError("a row was read alone"))
@@ -169,6 +173,30 @@ class AtOnce(Test):
             made = prepare(table(*rows), "when", source="who", demand=["long=d"])
             self.assertEqual("".join(str(value) for value in made.values[0]), order, rows)
             self.assertEqual("records are sorted by time" in " ".join(made.told), order != "".join(sorted(order)))
+
+    def test_texts_without_quotes(self):
+        """They are split as a CSV reader splits them: rows of any number of fields, empty lines, ends of lines of three kinds, and then a quote."""
+        draw, quick = random.Random(6), 0
+        for _ in range(300):
+            ends = draw.choice([["\n"], ["\r\n"], ["\n", "\r\n"], ["\r"], ["\n", "\r"]])
+            fields = draw.choice([["a", "", " b", "\u2028c\x0b", "1,5"], ["a", '"b;\n"', ""], ["", "x" * 300], ["a", "\0"]])
+            lines = [";".join(draw.choices(fields, k=draw.randrange(5))) + draw.choice(ends) for _ in range(draw.randrange(40))]
+            text = "when;long\n" + "".join(lines) + draw.choice(["", "\n", "a;b", '"a"'])
+            skip = draw.randrange(2)
+            export, found = Export(("skipped\n" * skip + text).encode(), "utf-8", ";", skip), []
+            for chunks in Table.chunks, Export.chunks:
+                rows, numbers, all_lines, error = [], [], 0, None
+                try:
+                    with fields_up_to(250):
+                        for number, some, took in chunks(export, 4):
+                            numbers += [number + at for at in range(len(some))]
+                            rows, all_lines = rows + some, all_lines + took
+                except csv.Error as problem:
+                    error = str(problem)
+                found.append((error, *([] if error else [numbers, rows, all_lines])))
+            self.assertEqual(found[0], found[1], text)
+            quick += len(found[0]) > 1 and not set('"\r\0') & set(text.replace("\r\n", "\n"))
+        self.assertGreater(quick, 30)
 
     def test_times_between_ticks(self):
         made = prepare(table("2026-03-02 08:00:00.5,a,1", "2026-03-02 08:00:01.5,a,1", "2026-03-02 08:00:02,a,1"), "when", begin="first")

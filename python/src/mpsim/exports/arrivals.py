@@ -60,7 +60,8 @@ def ticks(plan: Plan, rows: Rows, begin: str, made: Prepared) -> array[int]:
         # Work that is closed at time 0 begins at the next opening.
         zero = plan.place.working.moment(plan.place.working.of(zero))
     origin = plan.place.counted(zero)
-    if early := sum(count < origin for count in counts):
+    if min(counts) < origin:
+        early = sum(count < origin for count in counts)
         raise ValueError(f"{counted(early, 'record')} before --begin {begin}, which is to be time 0")
     if plan.has_day:
         made.zero = plan.place.shown(zero) + ("+00:00" if is_utc and not plan.place.name else "")

@@ -4,6 +4,7 @@ from __future__ import annotations
 
 import codecs
 import csv
+import io
 import itertools
 import re
 from collections import Counter
@@ -21,6 +22,8 @@ if TYPE_CHECKING:
 DELIMITERS = ";\t,|"
 # The number of rows, and of their characters, examined to detect formats and decimal marks.
 SAMPLE, CHARACTERS = 1 << 15, 1 << 23
+# About the characters of a row.
+_ROW = 64
 # A field with more lines is reported: an unclosed quote makes one field of the rest.
 LINES = 20
 # More lines in succession without a field aren't those of a table: the largest sheet of a spreadsheet has a sixteenth of them.
@@ -184,6 +187,31 @@ class Export(Table):
         if self.has_header:
             next(reader)
         return reader, self._skip + 1 + self.has_header
+
+    def chunks(self, size: int) -> Iterator[tuple[int, list[list[str]], int]]:
+        """Does what Table.chunks does. Text in which nothing is quoted is split at its delimiters, which takes half the time of a CSV reader."""
+        text = self._stream.text(self._encoding)
+        for _ in itertools.islice(text, self._skip):
+            pass
+        reader, number = self._reader(text), self._skip + 1 + self.has_header
+        if self.has_header:
+            next(reader)
+        while block := text.read(_ROW * size):
+            block += text.readline()
+            plain = block.replace("\r\n", "\n")
+            if len(plain) > csv.field_size_limit() or any(mark in plain for mark in '"\r\0'):
+                # A field may go on in the next lines.
+                reader = self._reader(itertools.chain(io.StringIO(block, newline=""), text))
+                break
+            lines = plain.removesuffix("\n").split("\n")
+            for at in range(0, len(lines), size):
+                rows = [line.split(self.delimiter) if line else [] for line in lines[at : at + size]]
+                yield number, rows, len(rows)
+                number += len(rows)
+        taken = reader.line_num
+        while some := list(itertools.islice(reader, size)):
+            yield number, some, reader.line_num - taken
+            number, taken = number + len(some), reader.line_num
 
     @property
     def size(self) -> int:

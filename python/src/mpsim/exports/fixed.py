@@ -7,6 +7,7 @@ from typing import TYPE_CHECKING
 
 from ..wording import quoted
 from .delimited import Export
+from .table import Table
 
 if TYPE_CHECKING:
     from collections.abc import Iterable, Sequence
@@ -47,6 +48,9 @@ class Fixed(Export):
         if len(self.header) > len(widths):
             more = "--header names more columns" if header is not None else f"the header goes on: {quoted(self.header[-1])}"
             raise ValueError(f"--fixed has {len(widths)} columns of {self._ends[-1]} characters, but {more}")
+
+    # Its rows aren't split at a delimiter.
+    chunks = Table.chunks
 
     def _reader(self, lines: Iterable[str]) -> _Fields:
         return _Fields(lines, self._ends)

@@ -40,8 +40,9 @@ def note_values(plan: Plan, rows: Rows, made: Prepared) -> None:
             if plan.model is not None and it.known is None:
                 made.unlike.append(f"{it.name}: the model doesn't say which word has which number, so another export may number them differently")
         if not plan.is_ticks and any(isinstance(part, End) or getattr(part, "times", None) for part in getattr(it, "parts", [it])):
-            over = sum(value > 12 * HOUR // plan.per for value in values)
-            if over:
+            most = 12 * HOUR // plan.per
+            if max(values) > most:
+                over = sum(value > most for value in values)
                 made.warned.append(f"{it.name}: {counted(over, 'service')} longer than 12 hours")
 
 

@@ -4,9 +4,9 @@ from __future__ import annotations
 
 import os
 from array import array
-from itertools import islice
-from operator import eq, gt
-from typing import TYPE_CHECKING, NamedTuple
+from itertools import compress, islice
+from operator import gt, ne
+from typing import TYPE_CHECKING, Any, NamedTuple
 
 from ..names import is_like, name_for
 from ..times.calendar import Calendar, length_text, settings_in, tick_of, working_in
@@ -376,16 +376,18 @@ def _judge_zero(plan: Plan, made: Prepared) -> None:
 
 def _sort(made: Prepared, rows: Rows, ticks: array[int]) -> None:
     """Sorts the records by tick, then by source, then by time; equal ones keep the order of the export."""
-    rank = {it: at for at, it in enumerate(made.names)}
+    rank, order = {it: at for at, it in enumerate(made.names)}, list(range(len(ticks)))
     keys = [time * 64 + rank[it] for time, it in zip(ticks, rows.sources)]
-    order: Sequence[int] = range(len(keys))
+    made.sources, made.times, made.values = rows.sources, ticks, rows.values
     if any(map(gt, rows.stamps, islice(rows.stamps, 1, None))):
-        order = sorted(order, key=rows.stamps.__getitem__)
-    if not isinstance(order, range) or any(map(gt, keys, islice(keys, 1, None))):
-        order = sorted(order, key=keys.__getitem__)
-    if isinstance(order, range) or all(map(eq, order, range(len(keys)))):
-        made.sources, made.times, made.values = rows.sources, ticks, rows.values
+        order.sort(key=rows.stamps.__getitem__)
+    order.sort(key=keys.__getitem__)
+    # Most records are in their place already.
+    moved = list(compress(range(len(order)), map(ne, order, range(len(order)))))
+    if not moved:
         return
     made.told.append("records are sorted by time, and at equal times by the order of the sources")
-    made.sources = [rows.sources[item] for item in order]
-    made.times, *made.values = (array("q", map(column.__getitem__, order)) for column in (ticks, *rows.values))
+    columns: list[Any] = [made.sources, made.times, *made.values]
+    for column in columns:
+        for at, value in zip(moved, [column[order[at]] for at in moved]):
+            column[at] = value

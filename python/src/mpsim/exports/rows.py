@@ -7,6 +7,7 @@ import csv
 from array import array
 from bisect import bisect_left, bisect_right
 from itertools import compress, islice
+from operator import eq, gt, or_
 from typing import TYPE_CHECKING
 
 from ..limits import RECORDS
@@ -20,11 +21,14 @@ from .records import Left, Unwanted
 from .result import CHUNK
 
 if TYPE_CHECKING:
-    from collections.abc import Iterable, Sequence
+    from collections.abc import Callable, Iterable, Sequence
     from typing import Any, TextIO
 
     from .events import Made
     from .plan import Column, Plan
+
+# Rows as they can be hashed.
+_FIELDS: Callable[[Sequence[str]], tuple[str, ...]] = tuple
 
 
 class TooManyLeft(ValueError):
@@ -69,19 +73,16 @@ class Rows:
     def read(self, most: float = 100) -> None:
         """Reads all rows. Raises ValueError if the export is too long or needs another option, and TooManyLeft as soon as more rows are left out than a
         trace has records, if that is more than this percentage however many records follow."""
-        rows, number = self.plan.export.rows()
-        lines = rows.line_num
         if self._writer:
             self._writer.writerow(["row", "reason", *self.plan.export.header])
         with uncollected(), Progress(self.plan.export.size, "rows") as progress:
             try:
-                while some := list(islice(rows, CHUNK)):
+                for number, some, lines in self.plan.export.chunks(CHUNK):
                     self._read_some(some, number)
-                    if rows.line_num - lines > len(some):
+                    if lines > len(some):
                         self._judge_lines(some, number)
-                    number, lines = number + len(some), rows.line_num
                     self._judge_unused(most)
-                    progress(number)
+                    progress(number + len(some))
             except csv.Error as error:
                 raise ValueError(f"row {self._unread()}: {error}: is a closing quote missing?") from None
 
@@ -173,7 +174,7 @@ class Rows:
         lists: list[Any] = [self.sources, self.stamps, *self.values]
         for column, more in zip(lists, columns):
             column.extend(more)
-        self._hashes.extend([hash(tuple(row)) for row in rows])
+        self._hashes.extend(map(hash, map(_FIELDS, rows)))
         if len(self.stamps) > self._most:
             what, cut = ("records, the limit of a trace", ", or cut it with --split-by month") if self.plan.log is None else ("events", "")
             raise ValueError(f"more than {self._most:,} {what}: choose a part with --from, --until or --where{cut}")
@@ -229,7 +230,12 @@ class Rows:
 
     def repeated(self) -> list[int]:
         """Returns the indices (list of int) of records whose rows repeat an earlier one, field by field."""
-        if len(set(self._hashes)) == len(self._hashes):
+        hashes: Sequence[int] = self._hashes
+        if not any(map(gt, self.stamps, islice(self.stamps, 1, None))):
+            # Rows that repeat one another have the same moment, so they follow one another.
+            same = bytes(map(eq, self.stamps, islice(self.stamps, 1, None)))
+            hashes = list(compress(hashes, map(or_, same + b"\0", b"\0" + same)))
+        if len(set(hashes)) == len(hashes):
             return []
         first: dict[int, int] = {}
         found = []

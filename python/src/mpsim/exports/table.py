@@ -37,6 +37,14 @@ class Table:
         """Returns a reader of the rows after the header, and the number of the first row, counted as in a spreadsheet."""
         raise NotImplementedError
 
+    def chunks(self, size: int) -> Iterator[tuple[int, list[list[str]], int]]:
+        """Yields the rows after the header, about this many at a time: the number of the first, the rows, and how many lines they take."""
+        rows, number = self.rows()
+        lines = rows.line_num
+        while some := list(itertools.islice(rows, size)):
+            yield number, some, rows.line_num - lines
+            number, lines = number + len(some), rows.line_num
+
     def _named(self, first: Sequence[str], header: str | None) -> list[str]:
         """Returns the names of the columns: those given, separated by commas, or those in the first row."""
         if header is None and not any(item.strip() for item in first):

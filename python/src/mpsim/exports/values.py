@@ -136,8 +136,8 @@ class End:
         is_doubtful = zone.twice in ("first", "second") and (zone.working is not None or max(lengths) >= REPEATED)
         if is_doubtful or max(lengths) >= GREATEST_VALUE * self.tick:
             raise Unread("one by one")
-        double, half = 2 * self.tick, self.tick
-        return [(2 * length + half) // double for length in lengths]
+        tick, half = self.tick, self.tick // 2
+        return [(length + half) // tick for length in lengths]
 
 
 class Wait:

@@ -16,6 +16,7 @@ _CLOCK, _LANE, _GREATEST = 8, 8, (23, 59, 59)
 # A later moment may not fit.
 _LAST = 9 * 10**18
 _DIGITS = bytes(max(value - 48, 0) for value in range(256))
+_UP_TO = {greatest: bytes(range(greatest + 1)) for greatest in _GREATEST}
 
 
 def moments(texts: Sequence[str], begin_of: Callable[[str], int], marks: str) -> array[int] | None:
@@ -53,7 +54,7 @@ def _seconds(data: bytes, width: int, at: int) -> int | None:
         if not (tens + ones).isdigit():
             return None
         pairs = (10 * _number(tens.translate(_DIGITS)) + _number(ones.translate(_DIGITS))).to_bytes(count, "little")
-        if max(pairs) > greatest:
+        if pairs.translate(None, _UP_TO[greatest]):
             return None
         lanes = bytearray(_LANE * count)
         lanes[::_LANE] = pairs
