@@ -8,10 +8,11 @@ import shutil
 import subprocess
 import tempfile
 
-from ground import TESTS
+from ground import LONGEST, TESTS
 
 try:
     from selenium import webdriver
+    from selenium.common.exceptions import WebDriverException
     from selenium.webdriver.chrome.service import Service
     from selenium.webdriver.common.by import By
     from selenium.webdriver.common.keys import Keys
@@ -101,6 +102,16 @@ class StandIn:
         self._process.stdout.close()
 
 
+def started(options):
+    """Starts Chromium, with these options. Its driver waits a minute for it, which isn't enough on a busy machine: then it is started again."""
+    for left in 4, 3, 2, 1, 0:
+        try:
+            return webdriver.Chrome(service=Service(DRIVER), options=options)
+        except WebDriverException:
+            if not left:
+                raise
+
+
 class Browser:
     """Headless Chromium."""
 
@@ -109,7 +120,9 @@ class Browser:
         for item in "--headless=new", "--no-sandbox", "--disable-gpu", "--disable-dev-shm-usage", "--window-size=1200,1000":
             options.add_argument(item)
         options.set_capability("goog:loggingPrefs", {"browser": "ALL"})
-        self.driver = webdriver.Chrome(service=Service(DRIVER), options=options)
+        # In milliseconds. By default a script has half a minute.
+        options.timeouts = {"script": 1000 * LONGEST, "pageLoad": 1000 * LONGEST}
+        self.driver = started(options)
         self._folder = tempfile.TemporaryDirectory()
 
     def show(self, text):
