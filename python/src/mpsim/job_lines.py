@@ -21,8 +21,8 @@ _JOINED = (0x0F0F0F0F0F0F0F0F, 2561, 8), (0x00FF00FF00FF00FF, 6553601, 16), (0x0
 
 
 def is_read(visits: NodeVisits, lines: bytes, jobs: int, numpy: Any) -> bool:
-    """Appends the visits of job lines, which are whole lines, to those of their node. Returns False, with nothing changed, unless all of them are lines
-    as reports have them, of visits that departed, with records from 1 to `jobs` and other numbers below 10^16."""
+    """Appends the visits of job lines, which are whole lines, to those of their node. Returns False, with nothing changed, unless all of them are
+    lines as reports have them, of visits that departed, with records from 1 to `jobs` and other numbers below 10^16."""
     # A field has characters in front of it, and each place begins a number.
     text = b"".join((b"\n" * 2 * _WORD, lines, b"\n" * _NAME))
     data = numpy.frombuffer(text, "u1")

@@ -330,11 +330,10 @@ class Reading:
 
     def _texts(self) -> Iterator[bytes]:
         """Yields the job lines, whole lines, some 128 kB at a time."""
-        text = self._line if self.has_jobs else b""
-        while text:
-            yield text
-            text = self._stream.read(CHUNK)
-            text += self._stream.readline()
+        left = self._line if self.has_jobs else b""
+        while self.has_jobs and (text := left + self._stream.read(CHUNK)):
+            yield text + self._stream.readline()
+            left = b""
 
     def _pieces_of(self, text: bytes, nodes: Collection[str] | None, seen: Mapping[str, Totals]) -> Iterator[NodeVisits]:
         # No number in a report is negative, so visits without a wait can get one, and all lines have the same shape. Many lines can then be checked

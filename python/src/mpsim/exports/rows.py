@@ -71,8 +71,8 @@ class Rows:
         self._writer = Writer(left_out) if left_out is not None else None
 
     def read(self, most: float = 100) -> None:
-        """Reads all rows. Raises ValueError if the export is too long or needs another option, and TooManyLeft as soon as more rows are left out than a
-        trace has records, if that is more than this percentage however many records follow."""
+        """Reads all rows. Raises ValueError if the export is too long or needs another option, and TooManyLeft as soon as more rows are left out than
+        a trace has records, if that is more than this percentage however many records follow."""
         if self._writer:
             self._writer.writerow(["row", "reason", *self.plan.export.header])
         with uncollected(), Progress(self.plan.export.size, "rows") as progress:

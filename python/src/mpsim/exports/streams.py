@@ -51,8 +51,8 @@ _OTHERS = {
 
 class Stream:
     """The bytes of an export: bytes, or a file by its path ("-" is standard input). `form` (str) says what it is: "text", "workbook" (.xlsx),
-    "parquet" or "arrow". `notes` (list of str) say how it was unpacked, and `count` (int or None) is the number of lines of a text, once it is known. A
-    pipe is copied to a temporary file. Raises OSError, and ValueError for a file that isn't a table."""
+    "parquet" or "arrow". `notes` (list of str) say how it was unpacked, and `count` (int or None) is the number of lines of a text, once it is known.
+    A pipe is copied to a temporary file. Raises OSError, and ValueError for a file that isn't a table."""
 
     notes: list[str]
     count: int | None
