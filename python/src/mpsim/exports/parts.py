@@ -139,4 +139,3 @@ class Parts(Rows):
             if label == labels[0]:
                 part.left, part.unwanted, part.long = self.left, self.unwanted, self.long
             yield part
-
