@@ -20,13 +20,16 @@ use Rattle.mq_kinds.specs.declared.pieces.Load.{Load}
 use Rattle.mq_kinds.specs.declared.table.Serving.{Serving}
 use Rattle.mq_kinds.specs.declared.table.Serving.TheVariants.{Delay, ForkJoin, Server, Split, Tandem, Whole}
 use Rattle.mq_merge.specs.Borrowed.{stream_in}
+use Rattle.mq_exits.proofs.Lasts.{keeping-few}
 use Rattle.mq_exits.proofs.Stations.{from-station, to-station}
-use Rattle.mq_exits.specs.Loads.{IsLoaded, IsReadyLoad, IsStationOf}
+use Rattle.mq_exits.specs.Keeping.{IsLeftOf, Whose, whose}
+use Rattle.mq_exits.specs.Loads.{IsLoaded, IsStationOf}
+use Rattle.mq_exits.specs.declared.keeping.Keep.{Keep}
 use Rattle.mq_exits.specs.declared.load.Held.{Held}
-use Rattle.mq_engine.specs.Places.{IsLeftOf, IsPlace, IsServingOf, IsWorkOf, place_size, work_size}
+use Rattle.mq_engine.specs.Places.{IsPlace, IsServingOf, IsWorkOf, place_size, work_size}
 use Rattle.mq_engine.specs.declared.places.Place.{Place}
 use Rattle.mq_engine.specs.declared.places.Work.{Work}
-use Rattle.mq_engine.specs.declared.places.Work.TheVariants.{Ended, Serving as Serves}
+use Rattle.mq_engine.specs.declared.places.Work.TheVariants.{Ended, Keeping as Keeps, Serving as Serves}
 
 -- a node that lets each job out once, alone, is no join
 pub sends-load : (kind : Kind) → sends_once kind ≡ true → HasLoad kind
@@ -57,23 +60,28 @@ serving-few rows kind arrivals (Tandem tandem) h = let few = h.blocks.1 in omega
 serving-few rows kind arrivals (ForkJoin work) h = let most = each-most (length work.passage.branches) work.blocks.blocks h.blocks.1 in let few = h.passage.few in omega arith
 serving-few rows kind arrivals (Split split) h = let few = h.cut.1 in omega arith
 
-pub places-few : (places : List Place) → length places ≤ 64 → AllByRecursion IsPlace places → total_size place_size places < 2 ^ 32
-places-few places few fit =
-    let most = total-most 1048576 place_size places (Each-weaker IsPlace (λ p. place_size p ≤ 1048576) (λ p h. work-few p.held p.work h.0 h.1) places fit) in
+-- a station in its place, in some run
+abbrev pub IsSomePlace : Place → Type 0
+IsSomePlace place = (keep : Keep) × IsPlace keep place
+
+pub places-few : (keep : Keep) (places : List Place) → length places ≤ 64 → AllByRecursion (IsPlace keep) places → total_size place_size places < 2 ^ 32
+places-few keep places few fit =
+    let most = total-most 1048576 place_size places (Each-weaker (IsPlace keep) (λ p. place_size p ≤ 1048576) (λ p h. work-few p.held p.work h) places fit) in
     omega arith
   where
-    work-few : (held : Held) (work : Work) → IsReadyLoad held → IsWorkOf held work → work_size work ≤ 1048576
-    work-few held (Serves serving) ready h = let loaded = ready.1 in serving-few held.rows.now loaded.node.kind (stream_in held.arrivals) serving (h loaded.node loaded.there)
-    work-few held (Ended left) ready h = omega arith
+    work-few : (held : Held) (work : Work) → IsWorkOf keep held work → work_size held work ≤ 1048576
+    work-few held (Serves serving) h = let loaded = h.0.1 in serving-few held.rows.now loaded.node.kind (stream_in held.arrivals) serving (h.1 loaded.node loaded.there)
+    work-few held (Keeps keeping) h = let few = keeping-few held keeping h.1 in omega arith
+    work-few held (Ended end) h = omega arith
 
--- what holds of what came to all stations, holds of what came to the same stations later
-pub each-same : (P : Held → Type 0) (new old : List Place) → map (λ (p : Place). p.held) new ≡ map (λ (p : Place). p.held) old → AllByRecursion (λ (p : Place). P p.held) old → AllByRecursion (λ (p : Place). P p.held) new
+-- what holds of the plan, the rows and the node of each station, holds later
+pub each-same : (P : Whose → Type 0) (new old : List Place) → map (λ (p : Place). whose p.held) new ≡ map (λ (p : Place). whose p.held) old → AllByRecursion (λ (p : Place). P (whose p.held)) old → AllByRecursion (λ (p : Place). P (whose p.held)) new
 each-same P new old same h = from-map new (subst (AllByRecursion P) (sym same) (to-map old h))
   where
-    to-map : (places : List Place) → AllByRecursion (λ (p : Place). P p.held) places → AllByRecursion P (map (λ (p : Place). p.held) places)
+    to-map : (places : List Place) → AllByRecursion (λ (p : Place). P (whose p.held)) places → AllByRecursion P (map (λ (p : Place). whose p.held) places)
     to-map [] h = tt
     to-map (p ∷ ps) h = (h.0, to-map ps h.1)
 
-    from-map : (places : List Place) → AllByRecursion P (map (λ (p : Place). p.held) places) → AllByRecursion (λ (p : Place). P p.held) places
+    from-map : (places : List Place) → AllByRecursion P (map (λ (p : Place). whose p.held) places) → AllByRecursion (λ (p : Place). P (whose p.held)) places
     from-map [] h = tt
     from-map (p ∷ ps) h = (h.0, from-map ps h.1)

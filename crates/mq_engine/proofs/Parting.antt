@@ -10,6 +10,7 @@ use Rattle.mq_base.proofs.lemmas.Each.{Each-append}
 use Rattle.mq_base.proofs.lemmas.Lists.{some_inj}
 use Rattle.mq_arrivals.specs.declared.nodes.Arriving.{Arriving}
 use Rattle.mq_exits.specs.Turns.{IsGiven}
+use Rattle.mq_exits.specs.declared.keeping.Keep.{Keep}
 use Rattle.mq_exits.specs.declared.turns.Given.{Given}
 use Rattle.mq_engine.specs.Waves.{AreGiven, IsSide, IsWave}
 use Rattle.mq_engine.proofs.Telling.{all-at, given-among}
@@ -68,10 +69,10 @@ is-side s ready wave among few =
     }
 
 -- what both sides give
-pub both-given : (s : Arriving) (long others : Bor (List ℕ)) (a b : List Given) → IsPermutation (long.now ++ others.now) s.ready.now →
-    AreGiven (side_of_wave s long) a → AreGiven (side_of_wave s others) b → AreGiven s (a ++ b)
-both-given s long others a b is first second =
-    let is_given = IsGiven s.plan.now s.rows.now s.ready.now in
+pub both-given : (keep : Keep) (s : Arriving) (long others : Bor (List ℕ)) (a b : List Given) → IsPermutation (long.now ++ others.now) s.ready.now →
+    AreGiven keep (side_of_wave s long) a → AreGiven keep (side_of_wave s others) b → AreGiven keep s (a ++ b)
+both-given keep s long others a b is first second =
+    let is_given = IsGiven keep s.plan.now s.rows.now s.ready.now in
     record {
       len =
           let all = length_permutation (long.now ++ others.now) s.ready.now is in
@@ -81,13 +82,13 @@ both-given s long others a b is first second =
           let other = second.len in
           omega arith;
       known = Each-append is_given a b
-          (given-among s.plan.now s.rows.now long.now s.ready.now a (long-ready long.now others.now s.ready.now is) first.known)
-          (given-among s.plan.now s.rows.now others.now s.ready.now b (other-ready long.now others.now s.ready.now is) second.known);
+          (given-among keep s.plan.now s.rows.now long.now s.ready.now a (long-ready long.now others.now s.ready.now is) first.known)
+          (given-among keep s.plan.now s.rows.now others.now s.ready.now b (other-ready long.now others.now s.ready.now is) second.known);
     }
 
-pub appended-given : (s : Arriving) (long others : Bor (List ℕ)) {E : Type 0} (first second all : Result (List Given) E) → IsPermutation (long.now ++ others.now) s.ready.now →
-    IfOk first (AreGiven (side_of_wave s long)) → IfOk second (AreGiven (side_of_wave s others)) → IfOk all (λ l. IsOkAnd first (λ a. IsOkAnd second (λ b. l ≡ a ++ b))) → IfOk all (AreGiven s)
-appended-given s long others first second (Err e) is a b put = tt
-appended-given s long others (Err e) second (Ok l) is a b put = absurd put
-appended-given s long others (Ok x) (Err e) (Ok l) is a b put = absurd put
-appended-given s long others (Ok x) (Ok y) (Ok l) is a b put = subst (AreGiven s) (sym put) (both-given s long others x y is a b)
+pub appended-given : (keep : Keep) (s : Arriving) (long others : Bor (List ℕ)) {E : Type 0} (first second all : Result (List Given) E) → IsPermutation (long.now ++ others.now) s.ready.now →
+    IfOk first (AreGiven keep (side_of_wave s long)) → IfOk second (AreGiven keep (side_of_wave s others)) → IfOk all (λ l. IsOkAnd first (λ a. IsOkAnd second (λ b. l ≡ a ++ b))) → IfOk all (AreGiven keep s)
+appended-given keep s long others first second (Err e) is a b put = tt
+appended-given keep s long others (Err e) second (Ok l) is a b put = absurd put
+appended-given keep s long others (Ok x) (Err e) (Ok l) is a b put = absurd put
+appended-given keep s long others (Ok x) (Ok y) (Ok l) is a b put = subst (AreGiven keep s) (sym put) (both-given keep s long others x y is a b)

@@ -1,24 +1,34 @@
--- The stations of a wave as they are put in their places, and as they leave them, from the back.
-use Rattle.std.proofs.Common.{◌≡◌, suc, ◌+◌, ◌≤◌, List, [], ◌∷◌, ◌++◌, length, refl, sym, ap, ◌∙◌, subst, arith, length-append}
+-- The stations of a wave as they are put in their places, from the back.
+use Rattle.std.proofs.Common.{◌≡◌, ℕ, suc, ◌+◌, ◌≤◌, List, [], ◌∷◌, ◌++◌, length, refl, sym, ap, ◌∙◌, subst, arith, length-append}
 use Rattle.std.specs.List.{AllByRecursion}
+use Rattle.mq_base.proofs.lemmas.Lists.{only}
 use Rattle.mq_base.proofs.lemmas.Each.{Each-append, Each-back, Each-front}
+use Rattle.std.specs.Prelude.{Contains}
 use Rattle.mq_core.specs.Theorems.{IsReadFor}
+use Rattle.mq_core.specs.declared.model.Plan.{Plan}
+use Rattle.mq_core.specs.declared.model.Rows.{Rows}
 use Rattle.mq_crew.specs.Crew.{AreAll}
 use Rattle.mq_crew.proofs.lemmas.Groups.{all-last, append-at, append-before}
 use Rattle.mq_arrivals.specs.declared.nodes.Arrived.{Arrived}
 use Rattle.mq_arrivals.specs.declared.nodes.Arriving.{Arriving}
 use Rattle.mq_kinds.specs.declared.table.Serving.{Serving}
-use Rattle.mq_exits.proofs.OfWave.{IsEmptiedOf, Wave}
-use Rattle.mq_exits.specs.Exits.{IsReadyCompletion}
+use Rattle.mq_exits.proofs.OfWave.{Keeps}
 use Rattle.mq_exits.specs.Loads.{IsLoadOf}
-use Rattle.mq_exits.specs.declared.exits.Emptied.{Emptied}
+use Rattle.mq_exits.specs.Keeping.{Whose, whose}
+use Rattle.mq_exits.specs.Results.{IsResultOf, IsWorkedOut}
+use Rattle.mq_exits.specs.Turns.{IsGiven}
+use Rattle.mq_exits.specs.declared.keeping.Keep.{Keep}
+use Rattle.mq_exits.specs.declared.keeping.Keep.TheVariants.{Lists}
 use Rattle.mq_exits.specs.declared.load.Held.{Held}
-use Rattle.mq_engine.specs.Places.{HaveEnded, IsArrivedAt, IsPlace, IsServingFor}
+use Rattle.mq_exits.specs.declared.turns.Given.{Given}
+use Rattle.mq_exits.specs.declared.turns.Given.TheVariants.{Ended as GivenEnd}
+use Rattle.mq_exits.specs.declared.working.NodeResult.{NodeResult}
+use Rattle.mq_engine.specs.Places.{IsArrivedAt, IsPlace, IsServingFor}
 use Rattle.mq_engine.specs.declared.places.Place.{Place}
 use Rattle.mq_engine.specs.declared.places.Work.TheVariants.{Serving as Serves}
 
 abbrev pub IsPlaceAt : Arriving → Place → Type 0
-IsPlaceAt s place = IsPlace place × IsLoadOf s.plan.now s.rows.now s.ready.now place.held
+IsPlaceAt s place = ((keep : Keep) → IsPlace keep place) × IsLoadOf s.plan.now s.rows.now s.ready.now place.held
 
 -- those that are left, and what is made of the others
 pub record ArePlacing (s : Arriving) (all left : List Arrived) (servings : List Serving) (done : List Place) : Type 0 where
@@ -60,44 +70,25 @@ placing-more s all left rest one servings others serving done done' place was a 
           omega arith;
       made =
           subst (AllByRecursion (IsPlaceAt s)) (sym e)
-          (Each-append (IsPlaceAt s) done (place ∷ []) was.made (subst (IsPlaceAt s) (sym is) (((read, here.0, block), own), (refl, refl, here.1)), tt));
+          (Each-append (IsPlaceAt s) done (place ∷ []) was.made (subst (IsPlaceAt s) (sym is) (λ keep. ((read, here.0, block), own), (refl, refl, here.1)), tt));
     }
 
-abbrev pub IsPlaceOf : Wave → Place → Type 0
-IsPlaceOf w place = IsLoadOf w.0 w.1 w.2 place.held
+-- a place of a wave, in a run that keeps this
+abbrev pub IsPlaceIn : Keeps → Place → Type 0
+IsPlaceIn k place = IsPlace k.0 place × IsLoadOf k.1.0 k.1.1 k.1.2 place.held
 
--- those that are left in their places, and those that have left
-pub record AreEmptying (all left : List Place) (done : List Emptied) : Type 0 where
-  pub fits : AllByRecursion IsPlace left
-  pub ended : AllByRecursion HaveEnded left
-  pub len : length done + length left ≡ length all
-  pub made : AllByRecursion IsReadyCompletion done
-  pub of : (w : Wave) → AllByRecursion (IsPlaceOf w) all → AllByRecursion (IsPlaceOf w) left × AllByRecursion (IsEmptiedOf w) done
+pub both-each : {X : Type 0} (P Q : X → Type 0) (xs : List X) → AllByRecursion P xs → AllByRecursion Q xs → AllByRecursion (λ x. P x × Q x) xs
+both-each P Q [] p q = tt
+both-each P Q (x ∷ xs) p q = ((p.0, q.0), both-each P Q xs p.1 q.1)
 
-pub emptying-last : (all left rest : List Place) (place : Place) (done : List Emptied) → AreEmptying all left done → left ≡ rest ++ place ∷ [] → IsPlace place × HaveEnded place
-emptying-last all left rest place done was a = (
-  (Each-back IsPlace rest (place ∷ []) (subst (AllByRecursion IsPlace) a was.fits)).0,
-  (Each-back HaveEnded rest (place ∷ []) (subst (AllByRecursion HaveEnded) a was.ended)).0,
-)
+-- a place alone, in a run that keeps lists: what it gives is how its node ends
+pub alone : (held : Held) (place : Place) (given : Given) → whose place.held ≡ whose held → IsPlace Lists place →
+    ((keep : Keep) (plan : Plan) (rows : Rows) (ready : List ℕ) → IsPlace keep place → IsLoadOf plan rows ready place.held → IsGiven keep plan rows ready given) → IsGiven Lists held.plan.now held.rows.now (held.number ∷ []) given
+alone held place given same fit gives =
+    gives Lists held.plan.now held.rows.now (held.number ∷ []) fit
+    (subst (λ (w : Whose). (w.0 ≡ held.plan.now) × (w.1 ≡ held.rows.now) × Contains (held.number ∷ []) w.2) (sym same) (refl, refl, (0, omega arith, refl)))
 
-pub emptying-more : (all left rest : List Place) (place : Place) (done done' : List Emptied) (emptied : Emptied) → AreEmptying all left done → left ≡ rest ++ place ∷ [] → IsReadyCompletion emptied → emptied.held ≡ place.held → done' ≡ done ++ emptied ∷ [] → AreEmptying all rest done'
-emptying-more all left rest place done done' emptied was a ready same e =
-    record {
-      fits = Each-front IsPlace rest (place ∷ []) (subst (AllByRecursion IsPlace) a was.fits);
-      ended = Each-front HaveEnded rest (place ∷ []) (subst (AllByRecursion HaveEnded) a was.ended);
-      len =
-          let count = was.len in
-          let more = ap length e in
-          let grown = length-append done (emptied ∷ []) in
-          let less = ap length a in
-          let gone = length-append rest (place ∷ []) in
-          omega arith;
-      made = subst (AllByRecursion IsReadyCompletion) (sym e) (Each-append IsReadyCompletion done (emptied ∷ []) was.made (ready, tt));
-      of = λ w h.
-          let now = was.of w h in
-          let here = subst (AllByRecursion (IsPlaceOf w)) a now.0 in
-          let own : IsEmptiedOf w emptied = subst (λ (held : Held). IsLoadOf w.0 w.1 w.2 held) (sym same) (Each-back (IsPlaceOf w) rest (place ∷ []) here).0 in (
-            Each-front (IsPlaceOf w) rest (place ∷ []) here,
-            subst (AllByRecursion (IsEmptiedOf w)) (sym e) (Each-append (IsEmptiedOf w) done (emptied ∷ []) now.1 (own, tt)),
-          );
-    }
+pub alone-known : (held : Held) (given : Given) (r : NodeResult) → IsGiven Lists held.plan.now held.rows.now (held.number ∷ []) given → given ≡ GivenEnd r → IsWorkedOut held.plan.now held.rows.now (record { number = held.number; ending = r.ending })
+alone-known held given r h e =
+    let is : IsResultOf held.plan.now held.rows.now (held.number ∷ []) r = subst (IsGiven Lists held.plan.now held.rows.now (held.number ∷ [])) e h in
+    subst (λ (n : ℕ). IsWorkedOut held.plan.now held.rows.now (record { number = n; ending = r.ending })) (only held.number r.number is.0) is.1

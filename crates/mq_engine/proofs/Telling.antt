@@ -32,7 +32,8 @@ use Rattle.mq_engine.specs.declared.wave.Way.TheVariants.{Crowded, Apart, Statio
 use Rattle.mq_arrivals.specs.Arrivals.{IsArriving, arriving, pairs_read}
 use Rattle.mq_arrivals.specs.declared.nodes.Arriving.{Arriving}
 use Rattle.mq_exits.specs.declared.working.Ending.TheVariants.{TooMany}
-use Rattle.mq_exits.specs.Turns.{IsFinishable, IsGiven, result_given}
+use Rattle.mq_exits.specs.Turns.{IsGiven, result_given}
+use Rattle.mq_exits.specs.declared.keeping.Keep.{Keep}
 use Rattle.mq_exits.specs.declared.turns.Given.{Given}
 use Rattle.mq_exits.specs.declared.turns.Given.TheVariants.{Ended, InTurn as Turned}
 use Rattle.mq_exits.specs.declared.working.NodeResult.{NodeResult}
@@ -130,12 +131,12 @@ pub results-among : (plan : Plan) (rows : Rows) (some all : List ℕ) (results :
 results-among plan rows some all results among = Each-weaker (IsResultOf plan rows some) _ (λ node_result h. (among node_result.number h.0, h.1)) results
 
 -- the same of what is given
-one-among : (plan : Plan) (rows : Rows) (some all : List ℕ) → ((v : ℕ) → Contains some v → Contains all v) → (given : Given) → IsGiven plan rows some given → IsGiven plan rows all given
-one-among plan rows some all among (Ended node_result) h = ((among node_result.number h.0.0, h.0.1), (among node_result.number h.1.0, h.1.1))
-one-among plan rows some all among (Turned it) h = (((h.0.0.0, h.0.0.1, among it.held.number h.0.0.2), h.0.1, h.0.2, h.0.3), (among it.held.number h.1.0, h.1.1))
+one-among : (keep : Keep) (plan : Plan) (rows : Rows) (some all : List ℕ) → ((v : ℕ) → Contains some v → Contains all v) → (given : Given) → IsGiven keep plan rows some given → IsGiven keep plan rows all given
+one-among keep plan rows some all among (Ended node_result) h = (among node_result.number h.0, h.1)
+one-among keep plan rows some all among (Turned it) h = (h.0, (among it.held.number h.1.0, h.1.1), h.2)
 
-pub given-among : (plan : Plan) (rows : Rows) (some all : List ℕ) (given : List Given) → ((v : ℕ) → Contains some v → Contains all v) → Each (IsGiven plan rows some) given → Each (IsGiven plan rows all) given
-given-among plan rows some all given among = Each-weaker (IsGiven plan rows some) _ (one-among plan rows some all among) given
+pub given-among : (keep : Keep) (plan : Plan) (rows : Rows) (some all : List ℕ) (given : List Given) → ((v : ℕ) → Contains some v → Contains all v) → Each (IsGiven keep plan rows some) given → Each (IsGiven keep plan rows all) given
+given-among keep plan rows some all given among = Each-weaker (IsGiven keep plan rows some) _ (one-among keep plan rows some all among) given
 
 -- where each item of a list has something, what is in it has
 pub each-contained : (P : ℕ → Type 0) (xs : List ℕ) → Each P xs → (v : ℕ) → Contains xs v → P v
@@ -238,20 +239,21 @@ serves s read early can few block =
       block = block;
     }
 
--- what is given is what the run has, in turn, and can be finished
-pub given-results : (plan : Plan) (rows : Rows) (ready : List ℕ) (given : List Given) → Each (IsGiven plan rows ready) given → Each (IsResultOf plan rows ready) (map result_given given)
-given-results plan rows ready [] h = tt
-given-results plan rows ready (one ∷ given) h = (h.0.1, given-results plan rows ready given h.1)
+-- what is given is what the run has, in turn
+given-result : (keep : Keep) (plan : Plan) (rows : Rows) (ready : List ℕ) (one : Given) → IsGiven keep plan rows ready one → IsResultOf plan rows ready (result_given one)
+given-result keep plan rows ready (Ended node_result) h = h
+given-result keep plan rows ready (Turned it) h = h.1
 
-pub given-finishable : (plan : Plan) (rows : Rows) (ready : List ℕ) (given : List Given) → Each (IsGiven plan rows ready) given → Each (IsFinishable plan rows ready) given
-given-finishable plan rows ready given = Each-weaker (IsGiven plan rows ready) _ (λ one h. h.0) given
+pub given-results : (keep : Keep) (plan : Plan) (rows : Rows) (ready : List ℕ) (given : List Given) → Each (IsGiven keep plan rows ready) given → Each (IsResultOf plan rows ready) (map result_given given)
+given-results keep plan rows ready [] h = tt
+given-results keep plan rows ready (one ∷ given) h = (given-result keep plan rows ready one h.0, given-results keep plan rows ready given h.1)
 
-turn-kept : (plan : Plan) (rows : Rows) (ready : List ℕ) (one : Given) → IsFinishable plan rows ready one → IsKeepingTurn one
-turn-kept plan rows ready (Ended node_result) h = tt
-turn-kept plan rows ready (Turned it) h = h.3
+turn-kept : (keep : Keep) (plan : Plan) (rows : Rows) (ready : List ℕ) (one : Given) → IsGiven keep plan rows ready one → IsKeepingTurn one
+turn-kept keep plan rows ready (Ended node_result) h = tt
+turn-kept keep plan rows ready (Turned it) h = h.2
 
-pub turns-kept : (plan : Plan) (rows : Rows) (ready : List ℕ) (given : List Given) → Each (IsGiven plan rows ready) given → Each IsKeepingTurn given
-turns-kept plan rows ready given = Each-weaker (IsGiven plan rows ready) _ (λ one h. turn-kept plan rows ready one h.0) given
+pub turns-kept : (keep : Keep) (plan : Plan) (rows : Rows) (ready : List ℕ) (given : List Given) → Each (IsGiven keep plan rows ready) given → Each IsKeepingTurn given
+turns-kept keep plan rows ready given = Each-weaker (IsGiven keep plan rows ready) _ (turn-kept keep plan rows ready) given
 
 -- two answers of one call
 pub IfOk-both : {X E : Type 0} (r : Result X E) (P Q : X → Type 0) → IfOk r P → IfOk r Q → IfOk r (λ x. P x × Q x)

@@ -7,18 +7,18 @@ use Rattle.mq_core.specs.declared.model.Rows.{Rows}
 use Rattle.mq_core.specs.declared.model.Stream.{Stream}
 use Rattle.mq_merge.specs.Borrowed.{stream_in}
 use Rattle.mq_kinds.specs.Table.{IsServing, IsServingPiece, serving_size, serving_steps}
-use Rattle.mq_kinds.specs.declared.pieces.Left.{Left}
 use Rattle.mq_kinds.specs.declared.pieces.Piece.{Piece}
 use Rattle.mq_kinds.specs.declared.table.Serving.{Serving}
 use Rattle.mq_arrivals.specs.declared.nodes.Arrived.{Arrived}
 use Rattle.mq_arrivals.specs.declared.nodes.Arriving.{Arriving}
-use Rattle.mq_exits.specs.Exits.{IsLeftAt}
+use Rattle.mq_exits.specs.Keeping.{IsEndOf, IsKeepingOf, IsKeepingPieceOf, keeping_size, whose}
 use Rattle.mq_exits.specs.Loads.{IsLoaded, IsReadyLoad}
+use Rattle.mq_exits.specs.declared.keeping.Keep.{Keep}
 use Rattle.mq_exits.specs.declared.load.Held.{Held}
 use Rattle.mq_engine.specs.declared.begun.Beginning.{Beginning}
 use Rattle.mq_engine.specs.declared.places.Place.{Place}
 use Rattle.mq_engine.specs.declared.places.Work.{Work}
-use Rattle.mq_engine.specs.declared.places.Work.TheVariants.{Ended, Serving as Serves}
+use Rattle.mq_engine.specs.declared.places.Work.TheVariants.{Ended, Keeping as Keeps, Serving as Serves}
 
 -- what came to one of these nodes can be worked on
 abbrev pub IsArrivedAt : Arriving → Arrived → Type 0
@@ -49,29 +49,29 @@ IsServingOf held serving = IsServingAt held.plan.now held.rows.now held.number (
 abbrev pub IsServingPieceOf : Held → Serving → ℕ → Piece → Type 0
 IsServingPieceOf held serving b piece = IsServingPieceAt held.plan.now held.rows.now held.number (stream_in held.arrivals) serving b piece
 
-abbrev pub IsLeftOf : Held → Left → Type 0
-IsLeftOf held left = IsLeftAt held.plan.now held.rows.now held.number (stream_in held.arrivals) left
+-- the work on a station fits what came to it, or has ended with what the run has
+abbrev pub IsWorkOf : Keep → Held → Work → Type 0
+IsWorkOf keep held (Serves serving) = IsReadyLoad held × IsServingOf held serving
+IsWorkOf keep held (Keeps keeping) = IsReadyLoad held × IsKeepingOf held keeping
+IsWorkOf keep held (Ended end) = IsEndOf keep held end
 
--- the work on a station fits what came to it, or has ended, and this left the station
-abbrev pub IsWorkOf : Held → Work → Type 0
-IsWorkOf held (Serves serving) = IsServingOf held serving
-IsWorkOf held (Ended left) = IsLeftOf held left
-
--- a station in its place
-abbrev pub IsPlace : Place → Type 0
-IsPlace place = IsReadyLoad place.held × IsWorkOf place.held place.work
+-- a station in its place, in a run that keeps this
+abbrev pub IsPlace : Keep → Place → Type 0
+IsPlace keep place = IsWorkOf keep place.held place.work
 
 -- the number of pieces of its step; one on which the work has ended has none
-abbrev pub work_size : Work → ℕ
-work_size (Serves serving) = serving_size serving
-work_size (Ended left) = 0
+abbrev pub work_size : Held → Work → ℕ
+work_size held (Serves serving) = serving_size serving
+work_size held (Keeps keeping) = keeping_size held.arrivals keeping
+work_size held (Ended end) = 0
 
 abbrev pub place_size : Place → ℕ
-place_size place = work_size place.work
+place_size place = work_size place.held place.work
 
 -- a piece of its step
 abbrev pub IsWorkPiece : Held → Work → ℕ → Piece → Type 0
 IsWorkPiece held (Serves serving) b piece = IsServingPieceOf held serving b piece
+IsWorkPiece held (Keeps keeping) b piece = IsKeepingPieceOf held keeping b piece
 IsWorkPiece _ _ _ _ = ⊥
 
 abbrev pub IsPlacePiece : Place → ℕ → Piece → Type 0
@@ -79,8 +79,9 @@ IsPlacePiece place b piece = IsWorkPiece place.held place.work b piece
 
 -- the number of steps that are left, at most
 abbrev pub work_steps : Work → ℕ
-work_steps (Serves serving) = suc (serving_steps serving)
-work_steps (Ended left) = 0
+work_steps (Serves serving) = suc (suc (serving_steps serving))
+work_steps (Keeps keeping) = 1
+work_steps (Ended end) = 0
 
 abbrev pub place_steps : Place → ℕ
 place_steps place = work_steps place.work
@@ -92,18 +93,19 @@ all_steps (place ∷ places) = place_steps place + all_steps places
 -- the work on it has ended
 abbrev pub HasEnded : Work → Type 0
 HasEnded (Serves serving) = ⊥
-HasEnded (Ended left) = Unit {0}
+HasEnded (Keeps keeping) = ⊥
+HasEnded (Ended end) = Unit {0}
 
 abbrev pub HaveEnded : Place → Type 0
 HaveEnded place = HasEnded place.work
 
 -- a station one round later: nearer to its end, if it hadn't ended
-pub record IsAdvanced (old new : Place) : Type 0 where
-  pub fit : IsPlace new
-  pub same : new.held ≡ old.held
+pub record IsAdvanced (keep : Keep) (old new : Place) : Type 0 where
+  pub fit : IsPlace keep new
+  pub same : whose new.held ≡ whose old.held
   pub nearer : place_steps new ≤ place_steps old - 1
 
 -- all stations one round later
-pub record AreAdvanced (old new : List Place) : Type 0 where
+pub record AreAdvanced (keep : Keep) (old new : List Place) : Type 0 where
   pub len : length new ≡ length old
-  pub each : (k : ℕ) (a b : Place) → slice_get old k ≡ Some a → slice_get new k ≡ Some b → IsAdvanced a b
+  pub each : (k : ℕ) (a b : Place) → slice_get old k ≡ Some a → slice_get new k ≡ Some b → IsAdvanced keep a b

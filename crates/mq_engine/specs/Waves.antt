@@ -9,6 +9,7 @@ use Rattle.mq_engine.specs.Apart.{CanGather}
 use Rattle.mq_arrivals.specs.declared.nodes.Arriving.{Arriving}
 use Rattle.mq_exits.specs.Results.{IsResultOf}
 use Rattle.mq_exits.specs.Turns.{IsGiven}
+use Rattle.mq_exits.specs.declared.keeping.Keep.{Keep}
 use Rattle.mq_exits.specs.declared.turns.Given.{Given}
 use Rattle.mq_engine.specs.Progress.{AreEarly, CanWork, HaveAll}
 use Rattle.mq_engine.specs.declared.wave.Way.{Way}
@@ -28,9 +29,9 @@ pub record IsSide (s : Arriving) : Type 0 where
   pub few : length s.ready.now ≤ 64
 
 -- as many as these nodes, and each is what one of them gives
-pub record AreGiven (s : Arriving) (given : List Given) : Type 0 where
+pub record AreGiven (keep : Keep) (s : Arriving) (given : List Given) : Type 0 where
   pub len : length given ≡ length s.ready.now
-  pub known : AllByRecursion (IsGiven s.plan.now s.rows.now s.ready.now) given
+  pub known : AllByRecursion (IsGiven keep s.plan.now s.rows.now s.ready.now) given
 
 -- a node has so many visits, more than it may
 abbrev pub IsCrowded : Plan → Rows → ℕ → ℕ → Type 0

@@ -4,6 +4,7 @@ ghost use Rattle.std.specs.List.{AllByRecursion};
 ghost use Rattle.mq_crew.specs.Crew.{AreAll};
 ghost use Rattle.mq_arrivals.specs.Arrivals.{IsArriving};
 ghost use Rattle.mq_exits.specs.Loads.{IsLoadOf};
+ghost use Rattle.mq_exits.specs.declared.keeping.Keep.{Keep as TheKeep};
 ghost use Rattle.mq_engine.specs.Places.{IsArrivedAt, IsBeginning, IsPlace, IsServingFor};
 ghost use Rattle.mq_engine.specs.Progress.{AreEarly, CanWorkAll};
 
@@ -59,7 +60,7 @@ pub fn places_of<'a, R: Threads + Sync, G: Gate>(
     requires early { AreEarly arriving.now.outputs.now }
     requires can { CanWorkAll arriving.now.plan.now arriving.now.rows.now arriving.now.outputs.now arriving.now.ready.now }
     ensures len { IfOk result (λ places. length places ≡ length arriving.now.ready.now) }
-    ensures fit { IfOk result (λ places. AllByRecursion IsPlace places) }
+    ensures fit { IfOk result (λ places. (keep : TheKeep) → AllByRecursion (IsPlace keep) places) }
     ensures of { IfOk result (λ places. AllByRecursion (λ place. IsLoadOf arriving.now.plan.now arriving.now.rows.now arriving.now.ready.now place.held) places) }
 {
     core_laws();
@@ -89,7 +90,7 @@ fn all_placed<'a>(
     requires arrived { AllByRecursion (IsArrivedAt arriving.now) arrived }
     requires servings { AreAll (IsServingFor arriving.now.plan.now arriving.now.rows.now arrived) (length arrived) servings }
     ensures len { IfOk result (λ places. length places ≡ length arrived.entry) }
-    ensures fit { IfOk result (λ places. AllByRecursion IsPlace places) }
+    ensures fit { IfOk result (λ places. (keep : TheKeep) → AllByRecursion (IsPlace keep) places) }
     ensures of { IfOk result (λ places. AllByRecursion (λ place. IsLoadOf arriving.now.plan.now arriving.now.rows.now arriving.now.ready.now place.held) places) }
 {
     let Ok(mut places) = Vec::with_capacity(alloc, arrived.len()) else {

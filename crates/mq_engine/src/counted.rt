@@ -22,6 +22,7 @@ use mq_base::{List, OutOfMemory};
 use mq_core::{Plan, Rows};
 use mq_counts::{Counts, counted};
 use mq_crew::{Crew, Gate};
+use mq_exits::Keep;
 use std::alloc::Global;
 use std::thread::Threads;
 
@@ -128,7 +129,7 @@ fn told_wave<R: Threads + Sync, G: Gate>(
     ensures len { IfOk result (λ told. length told ≡ length arriving.now.ready.now) }
     ensures told { IfOk result (AllByRecursion (IsToldAmong arriving.now.plan.now arriving.now.rows.now form arriving.now.ready.now)) }
 {
-    let given = wave_of(crew, arriving)?;
+    let given = wave_of(crew, Keep::Numbers, arriving)?;
     let (plan, rows) = (arriving.plan, arriving.rows);
     match counts_of_wave(crew, plan, rows, &given, form) {
         Ok(counts) => told_nodes(crew.alloc, plan.net.nodes.as_slice(), given, counts),

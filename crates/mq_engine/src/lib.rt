@@ -36,8 +36,9 @@ use mq_base::{List, OutOfMemory};
 pub use mq_core::{OverFault, PastFault};
 use mq_core::{Plan, Rows, Run};
 use mq_crew::{Crew, Gate};
-use mq_exits::{NodeResult, finished};
+use mq_exits::{Keep, NodeResult, finished};
 pub use mq_pass::chain_departures;
+pub use ready::worked_out;
 use std::alloc::Global;
 use std::thread::Threads;
 pub use wave::{Way, wave_of, way_of};
@@ -120,8 +121,8 @@ fn results_next<R: Threads + Sync, G: Gate>(
         ready: &ready,
         block,
     };
-    let given = wave_of(crew, &arriving)?;
-    finished(crew, given)
+    let given = wave_of(crew, Keep::Lists, &arriving)?;
+    finished(crew.alloc, given)
 }
 
 // The run, where no node is ready any more: all nodes are done, or the first by rank that is not

@@ -9,7 +9,7 @@ use mq_arrivals::Arriving;
 use mq_base::{List, OutOfMemory};
 use mq_core::Kind;
 use mq_crew::{Crew, Gate};
-use mq_exits::Given;
+use mq_exits::{Given, Keep};
 use std::alloc::Global;
 use std::marker::Sync;
 use std::thread::{Threads, join};
@@ -95,6 +95,7 @@ pub fn shares(workers: u32, long: u32) -> (u32, u32)
 
 // What the nodes of both sides give, each worked out by its own workers.
 pub fn side_by_side<'a, R: Threads + Sync, G: Gate>(
+    keep: Keep,
     few: &Crew<R, G>,
     long: &Arriving<'a, '_>,
     many: &Crew<R, G>,
@@ -105,17 +106,17 @@ pub fn side_by_side<'a, R: Threads + Sync, G: Gate>(
 )
     requires long { IsSide long.now }
     requires others { IsSide others.now }
-    ensures long { IfOk result.0 (AreGiven long.now) }
-    ensures others { IfOk result.1 (AreGiven others.now) }
+    ensures long { IfOk result.0 (AreGiven keep long.now) }
+    ensures others { IfOk result.1 (AreGiven keep others.now) }
 {
     let front = move || -> Result<List<Given>, OutOfMemory>
         requires { IsSync R.row × IsSync G.row × IsSide long.now }
-        ensures { IfOk result (AreGiven long.entry.now) }
-    { side_of(few, long) };
+        ensures { IfOk result (AreGiven keep long.entry.now) }
+    { side_of(few, keep, long) };
     let back = move || -> Result<List<Given>, OutOfMemory>
         requires { IsSync R.row × IsSync G.row × IsSide others.now }
-        ensures { IfOk result (AreGiven others.entry.now) }
-    { side_of(many, others) };
+        ensures { IfOk result (AreGiven keep others.entry.now) }
+    { side_of(many, keep, others) };
     join(few.rt, front, back)
 }
 

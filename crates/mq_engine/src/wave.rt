@@ -10,6 +10,7 @@ ghost use Rattle.mq_arrivals.specs.Arrivals.{pairs_read};
 ghost use Rattle.mq_exits.specs.Results.{IsResultOf};
 ghost use Rattle.mq_exits.specs.Turns.{IsGiven};
 ghost use Rattle.mq_engine.specs.Waves.{AreGiven, AreSorted, IsSide, IsWave, IsWay};
+ghost use Rattle.mq_exits.specs.declared.keeping.Keep.{Keep as TheKeep};
 ghost use Rattle.mq_exits.specs.declared.working.Ending.TheVariants.{TooMany};
 
 use crate::gathering::apart_results;
@@ -20,7 +21,7 @@ use mq_arrivals::{Arriving, stream_of};
 use mq_base::{List, OutOfMemory};
 use mq_core::{Kind, OverFault, is_source};
 use mq_crew::{Crew, Gate};
-use mq_exits::{Ending, Given, NodeResult, with_ended};
+use mq_exits::{Ending, Given, Keep, NodeResult, with_ended};
 use std::alloc::Global;
 use std::thread::Threads;
 
@@ -147,7 +148,7 @@ fn all_given<'a>(
     served: List<Given<'a>>,
 ) -> Result<List<Given<'a>>, OutOfMemory>
     ensures len { IfOk result (λ all. length all ≡ length wave.crowded + length gathered + length served.entry) }
-    ensures known { IfOk result (λ all. (plan : ThePlan) (rows : TheRows) (ready : Items ℕ) → AllByRecursion (IsResultOf plan rows ready) wave.crowded → AllByRecursion (IsResultOf plan rows ready) gathered → AllByRecursion (IsGiven plan rows ready) served.entry → AllByRecursion (IsGiven plan rows ready) all) }
+    ensures known { IfOk result (λ all. (keep : TheKeep) (plan : ThePlan) (rows : TheRows) (ready : Items ℕ) → AllByRecursion (IsResultOf plan rows ready) wave.crowded → AllByRecursion (IsResultOf plan rows ready) gathered → AllByRecursion (IsGiven keep plan rows ready) served.entry → AllByRecursion (IsGiven keep plan rows ready) all) }
 {
     let Ok(given) = with_ended(served, gathered) else {
         drop(wave);
@@ -159,10 +160,11 @@ fn all_given<'a>(
 // What these nodes give, by all workers together.
 pub fn side_of<'a, R: Threads + Sync, G: Gate>(
     crew: &Crew<R, G>,
+    keep: Keep,
     arriving: &Arriving<'a, '_>,
 ) -> Result<List<Given<'a>>, OutOfMemory>
     requires { IsSide arriving.now }
-    ensures { IfOk result (AreGiven arriving.now) }
+    ensures { IfOk result (AreGiven keep arriving.now) }
 {
     let wave = sorted_out(crew.alloc, arriving)?;
     let gathering = Arriving {
@@ -177,7 +179,7 @@ pub fn side_of<'a, R: Threads + Sync, G: Gate>(
         ready: &wave.stations,
         ..*arriving
     };
-    let Ok(served) = given_by(crew, &serving) else {
+    let Ok(served) = given_by(crew, keep, &serving) else {
         drop(wave);
         drop(gathered);
         return Err(OutOfMemory);
@@ -185,21 +187,22 @@ pub fn side_of<'a, R: Threads + Sync, G: Gate>(
     all_given(wave, gathered, served)
 }
 
-/// What the nodes that are ready give: stations of one long piece beside all others, where there are both. It refuses for
-/// want of memory alone.
+/// Returns what the nodes that are ready give, in a run that keeps this: stations of one long piece beside all others, if there are
+/// both. The only error is out of memory.
 pub fn wave_of<'a, R: Threads + Sync, G: Gate>(
     crew: &Crew<R, G>,
+    keep: Keep,
     arriving: &Arriving<'a, '_>,
 ) -> Result<List<Given<'a>>, OutOfMemory>
     requires wave { IsWave arriving.now }
     requires few { length arriving.now.ready.now ≤ 64 }
     ensures len { IfOk result (λ given. length given ≡ length arriving.now.ready.now) }
-    ensures known { IfOk result (λ given. AllByRecursion (IsGiven arriving.now.plan.now arriving.now.rows.now arriving.now.ready.now) given) }
+    ensures known { IfOk result (λ given. AllByRecursion (IsGiven keep arriving.now.plan.now arriving.now.rows.now arriving.now.ready.now) given) }
 {
     let sides = sides_of(crew.alloc, arriving, crew.workers)?;
     if crew.workers == 1 || sides.long.is_empty() || sides.others.is_empty() {
         drop(sides);
-        return side_of(crew, arriving);
+        return side_of(crew, keep, arriving);
     }
     let (few, many) = shares(crew.workers, sides.long.len() as u32);
     let long = Arriving {
@@ -210,7 +213,7 @@ pub fn wave_of<'a, R: Threads + Sync, G: Gate>(
         ready: &sides.others,
         ..*arriving
     };
-    let (first, second) = side_by_side(&crew.with(few), &long, &crew.with(many), &others);
+    let (first, second) = side_by_side(keep, &crew.with(few), &long, &crew.with(many), &others);
     drop(sides);
     appended(first, second)
 }

@@ -18,7 +18,7 @@ use Rattle.mq_stations.specs.Leaving.{AreDepartures, AreStreams, IsLoad}
 use Rattle.mq_stations.specs.Scans.{AreFewBlocks}
 use Rattle.mq_kinds.specs.declared.pieces.Left.TheVariants.{Overtaking}
 use Rattle.mq_exits.specs.Loads.{IsLoaded}
-use Rattle.mq_exits.specs.Exits.{IsLeftAt, IsOvertaken}
+use Rattle.mq_exits.specs.Keeping.{IsLeftAt, IsOvertaken}
 use Rattle.mq_stations.proofs.lemmas.Leaves.{departs-even, once-leaves}
 use Rattle.mq_exits.proofs.Leavings.{departures-order, late-by, sorted-streams}
 

@@ -6,9 +6,7 @@ use Rattle.mq_core.specs.declared.model.Plan.{Plan}
 use Rattle.mq_core.specs.declared.model.Rows.{Rows}
 use Rattle.mq_core.specs.declared.model.Stream.{Stream}
 use Rattle.mq_exits.specs.Afters.{IsAfterAt}
-use Rattle.mq_exits.specs.Exits.{IsCounted, IsDelayPiece, IsFound, IsOvertaken, founds_by}
-use Rattle.mq_exits.specs.declared.exits.Closed.{Closed}
-use Rattle.mq_exits.specs.declared.exits.Closed.TheVariants.{Found}
+use Rattle.mq_exits.specs.Keeping.{IsCounted, IsOvertaken, founds_by}
 use Rattle.mq_exits.specs.declared.overtaking.Overtaken.{Overtaken}
 use Rattle.mq_exits.specs.declared.working.After.{After}
 use Rattle.mq_exits.specs.declared.working.After.TheVariants.{Seen}
@@ -19,11 +17,6 @@ use Rattle.mq_scan.proofs.lemmas.Blocks.{behind-end, end_of}
 pub founds-end : (arrivals : Stream) (overtaken : Overtaken) (k : ℕ) (done : List ℕ) → IsCounted arrivals overtaken → overtaken.blocks.blocks ≤ k → done ≡ between 0 (end_of overtaken.blocks k) (founds_by arrivals overtaken.departs) → done ≡ founds_by arrivals overtaken.departs
 founds-end arrivals overtaken k done h l was =
     behind-end (founds_by arrivals overtaken.departs) overtaken.blocks k done l (h.blocks.0 ∙ sym (founds-length [] arrivals.time (map (λ time. Departs time) overtaken.departs) h.ahead.comings.even)) was
-
--- each piece tells of a block
-pub tells-found : (arrivals : Stream) (overtaken : Overtaken) (b : ℕ) (closed : Closed) → IsDelayPiece arrivals overtaken b closed → IsFound closed
-tells-found arrivals overtaken b (Found found) h = tt
-tells-found arrivals overtaken b _ h = h
 
 -- what becomes of the arrivals at a delay
 pub delays : (plan : Plan) (rows : Rows) (v : ℕ) (arrivals : Stream) (overtaken : Overtaken) (departs found : List ℕ) (leaving : Stream) → IsOvertaken plan rows v arrivals overtaken → departs ≡ overtaken.departs → leaving ≡ record { job = overtaken.job; time = overtaken.ahead.leaving } → found ≡ founds_by arrivals overtaken.departs →

@@ -1,5 +1,6 @@
--- The last pieces of a station: those by what is known of it, and behind them the copies of what came.
-use Rattle.std.proofs.Common.{◌≡◌, ℕ, suc, ◌≤◌, List, [], ◌∷◌, ◌++◌, length, ◌∙◌, refl, ap, subst, arith, length-append}
+-- The pieces of keeping: those by its form, and after them the copies of what came.
+use Rattle.std.proofs.Common.{◌≡◌, ℕ, suc, ◌≤◌, List, [], ◌∷◌, ◌++◌, length, Some, ◌∙◌, refl, ap, subst, arith, length-append}
+use Rattle.std.specs.Prelude.{slice_get}
 use Rattle.mq_core.specs.declared.model.Plan.{Plan}
 use Rattle.mq_core.specs.declared.model.Rows.{Rows}
 use Rattle.mq_core.specs.declared.model.Stream.{Stream}
@@ -8,53 +9,58 @@ use Rattle.mq_crew.proofs.lemmas.Groups.{all-last}
 use Rattle.mq_merge.specs.Borrowed.{stream_in}
 use Rattle.mq_merge.specs.declared.arrivals.Arrivals.{Arrivals}
 use Rattle.mq_merge.specs.declared.arrivals.Arrivals.TheVariants.{Merged, Read}
-use Rattle.mq_exits.specs.Exits.{IsClosed, IsCopy, IsLast, closings_of, copies_of, lasts_of}
-use Rattle.mq_exits.specs.declared.exits.Closed.{Closed}
-use Rattle.mq_exits.specs.declared.exits.Closed.TheVariants.{Came, Jobs}
-use Rattle.mq_exits.specs.declared.exits.Completion.{Completion}
+use Rattle.mq_kinds.specs.declared.pieces.Piece.{Piece}
+use Rattle.mq_exits.specs.Keeping.{IsKeepingAt, IsKeepingOf, IsKeepingPiece, IsOwnPiece, copies_of, copy_pieces, keeping_size, own_size}
+use Rattle.mq_exits.specs.declared.keeping.Keeping.{Keeping}
+use Rattle.mq_exits.specs.declared.keeping.Keeping.TheVariants.{InTurn, Overtaking, Passing, Settled}
+use Rattle.mq_exits.specs.declared.load.Held.{Held}
 
-pub copies-few : (arrivals : Arrivals) → copies_of arrivals ≤ 2
+-- they are few
+copies-few : (arrivals : Arrivals) → copies_of arrivals ≤ 2
 copies-few (Merged stream) = omega arith
 copies-few (Read stream) = omega arith
 
--- where nothing is copied, they are those by what is known
-pub all-own : (plan : Plan) (rows : Rows) (v : ℕ) (arrivals : Arrivals) (completion : Completion) (n : ℕ) (group : List Closed) → n ≡ closings_of completion → AreAll (IsLast plan rows v arrivals completion) n group → AreAll (IsClosed plan rows v (stream_in arrivals) completion) (closings_of completion) group
-all-own plan rows v arrivals completion n group e all = record { len = all.len ∙ e; each = λ b d l. (all.each b d (omega arith)).own l }
+own-few : (plan : Plan) (rows : Rows) (v : ℕ) (arrivals : Stream) (keeping : Keeping) → IsKeepingAt plan rows v arrivals keeping → own_size keeping ≤ 16384
+own-few plan rows v arrivals (InTurn departs) h = omega arith
+own-few plan rows v arrivals (Overtaking overtaken) h = let few = h.counted.blocks.1 in omega arith
+own-few plan rows v arrivals (Settled settled) h = omega arith
+own-few plan rows v arrivals (Passing streams) h = omega arith
 
--- else there are two behind them
-pub two-behind : (plan : Plan) (rows : Rows) (v : ℕ) (arrivals : Arrivals) (completion : Completion) (group : List Closed) → copies_of arrivals ≡ 2 → AreAll (IsLast plan rows v arrivals completion) (lasts_of arrivals completion) group → 2 ≤ length group
-two-behind plan rows v arrivals completion group two all = let count = all.len in omega arith
+pub keeping-few : (held : Held) (keeping : Keeping) → IsKeepingOf held keeping → keeping_size held.arrivals keeping ≤ 16386
+keeping-few held keeping h =
+    let own = own-few held.plan.now held.rows.now held.number (stream_in held.arrivals) keeping h in
+    let copied = copies-few held.arrivals in
+    omega arith
 
-pub one-behind : (group more : List Closed) (time : Closed) → 2 ≤ length group → group ≡ more ++ time ∷ [] → 1 ≤ length more
-one-behind group more time two e =
+-- where nothing is copied, they are those by the form
+pub all-own : (plan : Plan) (rows : Rows) (v : ℕ) (arrivals : Arrivals) (keeping : Keeping) (n : ℕ) (made : List Piece) → n ≡ own_size keeping → AreAll (IsKeepingPiece plan rows v arrivals keeping) n made → AreAll (IsOwnPiece plan rows v (stream_in arrivals) keeping) (own_size keeping) made
+all-own plan rows v arrivals keeping n made e all = record { len = all.len ∙ e; each = λ b d l. (all.each b d (omega arith)).own l }
+
+-- else two follow them
+pub two-behind : (plan : Plan) (rows : Rows) (v : ℕ) (arrivals : Arrivals) (keeping : Keeping) (made : List Piece) → copies_of arrivals ≡ 2 → AreAll (IsKeepingPiece plan rows v arrivals keeping) (keeping_size arrivals keeping) made → 2 ≤ length made
+two-behind plan rows v arrivals keeping made two all = let count = all.len in omega arith
+
+pub one-behind : (made more : List Piece) (time : Piece) → 2 ≤ length made → made ≡ more ++ time ∷ [] → 1 ≤ length more
+one-behind made more time two e =
     let a = length-append more (time ∷ []) in
     let b = ap length e in
     omega arith
 
--- these last two are the copies
-pub last-two : (plan : Plan) (rows : Rows) (v : ℕ) (arrivals : Arrivals) (completion : Completion) (group more rest : List Closed) (time job : Closed) → copies_of arrivals ≡ 2 → group ≡ more ++ time ∷ [] → more ≡ rest ++ job ∷ [] → AreAll (IsLast plan rows v arrivals completion) (lasts_of arrivals completion) group →
-    IsCopy (stream_in arrivals) 1 time × IsCopy (stream_in arrivals) 0 job × AreAll (IsClosed plan rows v (stream_in arrivals) completion) (closings_of completion) rest
-last-two plan rows v arrivals completion group more rest time job two e f all =
-    let is = IsLast plan rows v arrivals completion in
-    let n = closings_of completion in
-    let count : lasts_of arrivals completion ≡ suc (suc n) = omega arith in
-    let one = all-last is (suc n) group more time e (subst (λ m. AreAll is m group) count all) in
-    let other = all-last is n more rest job f one.1 in
-    (one.0.copy 1 (omega arith), other.0.copy 0 (omega arith), all-own plan rows v arrivals completion n rest refl other.1)
+-- the last is a copy of the times
+pub last-time : (plan : Plan) (rows : Rows) (v : ℕ) (arrivals : Arrivals) (keeping : Keeping) (made more : List Piece) (time : Piece) → copies_of arrivals ≡ 2 → made ≡ more ++ time ∷ [] → AreAll (IsKeepingPiece plan rows v arrivals keeping) (keeping_size arrivals keeping) made →
+    (slice_get (copy_pieces (stream_in arrivals)) 1 ≡ Some time) × AreAll (IsKeepingPiece plan rows v arrivals keeping) (suc (own_size keeping)) more
+last-time plan rows v arrivals keeping made more time two e all =
+    let is = IsKeepingPiece plan rows v arrivals keeping in
+    let n = own_size keeping in
+    let count : keeping_size arrivals keeping ≡ suc (suc n) = omega arith in
+    let one = all-last is (suc n) made more time e (subst (λ m. AreAll is m made) count all) in
+    (one.0.copy 1 (omega arith), one.1)
 
--- what a copy tells
-pub copy-jobs : (stream : Stream) (closed : Closed) → IsCopy stream 0 closed → closed ≡ Jobs stream.job
-copy-jobs stream (Jobs jobs) h = ap Jobs h.1
-copy-jobs stream (Came times) h = let no = h.0 in absurd (omega arith)
-copy-jobs stream _ h = absurd h
-
-pub copy-times : (stream : Stream) (closed : Closed) → IsCopy stream 1 closed → closed ≡ Came stream.time
-copy-times stream (Jobs jobs) h = let no = h.0 in absurd (omega arith)
-copy-times stream (Came times) h = ap Came h.1
-copy-times stream _ h = absurd h
-
-pub same-jobs : (closed : Closed) (one other : List ℕ) → closed ≡ Jobs one → closed ≡ Jobs other → one ≡ other
-same-jobs closed one other e f = cc
-
-pub same-times : (closed : Closed) (one other : List ℕ) → closed ≡ Came one → closed ≡ Came other → one ≡ other
-same-times closed one other e f = cc
+-- the one before it of the jobs
+pub last-job : (plan : Plan) (rows : Rows) (v : ℕ) (arrivals : Arrivals) (keeping : Keeping) (more rest : List Piece) (job : Piece) → more ≡ rest ++ job ∷ [] → AreAll (IsKeepingPiece plan rows v arrivals keeping) (suc (own_size keeping)) more →
+    (slice_get (copy_pieces (stream_in arrivals)) 0 ≡ Some job) × AreAll (IsOwnPiece plan rows v (stream_in arrivals) keeping) (own_size keeping) rest
+last-job plan rows v arrivals keeping more rest job e all =
+    let is = IsKeepingPiece plan rows v arrivals keeping in
+    let n = own_size keeping in
+    let other = all-last is n more rest job e all in
+    (other.0.copy 0 (omega arith), all-own plan rows v arrivals keeping n rest refl other.1)

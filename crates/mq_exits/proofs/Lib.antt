@@ -7,11 +7,9 @@ pub mod InOrder
 pub mod Opening
 pub mod Stations
 pub mod DelayOrder
-pub mod SplitBlocks
 pub mod Founding
 pub mod Lasts
 pub mod OfWave
-pub mod Emptying
+pub mod Making
 pub mod Telling
-pub mod Apart
 pub mod Turning

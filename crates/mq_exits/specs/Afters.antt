@@ -1,11 +1,10 @@
 -- What becomes of the arrivals at a node: their fates, who found how many, and what leaves.
-use Rattle.std.specs.Prelude.{◌≡◌, ℕ, List, map, Some, None, slice_get}
+use Rattle.std.specs.Prelude.{◌≡◌, ℕ, List, Some, None, slice_get}
 use Rattle.mq_core.specs.Came.{came_in}
 use Rattle.mq_core.specs.OnceOut.{founds_of}
 use Rattle.mq_core.specs.Results.{first_of}
 use Rattle.mq_core.specs.Sequences.{sequence_fates, sequence_late_from}
 use Rattle.mq_core.specs.declared.model.Fate.{Fate}
-use Rattle.mq_core.specs.declared.model.Fate.TheVariants.{Departs}
 use Rattle.mq_core.specs.declared.model.Kind.{Kind}
 use Rattle.mq_core.specs.declared.model.Network.{Network}
 use Rattle.mq_core.specs.declared.model.Node.{Node}
@@ -16,8 +15,8 @@ use Rattle.mq_stations.specs.Late.{late_told}
 use Rattle.mq_stations.specs.Leaving.{AreSettled, AreStreams}
 use Rattle.mq_rounds.specs.declared.settled.Settled.{Settled}
 use Rattle.mq_kinds.specs.Lefts.{LeaveInTurn}
-use Rattle.mq_exits.specs.declared.settling.Faring.{Faring}
-use Rattle.mq_exits.specs.declared.settling.Faring.TheVariants.{Late, OnTime}
+use Rattle.mq_kinds.specs.declared.pieces.Faring.{Faring}
+use Rattle.mq_kinds.specs.declared.pieces.Faring.TheVariants.{Late, OnTime}
 use Rattle.mq_exits.specs.declared.working.After.{After}
 use Rattle.mq_exits.specs.declared.working.After.TheVariants.{Missed, Seen}
 
@@ -49,10 +48,6 @@ IsFaring net rows v kind arrivals (Late fault) =
 -- which arrivals at a station of the plan are admitted, and when those depart
 abbrev pub AreSettledAt : Plan → Rows → ℕ → Stream → Settled → Type 0
 AreSettledAt plan rows v arrivals settled = (node : Node) → slice_get plan.net.nodes v ≡ Some node → AreSettled rows node.kind arrivals settled
-
--- all jobs of a station of the plan depart, at these times, by position
-abbrev pub AllDepartAt : Plan → Rows → ℕ → Stream → List ℕ → Type 0
-AllDepartAt plan rows v arrivals departs = (node : Node) → slice_get plan.net.nodes v ≡ Some node → sequence_fates rows node.kind (came_in arrivals) ≡ map (λ time. Departs time) departs
 
 -- the jobs of a station of the plan depart at these times, by position, and leave in the order in which they came
 abbrev pub IsServed : Plan → Rows → ℕ → Stream → List ℕ → Type 0

@@ -1,8 +1,7 @@
 pub mod Afters
-pub mod Exits
+pub mod Keeping
 pub mod Loads
 pub mod NodeLaws
 pub mod Refusals
 pub mod Results
-pub mod Splits
 pub mod Turns

@@ -1,17 +1,17 @@
-// What is known of a station when all its jobs have left, by the form of what leaves it.
+// A delay in which jobs overtake others.
 ghost use Rattle.std.specs.Prelude.{◌≤◌, length, IfOk};
-ghost use Rattle.mq_exits.specs.Exits.{IsCompletion, IsLeftAt};
-ghost use Rattle.mq_exits.specs.Loads.{IsLoaded};
+ghost use Rattle.mq_exits.specs.Keeping.{IsEmptiedOf, IsLeftOf};
+ghost use Rattle.mq_exits.specs.Loads.{IsReadyLoad};
+ghost use Rattle.mq_exits.specs.declared.keeping.Keep.{Keep as TheKeep};
 ghost use Rattle.mq_kinds.specs.declared.pieces.Left.TheVariants.{Overtaking};
 ghost use Rattle.mq_stations.specs.Scans.{AreFewBlocks};
 
-use crate::exits::Completion;
-use crate::load::Load;
-use crate::working::After;
+use crate::keeping::{Emptied, End, Keeping};
+use crate::laws::node_laws;
+use crate::load::Held;
 use mq_base::{List, OutOfMemory};
-use mq_core::{Stream, fates_are_in_time, sequences_go_by_fates};
+use mq_core::{Stream, fates_are_in_time};
 use mq_crew::{Crew, Gate};
-use mq_kinds::Left;
 use mq_scan::{Blocks, block_size, cut};
 use mq_stations::first_late_overtaken;
 use mq_stats::{AheadTable, ahead_of_departures};
@@ -30,55 +30,36 @@ pub struct Overtaken {
     pub blocks: Blocks,
 }
 
-/// Returns what is known of a station when this has left it: of a delay in which jobs overtake others also how many jobs
-/// leave ahead, or its first late departure. The only error is out of memory.
-pub fn completion_of<R: Threads + Sync, G: Gate>(
+/// Returns what follows at a station whose jobs depart at these times, by position, and leave by time, in this stream. The only
+/// error is out of memory.
+pub fn overtaken_of<R: Threads + Sync, G: Gate>(
     crew: &Crew<R, G>,
-    load: &Load,
-    left: Left,
-) -> Result<Completion, OutOfMemory>
-    requires loaded { IsLoaded load.now.plan.now load.now.rows.now load.now.number load.now.arrivals.now }
-    requires left { IsLeftAt load.now.plan.now load.now.rows.now load.now.number load.now.arrivals.now left }
-    requires block { 1 ≤ load.now.block }
-    ensures { IfOk result (λ completion. IsCompletion load.now.plan.now load.now.rows.now load.now.number load.now.arrivals.now completion) }
-{
-    match left {
-        Left::InTurn(departs) => Ok(Completion::Served(departs)),
-        Left::Overtaking(departs, leaving) => overtaken_of(crew, load, departs, leaving),
-        Left::Settled(settled) => Ok(Completion::Settled(settled)),
-        Left::Passing(streams) => Ok(Completion::Passed(streams)),
-    }
-}
-
-// Returns what is known of a station whose jobs depart at these times, by position, and leave by time, in this stream.
-fn overtaken_of<R: Threads + Sync, G: Gate>(
-    crew: &Crew<R, G>,
-    load: &Load,
+    held: &Held,
     departs: List<u64>,
     leaving: Stream,
-) -> Result<Completion, OutOfMemory>
-    requires loaded { IsLoaded load.now.plan.now load.now.rows.now load.now.number load.now.arrivals.now }
-    requires left { IsLeftAt load.now.plan.now load.now.rows.now load.now.number load.now.arrivals.now (Overtaking departs leaving) }
-    requires block { 1 ≤ load.now.block }
-    ensures { IfOk result (λ completion. IsCompletion load.now.plan.now load.now.rows.now load.now.number load.now.arrivals.now completion) }
+) -> Result<Emptied, OutOfMemory>
+    requires ready { IsReadyLoad held.now }
+    requires left { IsLeftOf held.now (Overtaking departs leaving) }
+    ensures { IfOk result (λ emptied. (keep : TheKeep) → IsEmptiedOf keep held.now emptied) }
 {
-    sequences_go_by_fates();
+    node_laws();
     fates_are_in_time();
-    match first_late_overtaken(load.plan.net.bound, load.number, &departs, &leaving.time) {
+    let arrivals = held.arrivals.stream();
+    match first_late_overtaken(held.plan.net.bound, held.number, &departs, &leaving.time) {
         Some(past) => {
             drop(departs);
             drop(leaving);
-            Ok(Completion::Known(After::Missed(past)))
+            Ok(Emptied::Ended(End::Late(past)))
         }
         None => {
             let Stream { job, time } = leaving;
-            match ahead_of_departures(crew.alloc, &load.arrivals.time, &departs, time) {
-                Ok(ahead) => Ok(Completion::Sorted(Overtaken {
+            match ahead_of_departures(crew.alloc, &arrivals.time, &departs, time) {
+                Ok(ahead) => Ok(Emptied::Keeping(Keeping::Overtaking(Overtaken {
                     departs,
                     job,
                     ahead,
-                    blocks: visit_blocks(crew.workers, load),
-                })),
+                    blocks: visit_blocks(crew.workers, arrivals, held.block),
+                }))),
                 Err(fault) => {
                     drop(departs);
                     drop(job);
@@ -89,15 +70,15 @@ fn overtaken_of<R: Threads + Sync, G: Gate>(
     }
 }
 
-// How the visits are cut: for one worker they are one block.
-fn visit_blocks(workers: u32, load: &Load) -> Blocks
-    requires few { length load.now.arrivals.now.time ≤ 1048576 }
-    requires block { 1 ≤ load.now.block }
-    ensures { AreFewBlocks (length load.now.arrivals.now.time) 16384 result }
+// Returns how the visits are cut: for one worker they are one block.
+fn visit_blocks(workers: u32, arrivals: &Stream, block: u32) -> Blocks
+    requires few { length arrivals.now.time ≤ 1048576 }
+    requires some { 1 ≤ block }
+    ensures { AreFewBlocks (length arrivals.now.time) 16384 result }
 {
-    let visits = load.arrivals.time.len() as u32;
+    let visits = arrivals.time.len() as u32;
     if workers == 1 {
         return cut(visits, visits.max(1));
     }
-    cut(visits, block_size(visits, load.block))
+    cut(visits, block_size(visits, block))
 }

@@ -9,31 +9,19 @@ ghost use Rattle.mq_core.specs.declared.model.Rows.{Rows as TheRows};
 ghost use Rattle.mq_core.specs.declared.model.Stream.{Stream as TheStream};
 ghost use Rattle.mq_crew.specs.Crew.{AreAll};
 ghost use Rattle.mq_exits.specs.Afters.{AreSettledAt, IsAfter, IsAfterAt, IsFaring};
-ghost use Rattle.mq_exits.specs.Exits.{IsSettledPiece};
+ghost use Rattle.mq_exits.specs.Keeping.{IsSettledPiece};
 ghost use Rattle.mq_exits.specs.Loads.{IsLoaded};
 ghost use Rattle.mq_stations.specs.Leaving.{AreStreams, IsLoad};
 
-use crate::exits::Closed;
 use crate::load::Load;
-use crate::taking::{faring_in, last_of, streams_in};
 use crate::working::After;
 use mq_base::{List, OutOfMemory};
-use mq_core::{
-    Fate, Fates, Kind, Network, PastFault, Rows, Stream, fates_are_in_time, sequences_go_by_fates,
-};
+use mq_core::{Fate, Fates, Kind, Network, Rows, Stream, fates_are_in_time, sequences_go_by_fates};
+use mq_kinds::{Faring, Piece, last_content};
 use mq_rounds::Settled;
 use mq_stations::{fates_by_admission, first_late, settled_streams};
 use mq_stats::found;
 use std::alloc::Global;
-
-/// How the arrivals at a node fared.
-#[derive(Drop)]
-pub enum Faring {
-    /// Their fates, and how many each found: none departs after the bound.
-    OnTime(Fates, List<u32>),
-    /// The first that departs after the bound.
-    Late(PastFault),
-}
 
 // How the arrivals at a node of this kind fared, of their fates.
 pub fn faring_of(
@@ -83,17 +71,17 @@ pub fn after_faring(faring: Faring, streams: List<Stream>) -> After
     }
 }
 
-// A last piece of such a station: how its arrivals fared, or what leaves it.
+// Makes a piece of such a station: how its arrivals fared, or what leaves it.
 pub fn settled_piece(
     alloc: Global,
     load: &Load,
     settled: &Settled,
     b: u32,
-) -> Result<Closed, OutOfMemory>
+) -> Result<Piece, OutOfMemory>
     requires loaded { IsLoaded load.now.plan.now load.now.rows.now load.now.number load.now.arrivals.now }
     requires settled { AreSettledAt load.now.plan.now load.now.rows.now load.now.number load.now.arrivals.now settled.now }
     requires inside { b < 2 }
-    ensures { IfOk result (λ closed. IsSettledPiece load.now.plan.now load.now.rows.now load.now.number load.now.arrivals.now b closed) }
+    ensures { IfOk result (λ piece. IsSettledPiece load.now.plan.now load.now.rows.now load.now.number load.now.arrivals.now b piece) }
 {
     let net = &load.plan.net;
     let kind = &net.nodes.get(load.number as usize).kind;
@@ -108,19 +96,20 @@ pub fn settled_piece(
             load.arrivals,
             fates,
         )?;
-        return Ok(Closed::Fared(faring));
+        return Ok(Piece::Fared(faring));
     }
     let streams = settled_streams(alloc, kind, load.arrivals, settled)?;
-    Ok(Closed::Streams(streams))
+    Ok(Piece::Streams(streams))
 }
 
-// What becomes of the arrivals at such a station, of its last pieces.
-pub fn after_settled(load: &Load, group: List<Closed>) -> After
-    requires { AreAll (IsSettledPiece load.now.plan.now load.now.rows.now load.now.number load.now.arrivals.now) 2 group }
+// Returns what becomes of the arrivals at such a station, from its pieces.
+pub fn after_settled(load: &Load, made: Vec<Piece>) -> After
+    requires { AreAll (IsSettledPiece load.now.plan.now load.now.rows.now load.now.number load.now.arrivals.now) 2 made.items }
     ensures { IsAfterAt load.now.plan.now load.now.rows.now load.now.number load.now.arrivals.now result }
 {
-    let mut group = group.into_vec();
-    let streams = streams_in(last_of(&mut group));
-    let faring = faring_in(last_of(&mut group));
+    let mut made = made;
+    let streams = last_content(&mut made);
+    let faring = last_content(&mut made);
+    drop(made);
     after_faring(faring, streams)
 }

@@ -1,17 +1,17 @@
 // How a node is worked out, from its arrivals to its visits and what leaves it.
-ghost use Rattle.std.specs.Prelude.{◌≡◌, ◌≤◌, ◌∷◌, [], ℕ, length, map, true, IfOk};
-ghost use Rattle.mq_core.specs.SequenceLaws.{sends_once};
+ghost use Rattle.std.specs.Prelude.{◌≡◌, ◌≤◌, ◌∷◌, [], ℕ, length, map, IfOk};
 ghost use Rattle.mq_core.specs.Sequences.{IsStream};
 ghost use Rattle.mq_core.specs.OnceOut.{founds_of};
 ghost use Rattle.mq_core.specs.Laws.{Rises};
 ghost use Rattle.mq_core.specs.declared.model.Fate.TheVariants.{Departs};
-ghost use Rattle.mq_core.specs.declared.model.Kind.{Kind as TheKind};
-ghost use Rattle.mq_core.specs.declared.model.Network.{Network as TheNetwork};
+ghost use Rattle.mq_core.specs.declared.model.Plan.{Plan as ThePlan};
 ghost use Rattle.mq_core.specs.declared.model.Rows.{Rows as TheRows};
-ghost use Rattle.mq_exits.specs.Afters.{IsAfter};
-ghost use Rattle.mq_exits.specs.Results.{IsEnding};
+ghost use Rattle.mq_exits.specs.Afters.{IsAfterAt};
+ghost use Rattle.mq_exits.specs.Keeping.{IsEndBy};
+ghost use Rattle.mq_exits.specs.Loads.{IsLoaded};
 ghost use Rattle.mq_exits.specs.declared.working.After.TheVariants.{Seen};
 
+use crate::keeping::End;
 use mq_base::{List, OutOfMemory};
 use mq_core::{Fates, OverFault, PastFault, Stream, Visits, sequences_go_by_fates};
 use mq_stations::only;
@@ -47,9 +47,9 @@ pub enum After {
     Missed(PastFault),
 }
 
-// How a node ends to which these came.
-pub fn ending_of(arrivals: Stream, after: After) -> Ending
-    ensures { (net : TheNetwork) (rows : TheRows) (v : ℕ) (kind : TheKind) → sends_once kind ≡ true → IsAfter net rows v kind arrivals after → IsEnding net rows v kind arrivals result }
+// Returns how a station ends to which these came.
+pub fn end_of(arrivals: Stream, after: After) -> End
+    ensures { (plan : ThePlan) (rows : TheRows) (v : ℕ) → IsLoaded plan rows v arrivals → IsAfterAt plan rows v arrivals after → IsEndBy plan rows v arrivals result }
 {
     sequences_go_by_fates();
     match after {
@@ -60,11 +60,11 @@ pub fn ending_of(arrivals: Stream, after: After) -> Ending
                 found,
                 fate,
             };
-            Ending::OnTime(visits, streams)
+            End::Lists(visits, streams)
         }
         After::Missed(past) => {
             drop(arrivals);
-            Ending::TooLate(past)
+            End::Late(past)
         }
     }
 }

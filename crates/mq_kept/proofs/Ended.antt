@@ -22,10 +22,8 @@ use Rattle.mq_engine.specs.Waves.{IsCrowded, IsWave}
 use Rattle.mq_engine.specs.declared.fault.RunFault.TheVariants.{Memory, Over, Past}
 use Rattle.mq_engine.specs.declared.fault.RunFault.{RunFault}
 use Rattle.mq_exits.proofs.Known.{refusal-many}
-use Rattle.mq_exits.specs.Loads.{IsLoadOf, IsLoaded, IsReadyLoad}
+use Rattle.mq_exits.specs.Loads.{IsLoaded, IsReadyLoad}
 use Rattle.mq_exits.specs.Results.{IsKnown, IsResultOf, IsWorkedOut}
-use Rattle.mq_exits.specs.declared.exits.Emptied.{Emptied}
-use Rattle.mq_exits.specs.declared.exits.Completion.{Completion}
 use Rattle.mq_exits.specs.declared.load.Held.{Held}
 use Rattle.mq_exits.specs.declared.load.Load.{Load}
 use Rattle.mq_exits.specs.declared.working.Ending.TheVariants.{OnTime, TooLate, TooMany}
@@ -43,7 +41,7 @@ use Rattle.mq_kept.specs.declared.nodes.NodeRefusal.{NodeRefusal}
 use Rattle.mq_kept.specs.declared.nodes.NodeRun.{NodeRun}
 use Rattle.mq_merge.specs.Borrowed.{stream_in}
 use Rattle.mq_redo.specs.Kept.{coming_as}
-use Rattle.std.proofs.Common.{◌≡◌, ℕ, zero, suc, ◌^◌, ◌<◌, ◌≤◌, List, [], ◌∷◌, ◌++◌, length, get_or, Option, Some, refl, sym, ap, ◌∙◌, subst, arith}
+use Rattle.std.proofs.Common.{◌≡◌, ℕ, zero, suc, ◌^◌, ◌<◌, List, [], ◌∷◌, ◌++◌, length, get_or, Option, Some, sym, ap, ◌∙◌, subst, arith}
 use Rattle.std.proofs.lemmas.List.{length-map}
 use Rattle.std.proofs.lemmas.Option.{slice_get-get_or}
 use Rattle.std.specs.List.{AllByRecursion as Each}
@@ -117,14 +115,6 @@ ended-known plan rows v results r e all = result-at plan rows v r (subst (Each (
 pub ended-fault : (plan : Plan) (rows : Rows) (v : ℕ) (ending : Ending) (result : Result NodeLists RunFault) → IsWorkedOut plan rows (record { number = v; ending = ending }) → IfErr result (IsFaultOf ending) → IfErr result (IsFaultAt plan rows v)
 ended-fault plan rows v ending (Ok lists) w h = tt
 ended-fault plan rows v ending (Err fault) w h = fault-at plan rows v ending fault w h
-
--- the only result of a station that was held is how it ended
-pub held-known : (held : Held) (completion : Completion) (list : List Emptied) (results : List NodeResult) (r : NodeResult) → list ≡ record { held = held; completion = completion } ∷ [] →
-    ((plan : Plan) (rows : Rows) (ready : List ℕ) → Each (λ l. IsLoadOf plan rows ready l.held) list → Each (IsResultOf plan rows ready) results) → results ≡ r ∷ [] → IsWorkedOut held.plan.now held.rows.now (record { number = held.number; ending = r.ending })
-held-known held completion list results r e known only =
-    let ready = held.number ∷ [] in
-    let own = subst (Each (λ (l : Emptied). IsLoadOf held.plan.now held.rows.now ready l.held)) (sym e) ((refl, refl, (0, omega arith, refl)), tt) in
-    ended-known held.plan.now held.rows.now held.number results r only (known held.plan.now held.rows.now ready own)
 
 -- its lists
 pub ended-on_time : (plan : Plan) (rows : Rows) (v : ℕ) (ending : Ending) (result : Result NodeLists RunFault) → IsWorkedOut plan rows (record { number = v; ending = ending }) → IfOk result (λ lists. ending ≡ OnTime lists.visits lists.streams) →

@@ -11,7 +11,7 @@ ghost use Rattle.mq_edits.specs.declared.former.FormerRows.{FormerRows as TheFor
 ghost use Rattle.mq_engine.specs.Apart.{CanGather};
 ghost use Rattle.mq_engine.specs.Progress.{CanWork};
 ghost use Rattle.mq_engine.specs.Waves.{IsWave};
-ghost use Rattle.mq_exits.specs.Exits.{IsCompletion};
+ghost use Rattle.mq_exits.specs.Keeping.{IsLeftOf};
 ghost use Rattle.mq_exits.specs.Loads.{IsReadyLoad};
 ghost use Rattle.mq_exits.specs.Results.{IsWorkedOut};
 ghost use Rattle.mq_exits.specs.declared.working.Ending.TheVariants.{OnTime};
@@ -34,8 +34,8 @@ use mq_base::{List, OutOfMemory, Steps};
 use mq_core::{Kind, Node, OverFault, Rows, Stream};
 use mq_crew::{Crew, Open};
 use mq_edits::FormerRows;
-use mq_engine::{RunFault, Way, core_laws, wave_of, way_of};
-use mq_exits::{Completion, Emptied, Ending, Held, NodeResult, finished, station_results};
+use mq_engine::{RunFault, Way, core_laws, wave_of, way_of, worked_out};
+use mq_exits::{Ending, Held, Keep, NodeResult, finished};
 use mq_redo::counted;
 use mq_scan::cut;
 use std::sync::ledger::Ledger;
@@ -207,8 +207,8 @@ fn apart_lists<R: Threads + Sync>(
     ensures cause { IfErr result (IsFaultAt arriving.now.plan.now arriving.now.rows.now number) }
 {
     core_laws();
-    let given = wave_of(crew, arriving)?;
-    let results = finished(crew, given)?;
+    let given = wave_of(crew, Keep::Lists, arriving)?;
+    let results = finished(crew.alloc, given)?;
     lists_by(the_only(results), Checkpoints::Nothing)
 }
 
@@ -427,41 +427,19 @@ fn left_lists<R: Threads + Sync>(
     reworked: Reworked,
 ) -> Result<NodeLists, RunFault>
     requires ready { IsReadyLoad held }
-    requires completion { IsCompletion held.plan.now held.rows.now held.number (stream_in held.arrivals) reworked.completion }
+    requires left { IsLeftOf held reworked.left }
     requires checkpoints { (node : TheNode) → slice_get held.plan.now.net.nodes held.number ≡ Some node → IsKeptNode node.kind (coming_as held.rows.now (stream_in held.arrivals)) held.block (sequence_fates held.rows.now node.kind (came_in (stream_in held.arrivals))) reworked.checkpoints }
     ensures known { IfOk result (λ lists. IsWorkedOut held.entry.plan.now held.entry.rows.now (record { number = held.entry.number; ending = OnTime lists.visits lists.streams })) }
     ensures checkpoints { IfOk result (λ lists. (node : TheNode) → slice_get held.entry.plan.now.net.nodes held.entry.number ≡ Some node → IsKeptNode node.kind (coming_of held.entry.rows.now lists.visits) held.entry.block lists.visits.fate lists.checkpoints) }
     ensures cause { IfErr result (IsFaultAt held.entry.plan.now held.entry.rows.now held.entry.number) }
 {
     core_laws();
-    let Reworked {
-        completion,
-        checkpoints,
-    } = reworked;
-    let Ok(node_result) = result_of(crew, held, completion) else {
+    let Reworked { left, checkpoints } = reworked;
+    let Ok(node_result) = worked_out(crew, held, left) else {
         drop(checkpoints);
         return Err(RunFault::Memory);
     };
     lists_by(node_result, checkpoints)
-}
-
-// Returns how a station ended once all its jobs have left.
-fn result_of<R: Threads + Sync>(
-    crew: &Crew<R, Open>,
-    held: Held,
-    completion: Completion,
-) -> Result<NodeResult, OutOfMemory>
-    requires ready { IsReadyLoad held }
-    requires completion { IsCompletion held.plan.now held.rows.now held.number (stream_in held.arrivals) completion }
-    ensures { IfOk result (λ r. IsWorkedOut held.entry.plan.now held.entry.rows.now (record { number = held.entry.number; ending = r.ending })) }
-{
-    let mut emptied = List::new(crew.alloc);
-    let Ok(()) = emptied.push(Emptied { held, completion }) else {
-        drop(emptied);
-        return Err(OutOfMemory);
-    };
-    let results = station_results(crew, emptied)?;
-    Ok(the_only(results))
 }
 
 // Returns the result of the only node.

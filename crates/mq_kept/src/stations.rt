@@ -8,7 +8,7 @@ ghost use Rattle.mq_core.specs.Streams.{sorted};
 ghost use Rattle.mq_core.specs.declared.model.Kind.TheVariants.{Delay, Split};
 ghost use Rattle.mq_core.specs.declared.model.Node.{Node as TheNode};
 ghost use Rattle.mq_core.specs.declared.model.Stream.{Stream as TheStream};
-ghost use Rattle.mq_exits.specs.Exits.{IsCompletion};
+ghost use Rattle.mq_exits.specs.Keeping.{IsLeftAt};
 ghost use Rattle.mq_exits.specs.Loads.{IsLoaded};
 ghost use Rattle.mq_kept.specs.InTurn.{HasTail};
 ghost use Rattle.mq_kept.specs.KeptNodes.{IsKeptNode, IsNodeOf, IsStayingNode, blocks_behind};
@@ -22,8 +22,8 @@ use mq_alike::alike_is_first;
 use mq_base::{List, OutOfMemory, Steps};
 use mq_core::{Demand, Fates, Kind, Route};
 use mq_crew::{Crew, Open};
-use mq_exits::{Completion, Load, completion_of, station_of};
-use mq_kinds::{delay_left, station_whole};
+use mq_exits::{Load, station_of};
+use mq_kinds::{Left, delay_left, station_whole};
 use mq_redo::{all_departures, blocks_hold, delayed_again, routed_again};
 use mq_scan::cut;
 use std::alloc::Global;
@@ -41,14 +41,14 @@ pub struct Stays<'a> {
     pub blocks: u32,
 }
 
-/// What is known of a station that was redone, once all its jobs have left.
+/// What leaves a station that was redone, and what is kept of its blocks.
 #[derive(Drop)]
 pub struct Reworked {
-    pub completion: Completion,
+    pub left: Left,
     pub checkpoints: Checkpoints,
 }
 
-/// Returns what is known of a station that is redone after the blocks that stay. A loss station and a trunk group are
+/// Returns what leaves a station that is redone after the blocks that stay. A loss station and a trunk group are
 /// computed whole, and the jobs of a source depart as they come. Fails only if memory runs out.
 pub fn work_again<R: Threads + Sync, L: Ledger>(
     crew: &Crew<R, Open>,
@@ -60,7 +60,7 @@ pub fn work_again<R: Threads + Sync, L: Ledger>(
     requires some { 1 ≤ load.now.block }
     requires large { load.now.block ≤ 65536 }
     requires stays { (node : TheNode) → slice_get load.now.plan.now.net.nodes load.now.number ≡ Some node → (old : TheComing) × IsStayingNode node.kind old (coming_as load.now.rows.now load.now.arrivals.now) load.now.block stays.now }
-    ensures completion { IfOk result (λ r. IsCompletion load.now.plan.now load.now.rows.now load.now.number load.now.arrivals.now r.completion) }
+    ensures left { IfOk result (λ r. IsLeftAt load.now.plan.now load.now.rows.now load.now.number load.now.arrivals.now r.left) }
     ensures checkpoints { IfOk result (λ r. (node : TheNode) → slice_get load.now.plan.now.net.nodes load.now.number ≡ Some node → IsKeptNode node.kind (coming_as load.now.rows.now load.now.arrivals.now) load.now.block (sequence_fates load.now.rows.now node.kind (came_in load.now.arrivals.now)) r.checkpoints) }
     ensures steps { steps.old ≤ steps.new }
     ensures spent { (node : TheNode) → slice_get load.now.plan.now.net.nodes load.now.number ≡ Some node → steps.new ≤ steps.old + blocks_behind load.now.block node.kind (length load.now.arrivals.now.job) stays.now.blocks }
@@ -73,7 +73,7 @@ pub fn work_again<R: Threads + Sync, L: Ledger>(
         Kind::Delay(demand) => delay_again(crew, load, demand, stays, steps),
         Kind::Split(route) => split_again(crew.alloc, load, route, stays, steps),
         Kind::Source | Kind::Loss { .. } | Kind::Trunk { .. } | Kind::Fork { .. } | Kind::Join => {
-            worked_anew(crew, load)
+            worked_anew(crew.alloc, load)
         }
     }
 }
@@ -90,7 +90,7 @@ fn in_turn_again<L: Ledger>(
     requires large { load.now.block ≤ 65536 }
     requires tail { (node : TheNode) → slice_get load.now.plan.now.net.nodes load.now.number ≡ Some node → HasTail node.kind }
     requires stays { (node : TheNode) → slice_get load.now.plan.now.net.nodes load.now.number ≡ Some node → (old : TheComing) × IsStayingNode node.kind old (coming_as load.now.rows.now load.now.arrivals.now) load.now.block stays.now }
-    ensures completion { IfOk result (λ r. IsCompletion load.now.plan.now load.now.rows.now load.now.number load.now.arrivals.now r.completion) }
+    ensures left { IfOk result (λ r. IsLeftAt load.now.plan.now load.now.rows.now load.now.number load.now.arrivals.now r.left) }
     ensures checkpoints { IfOk result (λ r. (node : TheNode) → slice_get load.now.plan.now.net.nodes load.now.number ≡ Some node → IsKeptNode node.kind (coming_as load.now.rows.now load.now.arrivals.now) load.now.block (sequence_fates load.now.rows.now node.kind (came_in load.now.arrivals.now)) r.checkpoints) }
     ensures steps { steps.old ≤ steps.new }
     ensures spent { steps.new + stays.now.blocks ≤ steps.old + blocks_in load.now.block (length load.now.arrivals.now.job) }
@@ -100,7 +100,7 @@ fn in_turn_again<L: Ledger>(
     let Behind { times, checkpoints } = behind_first(alloc, load, stays, steps)?;
     match all_departures(alloc, stays.fates, stays.blocks * load.block, times) {
         Ok(times) => Ok(Reworked {
-            completion: Completion::Served(List::from_vec(times)),
+            left: Left::InTurn(List::from_vec(times)),
             checkpoints,
         }),
         Err(fault) => {
@@ -123,7 +123,7 @@ fn delay_again<R: Threads + Sync, L: Ledger>(
     requires large { load.now.block ≤ 65536 }
     requires node { IsNodeOf load.now.plan.now load.now.number (Delay demand.now) }
     requires stays { (old : TheComing) × IsStayingNode (Delay demand.now) old (coming_as load.now.rows.now load.now.arrivals.now) load.now.block stays.now }
-    ensures completion { IfOk result (λ r. IsCompletion load.now.plan.now load.now.rows.now load.now.number load.now.arrivals.now r.completion) }
+    ensures left { IfOk result (λ r. IsLeftAt load.now.plan.now load.now.rows.now load.now.number load.now.arrivals.now r.left) }
     ensures checkpoints { IfOk result (λ r. IsKeptNode (Delay demand.now) (coming_as load.now.rows.now load.now.arrivals.now) load.now.block (sequence_fates load.now.rows.now (Delay demand.now) (came_in load.now.arrivals.now)) r.checkpoints) }
     ensures steps { steps.old ≤ steps.new }
     ensures spent { steps.new + stays.now.blocks ≤ steps.old + blocks_in load.now.block (length load.now.arrivals.now.job) }
@@ -145,11 +145,8 @@ fn delay_again<R: Threads + Sync, L: Ledger>(
         steps,
     )?;
     let checkpoints = Checkpoints::Delay(List::from_vec(done.carries));
-    match delay_completion(crew, load, List::from_vec(done.times)) {
-        Ok(completion) => Ok(Reworked {
-            completion,
-            checkpoints,
-        }),
+    match delay_leaves(crew, load, List::from_vec(done.times)) {
+        Ok(left) => Ok(Reworked { left, checkpoints }),
         Err(fault) => {
             drop(checkpoints);
             Err(fault)
@@ -157,21 +154,20 @@ fn delay_again<R: Threads + Sync, L: Ledger>(
     }
 }
 
-// Returns what is known of a delay whose jobs depart at these times, in ticks, by position.
-fn delay_completion<R: Threads + Sync>(
+// Returns what leaves a delay whose jobs depart at these times, in ticks, by position.
+fn delay_leaves<R: Threads + Sync>(
     crew: &Crew<R, Open>,
     load: &Load,
     departs: List<u64>,
-) -> Result<Completion, OutOfMemory>
+) -> Result<Left, OutOfMemory>
     requires loaded { IsLoaded load.now.plan.now load.now.rows.now load.now.number load.now.arrivals.now }
     requires some { 1 ≤ load.now.block }
     requires overtake { (node : TheNode) → slice_get load.now.plan.now.net.nodes load.now.number ≡ Some node → (stream : TheStream) → stream_in_order node.kind stream ≡ sorted stream }
     requires departs { (node : TheNode) → slice_get load.now.plan.now.net.nodes load.now.number ≡ Some node → AreDepartures load.now.rows.now node.kind load.now.arrivals.now departs }
-    ensures { IfOk result (λ completion. IsCompletion load.now.plan.now load.now.rows.now load.now.number load.now.arrivals.now completion) }
+    ensures { IfOk result (IsLeftAt load.now.plan.now load.now.rows.now load.now.number load.now.arrivals.now) }
 {
     let station = station_of(load.plan, load.rows, load.number, load.arrivals, load.block);
-    let left = delay_left(crew, &station, departs)?;
-    completion_of(crew, load, left)
+    delay_left(crew, &station, departs)
 }
 
 // Redoes a split.
@@ -187,7 +183,7 @@ fn split_again<L: Ledger>(
     requires large { load.now.block ≤ 65536 }
     requires node { IsNodeOf load.now.plan.now load.now.number (Split route.now) }
     requires stays { (old : TheComing) × IsStayingNode (Split route.now) old (coming_as load.now.rows.now load.now.arrivals.now) load.now.block stays.now }
-    ensures completion { IfOk result (λ r. IsCompletion load.now.plan.now load.now.rows.now load.now.number load.now.arrivals.now r.completion) }
+    ensures left { IfOk result (λ r. IsLeftAt load.now.plan.now load.now.rows.now load.now.number load.now.arrivals.now r.left) }
     ensures checkpoints { IfOk result (λ r. IsKeptNode (Split route.now) (coming_as load.now.rows.now load.now.arrivals.now) load.now.block (sequence_fates load.now.rows.now (Split route.now) (came_in load.now.arrivals.now)) r.checkpoints) }
     ensures steps { steps.old ≤ steps.new }
     ensures spent { steps.new + stays.now.blocks ≤ steps.old + blocks_in load.now.block (length load.now.arrivals.now.job) }
@@ -209,7 +205,7 @@ fn split_again<L: Ledger>(
         steps,
     )?;
     Ok(Reworked {
-        completion: Completion::Passed(rerouted.streams),
+        left: Left::Passing(rerouted.streams),
         checkpoints: Checkpoints::Split {
             carries: List::from_vec(rerouted.carries),
             outs: List::from_vec(rerouted.outs),
@@ -218,20 +214,16 @@ fn split_again<L: Ledger>(
 }
 
 // Computes a station of whose blocks nothing is kept.
-fn worked_anew<R: Threads + Sync>(
-    crew: &Crew<R, Open>,
-    load: &Load,
-) -> Result<Reworked, OutOfMemory>
+fn worked_anew(alloc: Global, load: &Load) -> Result<Reworked, OutOfMemory>
     requires loaded { IsLoaded load.now.plan.now load.now.rows.now load.now.number load.now.arrivals.now }
     requires some { 1 ≤ load.now.block }
     requires whole { (node : TheNode) → slice_get load.now.plan.now.net.nodes load.now.number ≡ Some node → IsWhole node.kind }
-    ensures completion { IfOk result (λ r. IsCompletion load.now.plan.now load.now.rows.now load.now.number load.now.arrivals.now r.completion) }
+    ensures left { IfOk result (λ r. IsLeftAt load.now.plan.now load.now.rows.now load.now.number load.now.arrivals.now r.left) }
 {
     let station = station_of(load.plan, load.rows, load.number, load.arrivals, load.block);
-    let left = station_whole(crew.alloc, &station)?;
-    let completion = completion_of(crew, load, left)?;
+    let left = station_whole(alloc, &station)?;
     Ok(Reworked {
-        completion,
+        left,
         checkpoints: Checkpoints::Nothing,
     })
 }

@@ -1,11 +1,12 @@
 -- What a piece contains, and a step of a station.
-use Rattle.std.specs.Prelude.{◌<◌, ℕ, List, Option, Some, None, IsSomeAnd}
+use Rattle.std.specs.Prelude.{◌≡◌, ◌<◌, ℕ, List, Option, Some, None, IsSomeAnd}
 use Rattle.mq_core.specs.declared.model.Stream.{Stream as TheStream}
 use Rattle.mq_maxplus.specs.declared.affine.Affine.{Affine}
 use Rattle.mq_maxplus.specs.declared.mp.Mp.{Mp}
+use Rattle.mq_kinds.specs.declared.pieces.Faring.{Faring}
 use Rattle.mq_kinds.specs.declared.pieces.Left.{Left as TheLeft}
 use Rattle.mq_kinds.specs.declared.pieces.Piece.{Piece}
-use Rattle.mq_kinds.specs.declared.pieces.Piece.TheVariants.{Left, Product, Streams, Sum, Times}
+use Rattle.mq_kinds.specs.declared.pieces.Piece.TheVariants.{Fared, Left, Numbers, Product, Streams, Sum, Times}
 
 abbrev pub sum_in : Piece → Option Affine
 sum_in (Sum sum) = Some sum
@@ -19,6 +20,10 @@ abbrev pub times_in : Piece → Option (List ℕ)
 times_in (Times times) = Some times
 times_in _ = None
 
+abbrev pub numbers_in : Piece → Option (List ℕ)
+numbers_in (Numbers numbers) = Some numbers
+numbers_in _ = None
+
 abbrev pub streams_in : Piece → Option (List TheStream)
 streams_in (Streams streams) = Some streams
 streams_in _ = None
@@ -26,6 +31,14 @@ streams_in _ = None
 abbrev pub left_in : Piece → Option TheLeft
 left_in (Left left) = Some left
 left_in _ = None
+
+abbrev pub fared_in : Piece → Option Faring
+fared_in (Fared faring) = Some faring
+fared_in _ = None
+
+-- a piece has this form
+abbrev pub HasForm : {X : Type 0} → (Piece → Option X) → Piece → Type 0
+HasForm {X} view piece = (x : X) × (view piece ≡ Some x)
 
 -- a piece has this form, and what it contains is right for its index
 abbrev pub IsOf : {X : Type 0} → (Piece → Option X) → (ℕ → X → Type 0) → ℕ → Piece → Type 0

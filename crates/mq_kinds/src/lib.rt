@@ -17,7 +17,9 @@ mod trunk;
 pub use branches::{Branch, Passage};
 pub use delay::delay_left;
 pub use forkjoin::ForkJoin;
-pub use pieces::{Content, Left, Load, Piece, all_contents, grouped, only_content};
+pub use pieces::{
+    Content, Faring, Left, Load, Piece, all_contents, grouped, last_content, only_content,
+};
 pub use split::Split;
 pub use table::{Serving, serving_count, serving_next, serving_of, serving_piece, station_whole};
 pub use tandem::Tandem;

@@ -1,13 +1,13 @@
 // What comes to a station, the pieces of work on it, and what leaves it.
-ghost use Rattle.std.specs.Prelude.{◌≡◌, ◌<◌, ◌≤◌, ◌*◌, ℕ, List as Items, Option, None, drop, length, slice_index_or, take, IfOk, OnOk};
+ghost use Rattle.std.specs.Prelude.{◌≡◌, ◌<◌, ◌≤◌, ◌*◌, ◌++◌, ◌∷◌, [], ℕ, List as Items, Option, None, Some, drop, length, slice_index_or, take, IfOk, OnOk};
 ghost use Rattle.std.specs.List.{filter_map};
 ghost use Rattle.std.specs.Vec.Iter.{into_iter_items, into_iter_len};
-ghost use Rattle.mq_kinds.specs.Pieces.{left_in, product_in, streams_in, sum_in, times_in};
+ghost use Rattle.mq_kinds.specs.Pieces.{HasForm, fared_in, left_in, numbers_in, product_in, streams_in, sum_in, times_in};
 ghost use Rattle.mq_kinds.specs.declared.pieces.Piece.{Piece as ThePiece};
 ghost use Rattle.mq_stations.specs.Scans.{AreFewBlocks};
 
 use mq_base::{List, OutOfMemory};
-use mq_core::{Kind, Rows, Stream};
+use mq_core::{Fates, Kind, PastFault, Rows, Stream};
 use mq_maxplus::{Affine, Matrix};
 use mq_rounds::Settled;
 use mq_scan::{Blocks, block_size, cut};
@@ -51,6 +51,15 @@ pub enum Left {
     Passing(List<Stream>),
 }
 
+/// How all arrivals at a station fared.
+#[derive(Drop)]
+pub enum Faring {
+    /// Their fates, and how many jobs each found: none departs after the bound.
+    OnTime(Fates, List<u32>),
+    /// The first that departs after the bound.
+    Late(PastFault),
+}
+
 /// One piece of the work on a station.
 #[derive(Drop)]
 pub enum Piece {
@@ -58,12 +67,16 @@ pub enum Piece {
     Sum(Affine),
     /// What the jobs of a block of a tandem do together. A matrix takes some 4,000 bytes, so it has a box.
     Product(Box<Matrix>),
-    /// The departure of each job of a block, in ticks.
+    /// A time for each of some jobs, in ticks: when it departs, or when it came.
     Times(List<u64>),
-    /// What leaves a block, by each output.
+    /// A number for each of some jobs: how many jobs it found, or the number of its row.
+    Numbers(List<u32>),
+    /// What leaves by each output, of a block or of the station.
     Streams(List<Stream>),
     /// What leaves a station that is one piece.
     Left(Left),
+    /// How all arrivals fared, if some may be lost.
+    Fared(Faring),
 }
 
 /// What the pieces of one form contain.
@@ -109,6 +122,17 @@ impl Content for List<u64> {
     }
 }
 
+impl Content for List<u32> {
+    ghost within = { numbers_in };
+
+    fn taken(piece: Piece) -> Option<List<u32>> {
+        match piece {
+            Piece::Numbers(numbers) => Some(numbers),
+            other => none(other),
+        }
+    }
+}
+
 impl Content for List<Stream> {
     ghost within = { streams_in };
 
@@ -126,6 +150,17 @@ impl Content for Left {
     fn taken(piece: Piece) -> Option<Left> {
         match piece {
             Piece::Left(left) => Some(left),
+            other => none(other),
+        }
+    }
+}
+
+impl Content for Faring {
+    ghost within = { fared_in };
+
+    fn taken(piece: Piece) -> Option<Faring> {
+        match piece {
+            Piece::Fared(faring) => Some(faring),
             other => none(other),
         }
     }
@@ -149,6 +184,21 @@ pub fn only_content<X: Content>(made: List<Piece>) -> Option<X>
         Some(piece) => X::taken(piece),
         None => None,
     }
+}
+
+/// Takes the last of these pieces, which has this form, and returns what it contains.
+pub fn last_content<X: Content>(made: &mut Vec<Piece>) -> X
+    requires some { 1 ≤ length made.old.items }
+    requires form { (front : Items ThePiece) (last : ThePiece) → made.old.items ≡ front ++ last ∷ [] → HasForm X.within last }
+    ensures { (last : ThePiece) × (made.old.items ≡ made.new.items ++ last ∷ []) × (X.within last ≡ Some result) }
+{
+    let Some(piece) = made.pop() else {
+        unreachable!()
+    };
+    let Some(content) = X::taken(piece) else {
+        unreachable!()
+    };
+    content
 }
 
 /// Returns what all these pieces contain, in order. Pieces of another form are left out. The only error is out of memory.

@@ -8,7 +8,6 @@ use Rattle.mq_engine.proofs.Endings.{within}
 use Rattle.mq_engine.proofs.Lists.{filter-passes, no-items, one-at-least}
 use Rattle.mq_engine.proofs.Waves.{has-all}
 use Rattle.mq_engine.proofs.Settling.{ready-few}
-use Rattle.mq_engine.proofs.Telling.{given-finishable}
 use Rattle.mq_engine.proofs.results_next.Goals as goal
 
 pub ready_nodes-requires-clause-within : goal.ready_nodes-requires-clause-within
@@ -42,20 +41,8 @@ wave_of-requires-clause-wave g c κs inside =
       block = c.requires.block;
     }
 
-pub finished-requires-clause-finishable : goal.finished-requires-clause-finishable
-finished-requires-clause-finishable g c κs inside = (
-  c.args.plan.now,
-  c.args.rows.now,
-  c.deref-3.result.now,
-  given-finishable c.args.plan.now c.args.rows.now c.deref-3.result.now c.in_ok-given.given c.in_ok-given.ensures.known,
-)
-
-pub finished-requires-clause-few : goal.finished-requires-clause-few
-finished-requires-clause-few g c κs inside =
-    let few = ready-few c.args.plan.now c.args.progress.now.stands.items c.deref-3.result.now
-    (c.deref-3.ensures.value ∙ (c.in_ok-ready.ensures ∙ ap (λ stands. filter (is_ready c.args.plan.now.net.nodes stands) c.args.plan.now.order) c.deref.ensures.value)) in
-    let len = c.in_ok-given.ensures.len in
-    omega arith
+pub finished-requires : goal.finished-requires
+finished-requires g c = (c.args.plan.now, c.args.rows.now, c.deref-3.result.now, c.in_ok-given.ensures.known)
 
 pub returns-clause-stuck : goal.returns-clause-stuck
 returns-clause-stuck g c =
@@ -70,4 +57,4 @@ returns-clause-known g c =
     IfOk-weaker c.finished.result _ _
     (λ results h. subst (λ (l : List ℕ). AllByRecursion (IsResultOf c.args.plan.now c.args.rows.now l) results)
     (c.deref-3.ensures.value ∙ (c.in_ok-ready.ensures ∙ ap (λ stands. filter (is_ready c.args.plan.now.net.nodes stands) c.args.plan.now.order) c.deref.ensures.value))
-    (h c.args.plan.now c.args.rows.now c.deref-3.result.now (given-finishable c.args.plan.now c.args.rows.now c.deref-3.result.now c.in_ok-given.given c.in_ok-given.ensures.known))) c.finished.ensures.known
+    (h c.args.plan.now c.args.rows.now c.deref-3.result.now c.in_ok-given.ensures.known)) c.finished.ensures.known

@@ -176,10 +176,10 @@ const LOSS_BESIDE_TANDEMS: Case = Case {
 };
 
 // The same nodes with less than a third of the jobs at the loss station: one list has its piece and the summaries of the tandems, and one its two
-// last pieces.
+// last pieces and the applied blocks of the tandems.
 const SHORT_LOSS_AMONG_TANDEMS: Case = Case {
     trace: b"source,time\nsrc,0\nweb,0\na,0\nb,0\nc,0\na,1\nb,1\nc,1\na,2\nb,2\nc,2\n",
-    lists: &[5, 2, 4, 10, 9, 2, 4, 4],
+    lists: &[5, 2, 4, 10, 11, 4, 4],
     ..LOSS_BESIDE_TANDEMS
 };
 

@@ -1,6 +1,7 @@
 use Rattle.std.proofs.Common.{[], ◌∷◌, length, ap, refl, sym, subst, arith, length-append}
 use Rattle.std.specs.List.{AllByRecursion}
 use Rattle.mq_base.proofs.lemmas.Each.{Each-weaker}
+use Rattle.mq_engine.specs.Places.{IsPlace}
 use Rattle.mq_engine.proofs.Placing.{IsPlaceAt, placing-more}
 use Rattle.mq_engine.proofs.begun.all_placed.Goals as goal
 
@@ -20,7 +21,7 @@ loop-one-preserved c = record {
 }
 
 pub returns-clause-fit : goal.returns-clause-fit
-returns-clause-fit c = let s = c.args.arriving.now in subst (AllByRecursion _) (sym c.from_vec.ensures) (Each-weaker (IsPlaceAt s) _ (λ z h. h.0) c.loop-one.places.items c.loop-one.invariant.are.made)
+returns-clause-fit c keep = let s = c.args.arriving.now in subst (AllByRecursion (IsPlace keep)) (sym c.from_vec.ensures) (Each-weaker (IsPlaceAt s) (IsPlace keep) (λ z h. h.0 keep) c.loop-one.places.items c.loop-one.invariant.are.made)
 
 pub returns-clause-of : goal.returns-clause-of
 returns-clause-of c = let s = c.args.arriving.now in subst (AllByRecursion _) (sym c.from_vec.ensures) (Each-weaker (IsPlaceAt s) _ (λ z h. h.1) c.loop-one.places.items c.loop-one.invariant.are.made)

@@ -13,14 +13,14 @@ returns g c =
     let sorted = c.in_ok-wave.ensures.sorted in
     let gathered = results-among s.plan.now s.rows.now c.deref.result.now s.ready.now c.in-Ok.gathered
     (λ v h. (each-contained (IsApartOf s) wave.apart.items sorted.apart v (subst (λ l. Contains l v) c.deref.ensures.value h)).0) c.in-Ok.ensures.known in
-    let served = given-among s.plan.now s.rows.now c.deref-2.result.now s.ready.now c.in-Ok-given_by.served
+    let served = given-among c.args.keep s.plan.now s.rows.now c.deref-2.result.now s.ready.now c.in-Ok-given_by.served
     (λ v h. (each-contained (IsStationOf s) wave.stations.items sorted.stations v (subst (λ l. Contains l v) c.deref-2.ensures.value h)).0) c.in-Ok-given_by.ensures.known in
     let count = c.in_ok-wave.ensures.len in
     let apart = ap length c.deref.ensures.value in
     let of_gathered = c.in-Ok.ensures.len in
     let stations = ap length c.deref-2.ensures.value in
     let of_served = c.in-Ok-given_by.ensures.len in
-    IfOk-weaker c.all_given.result _ _ (λ given h. record { len = (let many = h.0 in omega arith); known = h.1 s.plan.now s.rows.now s.ready.now sorted.crowded gathered served })
+    IfOk-weaker c.all_given.result _ _ (λ given h. record { len = (let many = h.0 in omega arith); known = h.1 c.args.keep s.plan.now s.rows.now s.ready.now sorted.crowded gathered served })
     (IfOk-both c.all_given.result _ _ c.all_given.ensures.len c.all_given.ensures.known)
 
 pub given_by-requires-clause-can : goal.given_by-requires-clause-can

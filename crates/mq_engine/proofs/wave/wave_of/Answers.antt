@@ -38,11 +38,11 @@ returns-clause-len g c =
     let s = c.args.arriving.now in
     let parted = subst (λ (z : List ℕ × List ℕ). IsPermutation (z.0 ++ z.1) s.ready.now) (λ k. (sym c.deref.ensures.value k, sym c.deref-2.ensures.value k)) c.in_ok-sides.ensures in
     IfOk-weaker c.appended.result _ _ (λ results given. given.len)
-    (appended-given s c.deref.result c.deref-2.result c.side_by_side-first.result.0 c.side_by_side-first.result.1 c.appended.result parted c.side_by_side-first.ensures.long c.side_by_side-first.ensures.others c.appended.ensures)
+    (appended-given c.args.keep s c.deref.result c.deref-2.result c.side_by_side-first.result.0 c.side_by_side-first.result.1 c.appended.result parted c.side_by_side-first.ensures.long c.side_by_side-first.ensures.others c.appended.ensures)
 
 pub returns-clause-known : goal.returns-clause-known
 returns-clause-known g c =
     let s = c.args.arriving.now in
     let parted = subst (λ (z : List ℕ × List ℕ). IsPermutation (z.0 ++ z.1) s.ready.now) (λ k. (sym c.deref.ensures.value k, sym c.deref-2.ensures.value k)) c.in_ok-sides.ensures in
     IfOk-weaker c.appended.result _ _ (λ results given. given.known)
-    (appended-given s c.deref.result c.deref-2.result c.side_by_side-first.result.0 c.side_by_side-first.result.1 c.appended.result parted c.side_by_side-first.ensures.long c.side_by_side-first.ensures.others c.appended.ensures)
+    (appended-given c.args.keep s c.deref.result c.deref-2.result c.side_by_side-first.result.0 c.side_by_side-first.result.1 c.appended.result parted c.side_by_side-first.ensures.long c.side_by_side-first.ensures.others c.appended.ensures)

@@ -1,6 +1,6 @@
 use Rattle.std.proofs.Common.{◌≡◌}
 use Rattle.mq_base.specs.Lists.{between}
-use Rattle.mq_exits.specs.Exits.{founds_by}
+use Rattle.mq_exits.specs.Keeping.{founds_by}
 use Rattle.mq_scan.proofs.lemmas.Blocks.{end_of}
 use Rattle.mq_exits.proofs.founds.founds_joined.Given as goal
 

@@ -1,46 +1,37 @@
-use Rattle.std.proofs.Common.{subst, sym}
-use Rattle.mq_crew.specs.Crew.{AreAll}
 use Rattle.mq_crew.proofs.lemmas.Groups.{all-last}
-use Rattle.mq_exits.specs.Exits.{IsSettledPiece}
-use Rattle.mq_exits.proofs.Telling.{settled-faring, settled-streams, some-last}
+use Rattle.mq_exits.specs.Keeping.{IsSettledPiece}
+use Rattle.mq_exits.proofs.Telling.{fared-is, settled-fared, settled-streams, some-last, streams-are}
 use Rattle.mq_exits.proofs.settling.after_settled.Goals as goal
 
-pub last_of-requires : goal.last_of-requires
-last_of-requires c =
+pub last_content-streams-requires-clause-some : goal.last_content-streams-requires-clause-some
+last_content-streams-requires-clause-some c =
     let load = c.args.load.now in
-    let is = IsSettledPiece load.plan.now load.rows.now load.number load.arrivals.now in
-    some-last is 1 _ (subst (AreAll is 2) (sym c.into_vec-group.ensures) c.requires)
+    some-last (IsSettledPiece load.plan.now load.rows.now load.number load.arrivals.now) 1 _ c.requires
 
-pub last_of-requires-2 : goal.last_of-requires-2
-last_of-requires-2 c =
+pub last_content-streams-requires-clause-form : goal.last_content-streams-requires-clause-form
+last_content-streams-requires-clause-form c front last e =
     let load = c.args.load.now in
     let is = IsSettledPiece load.plan.now load.rows.now load.number load.arrivals.now in
-    let whole = subst (AreAll is 2) (sym c.into_vec-group.ensures) c.requires in
-    some-last is 0 _ (all-last is 1 _ _ _ c.last_of.ensures whole).1
+    settled-streams load.plan.now load.rows.now load.number load.arrivals.now last (all-last is 1 _ front last e c.requires).0
 
-pub streams_in-streams-requires : goal.streams_in-streams-requires
-streams_in-streams-requires c =
+pub last_content-faring-requires-clause-some : goal.last_content-faring-requires-clause-some
+last_content-faring-requires-clause-some c =
     let load = c.args.load.now in
     let is = IsSettledPiece load.plan.now load.rows.now load.number load.arrivals.now in
-    let whole = subst (AreAll is 2) (sym c.into_vec-group.ensures) c.requires in
-    let streams = all-last is 1 _ _ _ c.last_of.ensures whole in
-    settled-streams load.plan.now load.rows.now load.number load.arrivals.now c.last_of.result streams.0
+    some-last is 0 _ (all-last is 1 _ _ _ c.last_content-streams.ensures.1 c.requires).1
 
-pub faring_in-faring-requires : goal.faring_in-faring-requires
-faring_in-faring-requires c =
+pub last_content-faring-requires-clause-form : goal.last_content-faring-requires-clause-form
+last_content-faring-requires-clause-form c front last e =
     let load = c.args.load.now in
     let is = IsSettledPiece load.plan.now load.rows.now load.number load.arrivals.now in
-    let whole = subst (AreAll is 2) (sym c.into_vec-group.ensures) c.requires in
-    let streams = all-last is 1 _ _ _ c.last_of.ensures whole in
-    let fared = all-last is 0 _ _ _ c.last_of-2.ensures streams.1 in
-    settled-faring load.plan.now load.rows.now load.number load.arrivals.now c.last_of-2.result fared.0
+    settled-fared load.plan.now load.rows.now load.number load.arrivals.now last (all-last is 0 _ front last e (all-last is 1 _ _ _ c.last_content-streams.ensures.1 c.requires).1).0
 
 pub returns : goal.returns
 returns c node there =
     let load = c.args.load.now in
     let is = IsSettledPiece load.plan.now load.rows.now load.number load.arrivals.now in
-    let whole = subst (AreAll is 2) (sym c.into_vec-group.ensures) c.requires in
-    let streams = all-last is 1 _ _ _ c.last_of.ensures whole in
-    let fared = all-last is 0 _ _ _ c.last_of-2.ensures streams.1 in
+    let streams = all-last is 1 _ _ _ c.last_content-streams.ensures.1 c.requires in
+    let fared = all-last is 0 _ _ _ c.last_content-faring.ensures.1 streams.1 in
     c.after_faring.ensures load.plan.now.net load.rows.now load.number node.kind load.arrivals.now
-    ((subst (is 0) c.faring_in-faring.ensures fared.0).1 node there) ((subst (is 1) c.streams_in-streams.ensures streams.0).1 node there)
+    (fared-is load.plan.now load.rows.now load.number load.arrivals.now 0 c.last_content-faring.ensures.0 c.last_content-faring.result fared.0 c.last_content-faring.ensures.2 node there)
+    (streams-are load.plan.now load.rows.now load.number load.arrivals.now 1 c.last_content-streams.ensures.0 c.last_content-streams.result streams.0 c.last_content-streams.ensures.2 node there)

@@ -1,22 +1,32 @@
-use Rattle.std.proofs.Common.{◌≡◌, length, length-append, ap, subst, sym, arith}
+use Rattle.std.proofs.Common.{length, ap, arith, subst, sym}
 use Rattle.std.specs.List.{AllByRecursion}
-use Rattle.std.proofs.lemmas.Result.{IfOk-weaker}
-use Rattle.mq_base.proofs.lemmas.Each.{Each-append}
-use Rattle.mq_exits.specs.Results.{IsResultOf}
+use Rattle.mq_base.proofs.lemmas.Each.{Each-weaker}
+use Rattle.mq_exits.proofs.Making.{made-last, made-more}
+use Rattle.mq_exits.proofs.OfWave.{CanFinish, IsEndIn, IsListIn, Wave}
 use Rattle.mq_exits.proofs.turns.finished.Goals as goal
 
-pub returns-in-Ok-clause-len : goal.returns-in-Ok-clause-len
-returns-in-Ok-clause-len g c =
-    IfOk-weaker c.all_ended.result _ _ (λ all e.
-    let longer = ap length e in
-    let both = length-append c.in_ok-ended.field-0.ended c.in-Ok.results in
-    let parts = c.in_ok-ended.ensures.len in
-    let others = c.in-Ok.ensures.len in
-    let len : length all ≡ length c.args.given = omega arith in
-    len) c.all_ended.ensures
+pub loop-one-init : goal.loop-one-init
+loop-one-init c =
+    let w : Wave = (c.requires.0, c.requires.1, c.requires.2) in
+    record {
+      are = record {
+        fits = subst (AllByRecursion CanFinish) (sym c.into_vec-given.ensures) (Each-weaker (IsListIn w) CanFinish (λ one h. (w, h)) c.args.given c.requires.3);
+        len = let none = ap length c.in-Ok.ensures.items in omega arith;
+        of = λ k h. (h, subst (AllByRecursion (IsEndIn k)) (sym c.in-Ok.ensures.items) tt);
+      };
+      room = let room = c.in-Ok.ensures.capacity in let all = ap length c.into_vec-given.ensures in let len = c.len.ensures in omega arith;
+    }
 
-pub returns-in-Ok-clause-known : goal.returns-in-Ok-clause-known
-returns-in-Ok-clause-known g c =
-    IfOk-weaker c.all_ended.result _ _ (λ all e plan rows ready h.
-    let parts = c.in_ok-ended.ensures.of plan rows ready h in
-    subst (AllByRecursion (IsResultOf plan rows ready)) (sym e) (Each-append (IsResultOf plan rows ready) c.in_ok-ended.field-0.ended c.in-Ok.results parts.0 (c.in-Ok.ensures.known plan rows ready parts.1))) c.all_ended.ensures
+pub ended_in-requires : goal.ended_in-requires
+ended_in-requires c =
+    let can = made-last CanFinish IsListIn IsEndIn _ _ _ _ _ _ c.loop-one.invariant.are c.in-Some.ensures.items in
+    (can.0.0, can.0.1, can.0.2, can.1)
+
+pub loop-one-preserved : goal.loop-one-preserved
+loop-one-preserved c = record {
+  are = made-more CanFinish IsListIn IsEndIn _ _ _ _ _ _ _ _ c.loop-one.invariant.are c.in-Some.ensures.items (λ w h. subst (IsListIn w) c.ended_in.ensures h) c.push_reserved.ensures.items;
+  room = let room = c.loop-one.invariant.room in let same = c.push_reserved.ensures.capacity in omega arith;
+}
+
+pub returns-clause-known : goal.returns-clause-known
+returns-clause-known c plan rows ready h = subst (AllByRecursion (IsEndIn (plan, rows, ready))) (sym c.from_vec.ensures) (c.loop-one.invariant.are.of (plan, rows, ready) (subst (AllByRecursion (IsListIn (plan, rows, ready))) (sym c.into_vec-given.ensures) h)).1

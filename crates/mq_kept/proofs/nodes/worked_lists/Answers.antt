@@ -3,14 +3,14 @@ use Rattle.std.specs.Prelude.{slice_get}
 use Rattle.mq_core.specs.Came.{came_in}
 use Rattle.mq_core.specs.Sequences.{sequence_fates}
 use Rattle.mq_core.specs.declared.model.Node.{Node}
-use Rattle.mq_exits.specs.Exits.{IsCompletion}
+use Rattle.mq_exits.specs.Keeping.{IsLeftAt}
 use Rattle.mq_exits.specs.Loads.{Told}
 use Rattle.mq_kept.specs.KeptNodes.{IsKeptNode, blocks_behind}
 use Rattle.mq_redo.specs.Kept.{coming_as}
 use Rattle.mq_kept.proofs.nodes.worked_lists.Goals as goal
 
-pub left_lists-requires-clause-completion : goal.left_lists-requires-clause-completion
-left_lists-requires-clause-completion g c κs within = subst (λ (t : Told). IsCompletion t.0 t.1 t.2 t.3 c.in-Ok.reworked.completion) c.load-load.ensures.told c.in-Ok.ensures.completion
+pub left_lists-requires-clause-left : goal.left_lists-requires-clause-left
+left_lists-requires-clause-left g c κs within = subst (λ (t : Told). IsLeftAt t.0 t.1 t.2 t.3 c.in-Ok.reworked.left) c.load-load.ensures.told c.in-Ok.ensures.left
 
 pub left_lists-requires-clause-checkpoints : goal.left_lists-requires-clause-checkpoints
 left_lists-requires-clause-checkpoints g c κs within =

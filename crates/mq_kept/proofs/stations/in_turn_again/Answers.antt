@@ -21,8 +21,8 @@ all_departures-requires g c =
     let loaded = c.requires.loaded in
     first-times c.alike_is_first.ensures load.rows.now load.arrivals.now loaded.node.kind (c.requires.tail loaded.node loaded.there) load.block c.args.stays.now (c.requires.stays loaded.node loaded.there)
 
-pub returns-in-Ok-clause-completion : goal.returns-in-Ok-clause-completion
-returns-in-Ok-clause-completion g c = λ node there.
+pub returns-in-Ok-clause-left : goal.returns-in-Ok-clause-left
+returns-in-Ok-clause-left g c = λ node there.
     let load = c.args.load.now in
     subst (LeaveInTurn load.rows.now node.kind load.arrivals.now) (sym c.from_vec.ensures)
     (leave-in-turn c.alike_is_first.ensures load.rows.now load.arrivals.now node.kind (c.requires.tail node there) load.block c.args.stays.now (c.requires.stays node there) c.in_ok-times.field-0 (c.in_ok-times.ensures.done node there) c.in-Ok.times.items c.in-Ok.ensures)
