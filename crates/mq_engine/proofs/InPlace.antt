@@ -1,5 +1,5 @@
 -- A station in its place.
-use Rattle.std.proofs.Common.{◌≡◌, ℕ, zero, suc, ◌*◌, ◌^◌, ◌<◌, ◌≤◌, List, [], ◌∷◌, length, map, Option, Some, None, sym, ◌∙◌, subst, arith, true}
+use Rattle.std.proofs.Common.{◌≡◌, ℕ, zero, suc, ◌*◌, ◌^◌, ◌<◌, ◌≤◌, List, [], ◌∷◌, length, map, sym, ◌∙◌, subst, arith, true}
 use Rattle.std.specs.List.{AllByRecursion}
 use Rattle.mq_base.proofs.lemmas.Each.{Each-weaker}
 use Rattle.mq_base.proofs.lemmas.Lists.{some_inj}
@@ -12,21 +12,18 @@ use Rattle.mq_core.specs.declared.model.Rows.{Rows}
 use Rattle.mq_core.specs.declared.model.Stream.{Stream}
 use Rattle.mq_crew.specs.Crew.{total_size}
 use Rattle.mq_crew.proofs.lemmas.Sizes.{total-most}
-use Rattle.mq_kinds.specs.Lefts.{IsLeft}
-use Rattle.mq_kinds.specs.Pieces.{IsNext}
-use Rattle.mq_kinds.specs.Table.{HasLoad, IsServing, serving_size, serving_steps}
-use Rattle.mq_kinds.specs.declared.pieces.Left.{Left}
+use Rattle.mq_kinds.specs.Table.{HasLoad, IsServing, serving_size}
 use Rattle.mq_kinds.specs.declared.pieces.Load.{Load}
 use Rattle.mq_kinds.specs.declared.table.Serving.{Serving}
 use Rattle.mq_kinds.specs.declared.table.Serving.TheVariants.{Delay, ForkJoin, Server, Split, Tandem, Whole}
 use Rattle.mq_merge.specs.Borrowed.{stream_in}
 use Rattle.mq_exits.proofs.Lasts.{keeping-few}
-use Rattle.mq_exits.proofs.Stations.{from-station, to-station}
-use Rattle.mq_exits.specs.Keeping.{IsLeftOf, Whose, whose}
+use Rattle.mq_exits.proofs.Stations.{to-station}
+use Rattle.mq_exits.specs.Keeping.{Whose, whose}
 use Rattle.mq_exits.specs.Loads.{IsLoaded, IsStationOf}
 use Rattle.mq_exits.specs.declared.keeping.Keep.{Keep}
 use Rattle.mq_exits.specs.declared.load.Held.{Held}
-use Rattle.mq_engine.specs.Places.{IsPlace, IsServingOf, IsWorkOf, place_size, work_size}
+use Rattle.mq_engine.specs.Places.{IsPlace, IsWorkOf, place_size, work_size}
 use Rattle.mq_engine.specs.declared.places.Place.{Place}
 use Rattle.mq_engine.specs.declared.places.Work.{Work}
 use Rattle.mq_engine.specs.declared.places.Work.TheVariants.{Ended, Keeping as Keeps, Serving as Serves}
@@ -40,12 +37,6 @@ sends-load _ h = tt
 pub station-load : (plan : Plan) (rows : Rows) (v : ℕ) (arrivals : Stream) (load : Load) → IsStationOf plan rows v arrivals load → IsLoaded plan rows v arrivals → HasLoad load.kind.now
 station-load plan rows v arrivals load is loaded =
     to-station plan rows v arrivals load is (λ _ k _. HasLoad k) (λ node there. sends-load node.kind (subst (λ (n : Node). sends_once n.kind ≡ true) (some_inj loaded.node node (sym loaded.there ∙ there)) loaded.once))
-
--- after a step of the station that a load is of
-pub next-of : (held : Held) (load : Load) → IsStationOf held.plan.now held.rows.now held.number (stream_in held.arrivals) load → (old new : Serving) (end : Option Left) →
-    IsNext (IsServing load.rows.now load.kind.now load.arrivals.now) serving_steps (IsLeft load.rows.now load.kind.now load.arrivals.now) old new end → IsNext (IsServingOf held) serving_steps (IsLeftOf held) old new end
-next-of held load is old new None h = (from-station held.plan.now held.rows.now held.number (stream_in held.arrivals) load is (λ r k s. IsServing r k s new) h.0, h.1)
-next-of held load is old new (Some left) h = from-station held.plan.now held.rows.now held.number (stream_in held.arrivals) load is (λ r k s. IsLeft r k s left) h
 
 each-most : (a b : ℕ) → b ≤ 16384 → a * b ≤ a * 16384
 each-most zero b h = omega arith

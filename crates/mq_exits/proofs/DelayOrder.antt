@@ -1,11 +1,8 @@
 -- A delay whose jobs were put in the order in which they leave.
 use Rattle.std.proofs.Common.{◌≡◌, ℕ, ◌≤◌, List, [], ◌∷◌, length, map, None, refl, sym, ◌∙◌, subst}
-use Rattle.std.specs.List.{AllByRecursion, zip}
-use Rattle.mq_core.specs.Came.{came_in}
 use Rattle.mq_core.specs.Results.{first_of}
-use Rattle.mq_core.specs.SequenceLaws.{FatesAreInTime, FatesInTime, LeavesFrom, SequencesGoByFates}
+use Rattle.mq_core.specs.SequenceLaws.{FatesAreInTime, SequencesGoByFates}
 use Rattle.mq_core.specs.Sequences.{sequence_late_from}
-use Rattle.mq_core.specs.declared.model.Fate.{Fate}
 use Rattle.mq_core.specs.declared.model.Fate.TheVariants.{Departs}
 use Rattle.mq_core.specs.declared.model.Kind.{Kind}
 use Rattle.mq_core.specs.declared.model.Plan.{Plan}
@@ -19,13 +16,8 @@ use Rattle.mq_stations.specs.Scans.{AreFewBlocks}
 use Rattle.mq_kinds.specs.declared.pieces.Left.TheVariants.{Overtaking}
 use Rattle.mq_exits.specs.Loads.{IsLoaded}
 use Rattle.mq_exits.specs.Keeping.{IsLeftAt, IsOvertaken}
-use Rattle.mq_stations.proofs.lemmas.Leaves.{departs-even, once-leaves}
+use Rattle.mq_stations.proofs.lemmas.Leaves.{departs-even}
 use Rattle.mq_exits.proofs.Leavings.{departures-order, late-by, sorted-streams}
-
--- none of its jobs departs before it came
-pub departs-later : FatesAreInTime → (rows : Rows) (kind : Kind) (arrivals : Stream) (departs : List ℕ) → IsLoad rows kind arrivals → AreDepartures rows kind arrivals departs →
-    AllByRecursion (λ (p : ℕ × Fate). LeavesFrom p.0 p.1) (zip arrivals.time (map (λ time. Departs time) departs))
-departs-later law rows kind arrivals departs load d = (subst (FatesInTime arrivals.time) d.fates (law rows kind (came_in arrivals) (once-leaves kind d.once) load.ordered.ordered.even)).each
 
 -- they are few
 pub departs-few : FatesAreInTime → (rows : Rows) (kind : Kind) (arrivals : Stream) (departs : List ℕ) → IsLoad rows kind arrivals → AreDepartures rows kind arrivals departs → length departs ≤ 1048576

@@ -8,13 +8,9 @@ use Rattle.mq_core.specs.Sequences.{sequence_stream, stream_in_order}
 use Rattle.mq_core.specs.declared.model.Kind.{Kind}
 use Rattle.mq_core.specs.declared.model.Rows.{Rows}
 use Rattle.mq_core.specs.declared.model.Stream.{Stream}
-use Rattle.mq_stations.specs.Leaving.{AreServed, AreStreams, IsLoad}
+use Rattle.mq_stations.specs.Leaving.{AreStreams, IsLoad}
 use Rattle.mq_stations.proofs.lemmas.Leaves.{departs-one}
 use Rattle.mq_kinds.specs.Lefts.{LeaveInTurn}
-
--- those of a kind whose jobs keep their order do
-pub in-turn-served : (rows : Rows) (kind : Kind) (arrivals : Stream) (departs : List ℕ) → AreServed rows kind arrivals departs → LeaveInTurn rows kind arrivals departs
-in-turn-served rows kind arrivals departs s = (s.0, s.1 (record { job = arrivals.job; time = departs }))
 
 -- what leaves is what the sequences say
 in-turn-sequence : SequencesGoByFates → FatesAreInTime → (rows : Rows) (kind : Kind) (arrivals : Stream) (departs : List ℕ) → length arrivals.job ≡ length arrivals.time → LeaveInTurn rows kind arrivals departs → record { job = arrivals.job; time = departs } ≡ sequence_stream rows kind (came_in arrivals) 0

@@ -210,7 +210,7 @@ const TURNS: u64 = 2_000_000_000;
 // of the two goes on before the other has come, and each of them needs a thread.
 #[derive(Drop)]
 struct Entries {
-    came: [AtomicU64; 10],
+    came: [AtomicU64; 11],
     above: AtomicU64,
     zero: usize,
     one: usize,
@@ -221,6 +221,7 @@ impl Entries {
     fn held(zero: usize, one: usize) -> Entries {
         Entries {
             came: [
+                AtomicU64::new(0),
                 AtomicU64::new(0),
                 AtomicU64::new(0),
                 AtomicU64::new(0),
