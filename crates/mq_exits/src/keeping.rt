@@ -117,7 +117,8 @@ fn passing_of(held: &Held, streams: List<Stream>) -> Emptied
     ensures { (keep : TheKeep) → IsEmptiedOf keep held.now result }
 {
     node_laws();
-    match first_late_in_turn(held.plan.net.bound, held.number, &held.arrivals.stream().time) {
+    let arrive = &held.arrivals.stream().time;
+    match first_late_in_turn(held.plan.net.bound, held.number, arrive) {
         Some(past) => {
             drop(streams);
             Emptied::Ended(End::Late(past))
@@ -168,12 +169,7 @@ pub fn keeping_piece(
 }
 
 // Makes a piece by the form of the step.
-fn own_piece(
-    alloc: Global,
-    load: &Load,
-    keeping: &Keeping,
-    b: u32,
-) -> Result<Piece, OutOfMemory>
+fn own_piece(alloc: Global, load: &Load, keeping: &Keeping, b: u32) -> Result<Piece, OutOfMemory>
     requires loaded { IsLoaded load.now.plan.now load.now.rows.now load.now.number load.now.arrivals.now }
     requires fit { IsKeepingAt load.now.plan.now load.now.rows.now load.now.number load.now.arrivals.now keeping.now }
     requires inside { b < own_size keeping.now }

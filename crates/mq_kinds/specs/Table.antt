@@ -1,5 +1,5 @@
 -- The table of the kinds.
-use Rattle.std.specs.Prelude.{◌≡◌, ℕ}
+use Rattle.std.specs.Prelude.{ℕ}
 use Rattle.mq_core.specs.declared.model.Kind.{Kind}
 use Rattle.mq_core.specs.declared.model.Kind.TheVariants.{Delay as TheDelay, Join as TheJoin}
 use Rattle.mq_core.specs.declared.model.Rows.{Rows}
