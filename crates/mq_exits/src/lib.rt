@@ -2,7 +2,7 @@
 //! bound.
 #![tactic(auto)]
 
-// Where a call of `drop` lets go of what is left, that spares proof: a call is proved once for a type, the end of a scope anew at each exit.
+// A call of `drop` spares proof: it is proved once for a type, the end of a scope at each exit.
 
 mod copies;
 mod founds;

@@ -24,7 +24,7 @@ pub struct Overtaken {
     pub departs: List<u64>,
     /// The jobs as they leave.
     pub job: List<u32>,
-    /// What tells how many each found, with the departures in order.
+    /// The table that gives how many jobs each visit found, with the departures in order.
     pub ahead: AheadTable,
     /// How the visits are cut for that.
     pub blocks: Blocks,

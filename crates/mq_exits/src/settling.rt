@@ -1,4 +1,4 @@
-// A station that admits or loses each arrival: of what it settled, how each arrival fared, and what leaves.
+// A station that admits or loses each arrival: how each arrival fared, and what leaves.
 ghost use Rattle.std.specs.Prelude.{◌≡◌, ◌<◌, ℕ, true, IfOk};
 ghost use Rattle.mq_core.specs.Came.{came_in};
 ghost use Rattle.mq_core.specs.SequenceLaws.{sends_once};
@@ -23,7 +23,7 @@ use mq_stations::{fates_by_admission, first_late, settled_streams};
 use mq_stats::found;
 use std::alloc::Global;
 
-// How the arrivals at a node of this kind fared, of their fates.
+// Returns how the arrivals at a node of this kind fared, from their fates.
 pub fn faring_of(
     alloc: Global,
     net: &Network,
@@ -58,7 +58,7 @@ pub fn faring_of(
     }
 }
 
-// What becomes of arrivals that fared so, where this leaves.
+// Returns what becomes of arrivals that fared so, if this leaves.
 pub fn after_faring(faring: Faring, streams: List<Stream>) -> After
     ensures { (net : TheNetwork) (rows : TheRows) (v : ℕ) (kind : TheKind) (arrivals : TheStream) → IsFaring net rows v kind arrivals faring → AreStreams rows kind arrivals streams → IsAfter net rows v kind arrivals result }
 {

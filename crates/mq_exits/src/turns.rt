@@ -29,11 +29,11 @@ pub struct InTurn<'a> {
 pub enum Given<'a> {
     /// How it ends.
     Ended(NodeResult),
-    /// What came to it and when each job departs, where they leave in their order.
+    /// What came to it and when each job departs, if they leave in the order in which they came.
     InTurn(InTurn<'a>),
 }
 
-/// What is given, and how other nodes end. It refuses for want of memory alone.
+/// Returns what is given, with how other nodes end. The only error is out of memory.
 pub fn with_ended<'a>(
     given: List<Given<'a>>,
     results: List<NodeResult>,

@@ -47,7 +47,7 @@ pub enum After {
     Missed(PastFault),
 }
 
-// Returns how a station ends to which these came.
+// Returns how a station ends to which these jobs came.
 pub fn end_of(arrivals: Stream, after: After) -> End
     ensures { (plan : ThePlan) (rows : TheRows) (v : ℕ) → IsLoaded plan rows v arrivals → IsAfterAt plan rows v arrivals after → IsEndBy plan rows v arrivals result }
 {
@@ -69,7 +69,7 @@ pub fn end_of(arrivals: Stream, after: After) -> End
     }
 }
 
-// How many jobs each visit found, where the jobs leave at these times, in their order.
+// Returns how many jobs each visit found, if the jobs leave at these times in the order in which they came.
 pub fn found_by_position(
     alloc: Global,
     arrivals: &Stream,
@@ -85,7 +85,7 @@ pub fn found_by_position(
     found_piece_in_order(alloc, &arrivals.time, departs, 0, count)
 }
 
-/// 0 for each of these visits.
+/// Returns 0 for each of these visits. The only error is out of memory.
 pub fn nobody(alloc: Global, arrive: &List<u64>) -> Result<List<u32>, OutOfMemory>
     ensures { IfOk result (λ found. found ≡ map (λ _. 0) arrive.now) }
 {
@@ -96,7 +96,8 @@ pub fn nobody(alloc: Global, arrive: &List<u64>) -> Result<List<u32>, OutOfMemor
     Ok(List::from_vec(found))
 }
 
-/// What is seen of arrivals that depart at these times, by position, found so many, and leave so by one output.
+/// Returns what becomes of arrivals that depart at these times and found these numbers of jobs, by position, if this leaves by the
+/// only output. The only error is out of memory.
 pub fn on_time(
     alloc: Global,
     departs: List<u64>,
