@@ -218,7 +218,7 @@ fn worked_anew(alloc: Global, load: &Load) -> Result<Reworked, OutOfMemory>
     requires loaded { IsLoaded load.now.plan.now load.now.rows.now load.now.number load.now.arrivals.now }
     requires some { 1 ≤ load.now.block }
     requires whole { (node : TheNode) → slice_get load.now.plan.now.net.nodes load.now.number ≡ Some node → IsWhole node.kind }
-    ensures left { IfOk result (λ r. IsLeftAt load.now.plan.now load.now.rows.now load.now.number load.now.arrivals.now r.left) }
+    ensures { IfOk result (λ r. IsLeftAt load.now.plan.now load.now.rows.now load.now.number load.now.arrivals.now r.left) }
 {
     let station = station_of(load.plan, load.rows, load.number, load.arrivals, load.block);
     let left = station_whole(alloc, &station)?;
