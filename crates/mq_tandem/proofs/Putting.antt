@@ -1,5 +1,5 @@
 -- A departure comes in front of those of a stage.
-use Rattle.std.proofs.Common.{◌≡◌, ℕ, suc, ◌+◌, ◌-◌, ◌<◌, ◌≤◌, List, [], ◌∷◌, ◌++◌, length, take, drop, set, refl, sym, ap, ◌∙◌, arith, append_assoc}
+use Rattle.std.proofs.Common.{◌≡◌, ℕ, suc, ◌+◌, ◌-◌, ◌<◌, ◌≤◌, List, [], ◌∷◌, ◌++◌, length, take, drop, set, refl, subst, sym, ap, ◌∙◌, arith, append_assoc}
 use Rattle.std.proofs.lemmas.List.{length-append, length-take-le, take-append-drop, length-drop, get_or-drop, length-set}
 use Rattle.std.proofs.Math.Seq.{take-suc, drop-cons, get_or-append_seam}
 use Rattle.mq_maxplus.specs.declared.mp.Mp.{Mp}
@@ -52,3 +52,11 @@ putting-next time old row now now' moved earlier index a b e s h =
       next = item ∙ sym (ap (entry w) (sym count) ∙ (get_or-drop row old k Void ∙ ap (entry old) here));
       size = ap length s ∙ (length-set now index moved ∙ h.size);
     }
+
+-- the same at an index that is written otherwise
+pub putting-at : (time : Mp) (old : List Mp) (row : ℕ) (now : List Mp) (moved : Mp) (index other : ℕ) → index ≡ other → Putting time old row now moved index → Putting time old row now moved other
+putting-at time old row now moved index other e h = subst (Putting time old row now moved) e h
+
+-- all rows of the stage are written
+pub putting-ends : (time : Mp) (old : List Mp) (row : ℕ) (now : List Mp) (moved : Mp) (index behind : ℕ) → index ≡ behind → Putting time old row now moved index → now ≡ take row old ++ (take (behind - row) (time ∷ drop row old) ++ drop behind old)
+putting-ends time old row now moved index behind e h = (putting-at time old row now moved index behind e h).so_far

@@ -74,6 +74,10 @@ pub some-kept : (places : List ℕ) (stage count : ℕ) → All (λ count. 1 ≤
 some-kept places stage count some at =
     subst (λ (n : ℕ). 1 ≤ n) (get_or_from_slice_get (kept places) stage count 0 at) (All-get_or (λ n. 1 ≤ n) (kept places) stage 0 (slice_get_within (kept places) stage count at) (kept-some places some))
 
+pub few-kept : (places : List ℕ) (stage count : ℕ) → All (λ count. count ≤ 4) (drop 1 places) → slice_get (kept places) stage ≡ Some count → count ≤ 4
+few-kept places stage count few at =
+    subst (λ (n : ℕ). n ≤ 4) (get_or_from_slice_get (kept places) stage count 0 at) (All-get_or (λ n. n ≤ 4) (kept places) stage 0 (slice_get_within (kept places) stage count at) (kept-narrow places few))
+
 -- The row of the latest departure from the last stage.
 pub last-behind : (counts : List ℕ) → 1 ≤ length counts → last_row counts + get_or counts (length counts - 1) 0 ≡ sum counts
 last-behind [] l = absurd (omega arith)

@@ -1,5 +1,5 @@
 // The latest departures from the stages of a tandem, as plain numbers.
-ghost use Rattle.std.specs.Prelude.{◌≡◌, ◌-◌, ◌<◌, ◌≤◌, ◌∷◌, ◌++◌, All, drop, length, replicate, slice_set, take};
+ghost use Rattle.std.specs.Prelude.{◌≡◌, ◌+◌, ◌-◌, ◌<◌, ◌≤◌, ◌∷◌, ◌++◌, All, drop, length, replicate, slice_set, take};
 ghost use Rattle.mq_maxplus.specs.declared.mp.Mp.TheVariants.{At};
 ghost use Rattle.mq_maxplus.specs.Matrices.{entry};
 ghost use Rattle.mq_tandem.specs.Rows.{IsTime};
@@ -89,19 +89,44 @@ impl Latest {
         self.times[row as usize] = time;
     }
 
-    // Puts a departure before those of a stage. The earliest of the stage is dropped.
+    // Puts a departure before those of a stage, which are at most four. The earliest of the stage is
+    // dropped. The moves are written out, because in a loop they take twice as long.
     #[inline]
     pub(crate) fn put(&mut self, row: u8, behind: u8, time: u64)
         requires some { row ≤ behind }
         requires inside { behind ≤ length self.old }
+        requires few { behind ≤ row + 4 }
         ensures put { self.new ≡ take row self.old ++ (take (behind - row) (At time ∷ drop row self.old) ++ drop behind self.old) }
         ensures size { length self.new ≡ length self.old }
     {
-        let mut moved = time;
-        for index in row..behind {
-            let earlier = self.get(index);
-            self.set(index, moved);
-            moved = earlier;
+        let kept = behind - row;
+        if kept == 0 {
+            return;
         }
+        let second = self.replaced(row, time);
+        if kept == 1 {
+            return;
+        }
+        let third = self.replaced(row + 1, second);
+        if kept == 2 {
+            return;
+        }
+        let fourth = self.replaced(row + 2, third);
+        if kept == 3 {
+            return;
+        }
+        self.set(row + 3, fourth);
+    }
+
+    // Writes the number in a row, and returns the one before.
+    #[inline]
+    fn replaced(&mut self, row: u8, time: u64) -> u64
+        requires { row < length self.old }
+        ensures earlier { entry self.old row ≡ At result }
+        ensures set { self.new ≡ slice_set self.old row (At time) }
+    {
+        let earlier = self.get(row);
+        self.set(row, time);
+        earlier
     }
 }

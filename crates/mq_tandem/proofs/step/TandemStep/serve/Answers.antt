@@ -7,7 +7,7 @@ use Rattle.mq_maxplus.specs.Matrices.{entry}
 use Rattle.mq_tandem.specs.Rows.{job_act, kept, room_row}
 use Rattle.mq_tandem.proofs.Kept.{later-time}
 use Rattle.mq_tandem.proofs.Lists.{firsts-at}
-use Rattle.mq_tandem.proofs.Rows.{kept-drop, some-kept}
+use Rattle.mq_tandem.proofs.Rows.{few-kept, kept-drop, some-kept}
 use Rattle.mq_tandem.proofs.Passing.{leaves, passing-next, served-fits}
 use Rattle.mq_tandem.proofs.Begins.{came-is, came-fit, column-there, passing-begins, room-left}
 use Rattle.mq_tandem.proofs.step.TandemStep.serve.Goals as goal
@@ -44,6 +44,12 @@ overflow_add-done c =
 
 pub room_at-requires-clause-room : goal.room_at-requires-clause-room
 room_at-requires-clause-room c = room-left c.args.self.now.places.now c.loop-stage.stage c.args.self.now.load.stages.room
+
+pub put-requires-clause-few : goal.put-requires-clause-few
+put-requires-clause-few c =
+    let step = c.args.self.now in
+    let few = few-kept step.places.now c.loop-stage.stage c.kept_of.result step.load.stages.narrow c.kept_of.ensures in
+    omega arith
 
 pub loop-stage-preserved : goal.loop-stage-preserved
 loop-stage-preserved c =

@@ -8,7 +8,7 @@ use Rattle.mq_tandem.specs.Bare.{bare}
 use Rattle.mq_tandem.specs.Bounds.{length-kept}
 use Rattle.mq_tandem.specs.Rows.{job_act, kept, passed, room_row}
 use Rattle.mq_tandem.proofs.Lists.{firsts-at}
-use Rattle.mq_tandem.proofs.Rows.{kept-drop, kept-some, some-kept, zero-some}
+use Rattle.mq_tandem.proofs.Rows.{few-kept, kept-drop, kept-some, some-kept, zero-some}
 use Rattle.mq_tandem.proofs.Passing.{passing-ends, passing-next, served-fits}
 use Rattle.mq_tandem.proofs.Begins.{came-is, came-fit, column-there, passing-begins, room-left}
 use Rattle.mq_tandem.proofs.Alone.{alone-begins, alone-fits, bare-job, is-early, leaves-at}
@@ -67,6 +67,18 @@ room_at-requires-clause-room c = room-left c.args.self.now.places.now c.loop-sta
 
 pub room_at-requires-in-loop-stage-clause-room : goal.room_at-requires-in-loop-stage-clause-room
 room_at-requires-in-loop-stage-clause-room c = room-left c.args.self.now.places.now c.loop-stage.stage c.args.self.now.load.stages.room
+
+pub put-requires-clause-few : goal.put-requires-clause-few
+put-requires-clause-few c =
+    let step = c.args.self.now in
+    let few = few-kept step.places.now c.loop-stage.stage c.kept_of.result step.load.stages.narrow c.kept_of.ensures in
+    omega arith
+
+pub put-requires-in-loop-stage-clause-few : goal.put-requires-in-loop-stage-clause-few
+put-requires-in-loop-stage-clause-few c =
+    let step = c.args.self.now in
+    let few = few-kept step.places.now c.loop-stage.stage c.kept_of.result step.load.stages.narrow c.kept_of.ensures in
+    omega arith
 
 pub loop-stage-preserved : goal.loop-stage-preserved
 loop-stage-preserved c =
