@@ -1,10 +1,9 @@
 -- The branches of a fork-join, server by server.
-use Rattle.std.specs.Prelude.{◌≡◌, ◌+◌, ◌<◌, ◌≤◌, ◌^◌, All, ℕ, List, [], ◌∷◌, length, map, slice_index_or}
+use Rattle.std.specs.Prelude.{◌≡◌, ◌<◌, ◌≤◌, ◌^◌, All, ℕ, List, [], ◌∷◌, length, map, slice_index_or}
 use Rattle.std.specs.List.{AllByRecursion}
 use Rattle.mq_core.specs.Recurrences.{in_series, later_of, lindley}
 use Rattle.mq_core.specs.Sequences.{IsSoundLoad}
 use Rattle.mq_forkjoin.specs.Branches.{Passing}
-use Rattle.mq_kinds.specs.declared.branches.Branch.{Branch}
 use Rattle.mq_kinds.specs.declared.branches.Passage.{Passage}
 
 -- a branch has 1 to 4 servers, and what its jobs ask for at each is a sound load
@@ -24,41 +23,34 @@ pub record IsThrough (arrive : List ℕ) (server : ℕ) (servers : List (List �
   pub load : IsBranchLoad arrive servers
   pub passing : Passing arrive times servers server
 
--- the jobs of a branch come to the server with this number
-pub record IsRunning (arrive : List ℕ) (server : ℕ) (branch : Branch) : Type 0 where
-  pub through : IsThrough arrive server branch.servers branch.arrive
-  pub inside : server < length branch.servers
+-- the servers of the branch at this index, by what their jobs ask for
+abbrev pub servers_at : Passage → ℕ → List (List ℕ)
+servers_at passage at = slice_index_or passage.servers.items at []
 
--- their demands there
-abbrev pub asked_at : ℕ → Branch → List ℕ
-asked_at server branch = slice_index_or branch.servers server []
+-- when its jobs come to its next server: if nothing is known of any branch, when they arrive at the fork-join
+abbrev pub times_at : List ℕ → Passage → ℕ → List ℕ
+times_at arrive passage at = slice_index_or passage.times.items at arrive
 
--- when they depart from it
-abbrev pub next_departs : ℕ → Branch → List ℕ
-next_departs server branch = lindley 0 branch.arrive (asked_at server branch)
+-- their demands at the server with this number
+abbrev pub asked_at : ℕ → Passage → ℕ → List ℕ
+asked_at server passage at = slice_index_or (servers_at passage at) server []
+
+-- they depart from it at these times
+abbrev pub AreDepartsAt : List ℕ → ℕ → Passage → ℕ → List ℕ → Type 0
+AreDepartsAt arrive server passage at departs = departs ≡ lindley 0 (times_at arrive passage at) (asked_at server passage at)
 
 -- index by index the latest of these times and those of some lists
 abbrev pub latest_of_all : List ℕ → List (List ℕ) → List ℕ
 latest_of_all times [] = times
 latest_of_all times (other ∷ others) = later_of other (latest_of_all times others)
 
--- when the jobs are through each of these branches
-abbrev pub through_each : List ℕ → List Branch → List (List ℕ)
-through_each arrive branches = map (λ (branch : Branch). in_series arrive branch.servers) branches
-
--- when they are through all branches
+-- when the jobs are through all branches
 abbrev pub departs_of : List ℕ → Passage → List ℕ
-departs_of arrive passage = latest_of_all passage.latest (through_each arrive passage.branches)
+departs_of arrive passage = latest_of_all passage.latest (map (in_series arrive) passage.servers.items)
 
--- jobs are through the first servers of each branch, as many as this
+-- the jobs come to the server with this number of each branch
 pub record IsPassage (arrive : List ℕ) (server : ℕ) (passage : Passage) : Type 0 where
-  pub few : length passage.branches ≤ 8
-  pub running : AllByRecursion (IsRunning arrive server) passage.branches
+  pub few : length passage.servers.items ≤ 8
+  pub through : (at : ℕ) → at < length passage.servers.items → IsThrough arrive server (servers_at passage at) (times_at arrive passage at)
+  pub inside : (at : ℕ) → at < length passage.servers.items → server < length (servers_at passage at)
   pub long : length passage.latest ≡ length arrive
-
--- another branch is added to a passage; as many of its servers as this are done
-pub record IsResumed (arrive : List ℕ) (server : ℕ) (servers : List (List ℕ)) (before after : Passage) : Type 0 where
-  pub few : length after.branches ≤ length before.branches + 1
-  pub running : AllByRecursion (IsRunning arrive server) after.branches
-  pub long : length after.latest ≡ length arrive
-  pub departs : departs_of arrive after ≡ later_of (in_series arrive servers) (departs_of arrive before)

@@ -1,5 +1,5 @@
 -- The table of the kinds.
-use Rattle.std.specs.Prelude.{ℕ}
+use Rattle.std.specs.Prelude.{◌≤◌, ℕ}
 use Rattle.mq_core.specs.declared.model.Kind.{Kind}
 use Rattle.mq_core.specs.declared.model.Kind.TheVariants.{Delay as TheDelay, Join as TheJoin}
 use Rattle.mq_core.specs.declared.model.Rows.{Rows}
@@ -35,6 +35,15 @@ IsServing rows kind arrivals (Tandem tandem) = IsTandem rows kind arrivals tande
 IsServing rows kind arrivals (ForkJoin work) = IsForkJoin rows kind arrivals work
 IsServing rows kind arrivals (Split split) = IsSplit rows kind arrivals split
 
+-- its blocks have at least this many jobs, if it has any
+abbrev pub HaveLeast : ℕ → Serving → Type 0
+HaveLeast least Whole = Unit {0}
+HaveLeast least (Delay demand) = Unit {0}
+HaveLeast least (Server demands) = Unit {0}
+HaveLeast least (Tandem tandem) = least ≤ tandem.blocks.block
+HaveLeast least (ForkJoin work) = least ≤ work.blocks.block
+HaveLeast least (Split split) = least ≤ split.blocks.block
+
 -- the number of pieces of its step. A server has none: its single pass runs when the pieces of the others are made
 abbrev pub serving_size : Serving → ℕ
 serving_size Whole = 1
@@ -50,7 +59,7 @@ IsServingPiece rows kind arrivals Whole b piece = IsOf left_in (λ _. IsLeft row
 IsServingPiece rows kind arrivals (Delay demand) b piece = IsDelayPiece rows kind arrivals piece
 IsServingPiece rows kind arrivals (Server demands) b piece = ⊥
 IsServingPiece rows kind arrivals (Tandem tandem) b piece = IsTandemPiece arrivals tandem b piece
-IsServingPiece rows kind arrivals (ForkJoin work) b piece = IsForkJoinPiece work b piece
+IsServingPiece rows kind arrivals (ForkJoin work) b piece = IsForkJoinPiece arrivals.time work b piece
 IsServingPiece rows kind arrivals (Split split) b piece = IsSplitPiece rows arrivals split b piece
 
 -- the number of further steps, at most

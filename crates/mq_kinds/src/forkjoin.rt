@@ -1,14 +1,14 @@
 // A fork-join in two steps for each tier, over all branches that have a server there.
 ghost use Rattle.std.specs.Prelude.{◌≡◌, ◌<◌, ◌≤◌, ◌+◌, ◌*◌, length, map, All, IfOk};
 ghost use Rattle.mq_core.specs.declared.model.Kind.TheVariants.{ForkJoin as TheForkJoin};
-ghost use Rattle.mq_crew.specs.Crew.{AreAll, AreGroups};
+ghost use Rattle.mq_crew.specs.Crew.{AreAll};
 ghost use Rattle.mq_stations.specs.Leaving.{IsLoad};
-ghost use Rattle.mq_kinds.specs.Branches.{IsPassage, next_departs};
-ghost use Rattle.mq_kinds.specs.ForkJoins.{AreCarried, AreTimesAt, IsForkJoin, IsForkJoinPiece, IsSumAt, IsTier, forkjoin_size, forkjoin_steps};
+ghost use Rattle.mq_kinds.specs.Branches.{AreDepartsAt, IsPassage};
+ghost use Rattle.mq_kinds.specs.ForkJoins.{AreCarriesAt, AreTimesAt, IsForkJoin, IsForkJoinPiece, IsSumAt, IsTier, forkjoin_size, forkjoin_steps};
 ghost use Rattle.mq_kinds.specs.Lefts.{IsLeft};
 ghost use Rattle.mq_kinds.specs.Pieces.{IsNext};
 
-use crate::branches::{Passage, begun, passed, step_of};
+use crate::branches::{Passage, passed, step_of};
 use crate::pieces::{Left, Load, Piece, blocks_of, grouped};
 use mq_asked::{all_asked_of, branches_asked_of};
 use mq_base::{List, OutOfMemory};
@@ -44,16 +44,20 @@ pub fn forkjoin_begin<'r, 's>(
     requires load { IsLoad load.now.rows.now load.now.kind.now load.now.arrivals.now }
     requires kind { load.now.kind.now ≡ TheForkJoin branches.now }
     ensures fit { IfOk result (λ work. IsForkJoin load.now.rows.now load.now.kind.now load.now.arrivals.now work) }
+    ensures least { IfOk result (λ work. load.now.block ≤ work.blocks.block) }
     ensures steps { IfOk result (λ work. forkjoin_steps work ≡ 9) }
 {
     let demands = branches_asked_of(alloc, load.rows, branches, &load.arrivals.job)?;
-    let branches = begun(alloc, &load.arrivals.time, demands)?;
     let Ok(latest) = copy_of(alloc, &load.arrivals.time) else {
-        drop(branches);
+        drop(demands);
         return Err(OutOfMemory);
     };
     Ok(ForkJoin {
-        passage: Passage { branches, latest },
+        passage: Passage {
+            servers: demands.into_vec(),
+            times: Vec::new(alloc),
+            latest,
+        },
         server: 0,
         blocks: blocks_of(load),
         before: None,
@@ -62,11 +66,11 @@ pub fn forkjoin_begin<'r, 's>(
 
 /// Returns the number of pieces of the step: the blocks of each branch that has a server left.
 pub fn forkjoin_count(work: &ForkJoin) -> u32
-    requires wide { length work.now.passage.branches ≤ 8 }
+    requires wide { length work.now.passage.servers.items ≤ 8 }
     requires few { work.now.blocks.blocks ≤ 16384 }
     ensures { result ≡ forkjoin_size work.now }
 {
-    work.passage.branches.len() as u32 * work.blocks.blocks
+    work.passage.servers.len() as u32 * work.blocks.blocks
 }
 
 /// Makes piece `b` of the step: what the jobs of a block do together at the next server of a branch, or when they depart
@@ -79,12 +83,11 @@ pub fn forkjoin_piece(
 ) -> Result<Piece, OutOfMemory>
     requires fit { IsForkJoin load.now.rows.now load.now.kind.now load.now.arrivals.now work.now }
     requires inside { b < forkjoin_size work.now }
-    ensures { IfOk result (λ piece. IsForkJoinPiece work.now b piece) }
+    ensures { IfOk result (λ piece. IsForkJoinPiece load.now.arrivals.now.time work.now b piece) }
 {
     let at = (b / work.blocks.blocks) as usize;
     let block = b % work.blocks.blocks;
-    let branch = work.passage.branches.get(at);
-    let step = step_of(&load.arrivals.time, branch, work.server);
+    let step = step_of(&load.arrivals.time, work.server, &work.passage, at);
     match &work.before {
         None => Ok(Piece::Sum(block_summary(&step, &work.blocks, block))),
         Some(before) => {
@@ -103,10 +106,10 @@ pub fn forkjoin_next(
     made: List<Piece>,
 ) -> Result<Option<Left>, OutOfMemory>
     requires fit { IsForkJoin load.now.rows.now load.now.kind.now load.now.arrivals.now work.old }
-    requires made { AreAll (IsForkJoinPiece work.old) (forkjoin_size work.old) made }
+    requires made { AreAll (IsForkJoinPiece load.now.arrivals.now.time work.old) (forkjoin_size work.old) made }
     ensures { IfOk result (λ end. IsNext (IsForkJoin load.now.rows.now load.now.kind.now load.now.arrivals.now) forkjoin_steps (IsLeft load.now.rows.now load.now.kind.now load.now.arrivals.now) work.old work.new end) }
 {
-    let count = work.passage.branches.len();
+    let count = work.passage.servers.len();
     let size = work.blocks.blocks;
     match &work.before {
         None => {
@@ -134,13 +137,12 @@ fn carries_of(
 ) -> Result<List<List<Mp>>, OutOfMemory>
     requires passage { IsPassage arrivals.now.time work.now.server work.now.passage }
     requires all { work.now.blocks.n ≡ length arrivals.now.time }
-    requires groups { AreGroups (λ _. work.now.blocks.blocks) (IsSumAt work.now.server work.now.blocks) work.now.passage.branches groups.now }
-    ensures { IfOk result (λ before. AreCarried work.now.server work.now.blocks work.now.passage.branches before) }
+    requires groups { AreAll (λ at. AreAll (IsSumAt arrivals.now.time work.now at) work.now.blocks.blocks) (length work.now.passage.servers.items) groups.now }
+    ensures { IfOk result (AreAll (AreCarriesAt arrivals.now.time work.now) (length work.now.passage.servers.items)) }
 {
     let mut all = List::new(alloc);
-    for at in 0..work.passage.branches.len() {
-        let branch = work.passage.branches.get(at);
-        let step = step_of(&arrivals.time, branch, work.server);
+    for at in 0..work.passage.servers.len() {
+        let step = step_of(&arrivals.time, work.server, &work.passage, at);
         let Ok(carries) = block_carries(alloc, &step, &work.blocks, groups.get(at)) else {
             drop(all);
             return Err(OutOfMemory);
@@ -162,13 +164,12 @@ fn joined(
 ) -> Result<List<List<u64>>, OutOfMemory>
     requires passage { IsPassage arrivals.now.time work.now.server work.now.passage }
     requires all { work.now.blocks.n ≡ length arrivals.now.time }
-    requires groups { AreGroups (λ _. work.now.blocks.blocks) (AreTimesAt work.now.server work.now.blocks) work.now.passage.branches groups.now }
-    ensures { IfOk result (λ all. all ≡ map (next_departs work.now.server) work.now.passage.branches) }
+    requires groups { AreAll (λ at. AreAll (AreTimesAt arrivals.now.time work.now at) work.now.blocks.blocks) (length work.now.passage.servers.items) groups.now }
+    ensures { IfOk result (AreAll (AreDepartsAt arrivals.now.time work.now.server work.now.passage) (length work.now.passage.servers.items)) }
 {
     let mut all = List::new(alloc);
-    for at in 0..work.passage.branches.len() {
-        let branch = work.passage.branches.get(at);
-        let step = step_of(&arrivals.time, branch, work.server);
+    for at in 0..work.passage.servers.len() {
+        let step = step_of(&arrivals.time, work.server, &work.passage, at);
         carries_are_departures(&step);
         let Ok(departs) = joined_times(alloc, &step, &work.blocks, groups.get(at)) else {
             drop(all);
@@ -191,7 +192,7 @@ fn tier_passed(
 ) -> Result<Option<Left>, OutOfMemory>
     requires tier { work.old.server < 4 }
     requires passage { IsPassage arrivals.now.time work.old.server work.old.passage }
-    requires departs { departs ≡ map (next_departs work.old.server) work.old.passage.branches }
+    requires departs { AreAll (AreDepartsAt arrivals.now.time work.old.server work.old.passage) (length work.old.passage.servers.items) departs }
     ensures { IfOk result (λ end. IsTier arrivals.now.time work.old work.new end) }
 {
     passed(
@@ -201,7 +202,7 @@ fn tier_passed(
         &mut work.passage,
         departs,
     )?;
-    if work.passage.branches.is_empty() {
+    if work.passage.servers.is_empty() {
         let latest = replace(&mut work.passage.latest, List::new(alloc));
         return Ok(Some(Left::InTurn(latest)));
     }

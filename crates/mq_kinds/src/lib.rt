@@ -14,7 +14,7 @@ mod table;
 mod tandem;
 mod trunk;
 
-pub use branches::{Branch, Passage};
+pub use branches::Passage;
 pub use delay::delay_left;
 pub use forkjoin::ForkJoin;
 pub use pieces::{

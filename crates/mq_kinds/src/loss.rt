@@ -5,7 +5,8 @@ ghost use Rattle.mq_core.specs.Handling.{demand_of_job};
 ghost use Rattle.mq_core.specs.Sequences.{IsSoundLoad};
 ghost use Rattle.mq_core.specs.declared.model.Kind.TheVariants.{Loss as TheLoss};
 ghost use Rattle.mq_kinds.specs.Lefts.{IsLeft};
-ghost use Rattle.mq_loss.specs.Rounds.{IsSettled};
+ghost use Rattle.mq_loss.specs.Rounds.{IsSettled, loss_rule};
+ghost use Rattle.mq_rounds.specs.Windows.{IsWindowRun};
 ghost use Rattle.mq_stations.specs.Leaving.{IsLoad};
 
 use crate::pieces::{Left, Load};
@@ -33,7 +34,8 @@ pub fn loss_whole(
     Ok(Left::Settled(settled))
 }
 
-// Returns which arrivals find a place, and when those depart. The counter of judgements is its own.
+// Returns which arrivals find a place, and when those depart. The first window is a block of the load. The counter of judgements is
+// its own.
 fn settled<L: Ledger>(
     alloc: Global,
     load: &Load,
@@ -47,7 +49,8 @@ fn settled<L: Ledger>(
     requires name { blank.name ≡ L.name }
     requires parts { blank.parts ≡ L.parts }
     requires some { 0 < blank.parts }
-    ensures { IfOk result (λ settled. IsSettled places load.now.arrivals.now.time (map (demand_of_job load.now.rows.now demand.now) load.now.arrivals.now.job) settled) }
+    ensures settled { IfOk result (λ settled. IsSettled places load.now.arrivals.now.time (map (demand_of_job load.now.rows.now demand.now) load.now.arrivals.now.job) settled) }
+    ensures run { IfOk result (λ settled. IsWindowRun (loss_rule places) load.now.arrivals.now.time (map (demand_of_job load.now.rows.now demand.now) load.now.arrivals.now.job) load.now.block settled.rounds settled.judged) }
 {
     let asked = asked_of(alloc, load.rows, demand, &load.arrivals.job)?;
     let mut steps = Steps::<L>::new(blank);

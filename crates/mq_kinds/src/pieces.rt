@@ -31,7 +31,8 @@ pub struct Load<'r, 's> {
 /// at most 16,384 blocks.
 pub fn blocks_of(load: &Load) -> Blocks
     requires { length load.now.arrivals.now.time ≤ 1048576 }
-    ensures { AreFewBlocks (length load.now.arrivals.now.time) 16384 result }
+    ensures few { AreFewBlocks (length load.now.arrivals.now.time) 16384 result }
+    ensures least { load.now.block ≤ result.block }
 {
     let jobs = load.arrivals.time.len() as u32;
     cut(jobs, block_size(jobs, load.block))

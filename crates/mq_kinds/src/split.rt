@@ -44,7 +44,8 @@ pub fn split_whole(alloc: Global, load: &Load, route: &Route) -> Result<Left, Ou
 pub fn split_begin<'r, 's>(load: &Load<'r, 's>, route: &'r Route) -> Split<'r>
     requires load { IsLoad load.now.rows.now load.now.kind.now load.now.arrivals.now }
     requires kind { load.now.kind.now ≡ TheSplit route.now }
-    ensures { IsSplit load.now.rows.now load.now.kind.now load.now.arrivals.now result }
+    ensures fit { IsSplit load.now.rows.now load.now.kind.now load.now.arrivals.now result }
+    ensures least { load.now.block ≤ result.blocks.block }
 {
     let blocks = blocks_of(load);
     Split { route, blocks }

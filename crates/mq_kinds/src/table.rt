@@ -4,7 +4,7 @@ ghost use Rattle.std.specs.Prelude.{◌≡◌, ◌<◌, ◌≤◌, Ok, IfOk};
 ghost use Rattle.mq_crew.specs.Crew.{AreAll};
 ghost use Rattle.mq_kinds.specs.Lefts.{IsLeft};
 ghost use Rattle.mq_kinds.specs.Pieces.{IsNext};
-ghost use Rattle.mq_kinds.specs.Table.{HasLoad, IsServing, IsServingPiece, IsWhole, serving_size, serving_steps};
+ghost use Rattle.mq_kinds.specs.Table.{HasLoad, HaveLeast, IsServing, IsServingPiece, IsWhole, serving_size, serving_steps};
 ghost use Rattle.mq_kinds.specs.declared.pieces.Left.{Left as TheLeft};
 ghost use Rattle.mq_stations.specs.Leaving.{IsLoad};
 
@@ -48,7 +48,8 @@ pub enum Serving<'r> {
 }
 
 /// Returns how a station begins. `stations` is the number of stations that begin together. A station whose jobs fill one
-/// block is one piece. With one worker each station is one piece, since the worker knows the carry when it comes to a block.
+/// block is one piece. With one worker each station is one piece, since the worker knows the carry when it comes to a block. A
+/// block of the others has at least as many jobs as the load says.
 /// The only error is out of memory.
 pub fn serving_of<'r, 's>(
     alloc: Global,
@@ -59,6 +60,7 @@ pub fn serving_of<'r, 's>(
     requires load { IsLoad load.now.rows.now load.now.kind.now load.now.arrivals.now }
     requires kind { HasLoad load.now.kind.now }
     ensures fit { IfOk result (IsServing load.now.rows.now load.now.kind.now load.now.arrivals.now) }
+    ensures least { IfOk result (HaveLeast load.now.block) }
     ensures steps { IfOk result (λ serving. serving_steps serving ≤ 9) }
 {
     let whole = workers == 1 || load.arrivals.job.len() as u32 <= load.block;

@@ -44,6 +44,7 @@ pub fn tandem_begin<'r, 's>(
     requires load { IsLoad load.now.rows.now load.now.kind.now load.now.arrivals.now }
     requires kind { load.now.kind.now ≡ TheTandem stages.now }
     ensures fit { IfOk result (λ tandem. IsTandem load.now.rows.now load.now.kind.now load.now.arrivals.now tandem) }
+    ensures least { IfOk result (λ tandem. load.now.block ≤ tandem.blocks.block) }
     ensures steps { IfOk result (λ tandem. tandem_steps tandem ≡ 1) }
 {
     let demands = demands_of_stages(alloc, load.rows, stages, &load.arrivals.job)?;

@@ -8,5 +8,4 @@ branches_asked_of-requires c = asked-by_branch c.args.load.now.rows.now c.args.b
 
 pub returns-clause-fit : goal.returns-clause-fit
 returns-clause-fit c =
-    forkjoin-begins c.args.load.now.rows.now c.args.load.now.kind.now c.args.branches.now c.args.load.now.arrivals.now _ _ c.requires.kind c.requires.load c.in_ok-demands.ensures c.in_ok-branches.ensures.servers c.in_ok-branches.ensures.arrive c.in-Ok.ensures refl
-    c.blocks_of.ensures refl
+    forkjoin-begins c.args.load.now.rows.now c.args.load.now.kind.now c.args.branches.now c.args.load.now.arrivals.now _ _ c.requires.kind c.requires.load c.in_ok-demands.ensures c.into_vec.ensures c.new.ensures.items c.in-Ok.ensures refl c.blocks_of.ensures.few refl

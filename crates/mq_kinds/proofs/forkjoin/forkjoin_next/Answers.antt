@@ -1,4 +1,4 @@
-use Rattle.std.proofs.Common.{arith, ◌∙◌}
+use Rattle.std.proofs.Common.{arith}
 use Rattle.std.proofs.lemmas.Result.{IfOk-weaker}
 use Rattle.mq_kinds.proofs.Tiers.{sums-parted, tier-next, times-parted}
 use Rattle.mq_kinds.proofs.forkjoin.forkjoin_next.Goals as goal
@@ -7,13 +7,13 @@ pub carries_of-carried-requires-clause-groups : goal.carries_of-carried-requires
 carries_of-carried-requires-clause-groups c =
     let count = c.len-count.ensures in
     let groups = c.in_ok-groups-in-None.ensures in
-    sums-parted c.args.work.now c.args.made c.requires.made c.in_ok-groups-in-None.groups c.in-None.is (groups.len ∙ count) (λ i d l. groups.each i d (omega arith))
+    sums-parted c.args.load.now.arrivals.now.time c.args.work.now c.args.made c.requires.made c.in_ok-groups-in-None.groups c.in-None.is (let same = c.args.work.now.passage.servers.ok.0 in let len = groups.len in omega arith) (λ i d l. groups.each i d (omega arith))
 
 pub joined-departs-requires-clause-groups : goal.joined-departs-requires-clause-groups
 joined-departs-requires-clause-groups c =
     let count = c.len-count.ensures in
     let groups = c.in_ok-groups-in-Some.ensures in
-    times-parted c.args.work.now c.args.made c.requires.made _ c.in_ok-groups-in-Some.groups c.in-Some.is (groups.len ∙ count) (λ i d l. groups.each i d (omega arith))
+    times-parted c.args.load.now.arrivals.now.time c.args.work.now c.args.made c.requires.made _ c.in_ok-groups-in-Some.groups c.in-Some.is (let same = c.args.work.now.passage.servers.ok.0 in let len = groups.len in omega arith) (λ i d l. groups.each i d (omega arith))
 
 pub returns-in_ok-departs-in-Some : goal.returns-in_ok-departs-in-Some
 returns-in_ok-departs-in-Some c =

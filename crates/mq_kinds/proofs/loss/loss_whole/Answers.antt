@@ -24,4 +24,4 @@ settled-requires-clause-places c =
 pub returns : goal.returns
 returns c =
     let load = c.args.load.now in
-    loss-settled load.rows.now load.kind.now c.args.places c.args.demand.now load.arrivals.now c.in_ok-settled.settled c.requires.kind c.in_ok-settled.ensures
+    loss-settled load.rows.now load.kind.now c.args.places c.args.demand.now load.arrivals.now c.in_ok-settled.settled c.requires.kind c.in_ok-settled.ensures.settled
