@@ -48,7 +48,7 @@ serving-few rows kind arrivals Whole h = omega arith
 serving-few rows kind arrivals (Delay demand) h = omega arith
 serving-few rows kind arrivals (Server demands) h = omega arith
 serving-few rows kind arrivals (Tandem tandem) h = let few = h.blocks.1 in omega arith
-serving-few rows kind arrivals (ForkJoin work) h = let most = each-most (length work.passage.branches) work.blocks.blocks h.blocks.1 in let few = h.passage.few in omega arith
+serving-few rows kind arrivals (ForkJoin work) h = let most = each-most (length work.passage.servers.items) work.blocks.blocks h.blocks.1 in let few = h.passage.few in omega arith
 serving-few rows kind arrivals (Split split) h = let few = h.cut.1 in omega arith
 
 -- a station in its place, in some run
