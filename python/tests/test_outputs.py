@@ -108,6 +108,14 @@ class Outputs(InFolder):
                 self.assertEqual((told[0], told[2].splitlines()[-1:]), (1, [line]), (words, first, other, second))
                 self.assertFalse(os.path.exists("new"))
 
+    def test_the_full_one_of_two_files_is_named(self):
+        """Even if it is full before the other is complete."""
+        self.file("trace", "source,time,talk\n" + "".join(f"door,{at},1\n" for at in range(5000)))
+        for option, other in ("--out", "--out-model"), ("--out-model", "--out"):
+            words = ["pool", "model", "trace", "--node", "desk", "--agents", "2", option, "/dev/full", other, "new"]
+            self.assertEqual(planner(*words)[::2], (1, "mpplan: /dev/full: No space left on device\n"))
+            self.assertFalse(os.path.exists("new"))
+
     def test_outputs_that_are_not_regular_files(self):
         """A device may be read and written, and a new name isn't an input."""
         judge_outputs(["/dev/null", "new", None], {"model": ["/dev/null", None], "trace": ["new"]})

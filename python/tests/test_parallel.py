@@ -2,6 +2,7 @@
 
 import contextlib
 import os
+import resource
 import subprocess
 import sys
 import tempfile
@@ -9,6 +10,7 @@ import threading
 import unittest
 from functools import partial
 
+from commands import InFolder, planner
 from ground import DESK, EXAMPLES, LONGEST, ROOT, SOURCES, Test
 
 import mpsim
@@ -62,6 +64,21 @@ class Sweeps(Test):
             self.assertEqual(next(coming).label, 8)
         with self.assertRaises(mpsim.ReadError):
             mpsim.sweep("absent.csv", mpsim.variants(MODEL, agents=range(8, 16)), processes=4)
+
+
+class OpenFiles(InFolder):
+    def test_few_open_files(self):
+        """Fewer than the models of a call would otherwise be."""
+        rows, models = [("door", at, 3) for at in range(4)], [DESK] * 70
+        model = self.file("model.txt", DESK.replace(" d ", " ={n} "))
+        words = "sweep", model, self.file("trace.csv", "source,time\ndoor,0\n"), "--set", "n=1..70", "--jobs"
+        wanted, before = (told(mpsim.sweep(rows, models)), planner(*words, 1)), resource.getrlimit(resource.RLIMIT_NOFILE)
+        resource.setrlimit(resource.RLIMIT_NOFILE, (60, before[1]))
+        try:
+            for processes in 1, 2:
+                self.assertEqual((told(mpsim.sweep(rows, models, processes=processes)), planner(*words, processes)), wanted)
+        finally:
+            resource.setrlimit(resource.RLIMIT_NOFILE, before)
 
 
 class Command(Test):

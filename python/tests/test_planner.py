@@ -143,6 +143,21 @@ class Ends(InFolder):
         self.assertEqual((ran.returncode, ran.stderr.splitlines()[-1]), (1, "mpplan: left.csv: File too large"))
         self.assertEqual((self.left(), text_of(self.folder, "trace.csv")), (["trace.csv"], "before\n"))
 
+    def test_a_temporary_directory_that_is_full(self):
+        """It is named, not the export or the output; nothing is left in it."""
+        (self.folder / "temporary").mkdir()
+        rows = "when\n" + "2026-03-02 8:00\n" * 1000
+        self.file("export.csv", rows)
+
+        def small():
+            resource.setrlimit(resource.RLIMIT_FSIZE, (100, 100))
+
+        with unittest.mock.patch.dict(os.environ, TMPDIR=str(self.folder / "temporary")):
+            for words in ["export.csv", "--split-by", "day"], ["/dev/stdin"]:
+                ran = self.run_with("prepare", *words, "--time", "when", "--out", "trace.csv", input=rows, preexec_fn=small)
+                self.assertEqual((ran.returncode, ran.stderr.splitlines()[-1]), (1, f"mpplan: {self.folder}/temporary: File too large"))
+        self.assertEqual((self.left(), list((self.folder / "temporary").iterdir())), (["export.csv", "temporary"], []))
+
     def test_outputs_that_are_closed(self):
         script = 'exec "$@" >&-'
         ran = subprocess.run(["sh", "-c", script, "sh", *COMMAND, "prepare", *ASKED], env=os.environ, text=True, capture_output=True)
@@ -211,6 +226,11 @@ class Lines(Test):
 
 
 class Files(InFolder):
+    def test_a_file_in_memory_that_cannot_be_made(self):
+        model, trace = self.file("model.txt", DESK), self.file("trace.csv", "source,time,d\n")
+        with unittest.mock.patch("os.memfd_create", side_effect=OSError(24, "Too many open files")):
+            self.refuses("a file in memory: Too many open files", "run", model, trace)
+
     def test_a_file_that_is_written(self):
         path = self.file("a", "before\n")
         path.chmod(0o640)

@@ -10,11 +10,12 @@ import re
 import secrets
 import stat
 import sys
-from typing import TYPE_CHECKING
+import tempfile
+from typing import TYPE_CHECKING, Any
 
 if TYPE_CHECKING:
     from collections.abc import Iterable, Iterator, Mapping, Sequence
-    from typing import TextIO
+    from typing import IO, TextIO
 
     from .shapes import Path
 
@@ -30,6 +31,31 @@ def named(path: Path | None) -> Iterator[None]:
         if error.filename is None:
             error.filename = str(path)
         raise
+
+
+class Named(io.FileIO):
+    """A file whose errors carry a name (path), not that of whatever is written beside it."""
+
+    def __init__(self, file: Path | int, mode: str, path: Path) -> None:
+        super().__init__(file if isinstance(file, int) else os.fspath(file), mode)
+        self._path = path
+
+    def write(self, data: Any, /) -> int:
+        """Writes bytes, and returns their number (int)."""
+        with named(self._path):
+            return super().write(data)
+
+
+def temporary() -> IO[bytes]:
+    """Opens a temporary file (binary), which is gone once it is closed. Errors while it is written name the directory."""
+    with tempfile.TemporaryFile(buffering=0) as made:
+        return io.BufferedRandom(Named(os.dup(made.fileno()), "rb+", tempfile.gettempdir()))
+
+
+def in_memory(name: str) -> int:
+    """Makes a file in memory, and returns its descriptor (int)."""
+    with named("a file in memory"):
+        return os.memfd_create(name)
 
 
 def bytes_of(path: Path) -> bytes:
@@ -108,19 +134,19 @@ def written(path: Path | None = None) -> Iterator[TextIO]:
             sys.stdout.flush()
     elif not _is_whole(path):
         # Append, so that a redirected /dev/stdout keeps what is already there.
-        with named(path), open(path, "a", encoding="utf-8", errors="surrogateescape", newline="") as appended:
+        with _text_file(Named(path, "ab", path)) as appended:
             yield appended
     else:
         # A link is kept; its target is written.
-        path = os.path.realpath(path)
-        part = f"{path}.{secrets.token_hex(4)}.part"
+        target = os.path.realpath(path)
+        part = f"{target}.{secrets.token_hex(4)}.part"
         file: TextIO | None = None
         try:
+            file = _begun(part, target, path)
+            yield file
             with named(path):
-                file = _begun(part, path)
-                yield file
                 file.close()
-            os.replace(part, path)
+            os.replace(part, target)
         except BaseException as error:
             # The file is thrown away, so a failing write doesn't matter.
             with contextlib.suppress(OSError):
@@ -133,18 +159,23 @@ def written(path: Path | None = None) -> Iterator[TextIO]:
             raise
 
 
-def _begun(part: str, path: str) -> TextIO:
-    """Opens a new file with the permissions of the file that it will replace."""
+def _begun(part: str, target: str, path: Path) -> TextIO:
+    """Opens a new file with the permissions of the file that it will replace, and the name by which that was given."""
     try:
-        file = open(part, "x", encoding="utf-8", errors="surrogateescape", newline="")
+        file = _text_file(Named(part, "xb", path))
     except OSError as error:
-        error.filename = path
+        error.filename = str(path)
         raise
     try:
         with contextlib.suppress(OSError, AttributeError):
             # Windows has no fchmod.
-            os.fchmod(file.fileno(), stat.S_IMODE(os.stat(path).st_mode))
+            os.fchmod(file.fileno(), stat.S_IMODE(os.stat(target).st_mode))
     except BaseException:
         file.close()
         raise
     return file
+
+
+def _text_file(file: Named) -> TextIO:
+    """Returns the text of a file, which is written line by line if it is a terminal."""
+    return io.TextIOWrapper(io.BufferedWriter(file), "utf-8", "surrogateescape", newline="", line_buffering=file.isatty())

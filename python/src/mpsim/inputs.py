@@ -13,6 +13,7 @@ from datetime import datetime, timedelta
 from typing import TYPE_CHECKING, NamedTuple, Tuple, cast
 
 from .builder import Model
+from .files import in_memory
 from .frames.columns import column_of
 from .frames.ticks import Clock, in_ticks
 from .model import columns
@@ -105,7 +106,7 @@ class Input:
     def __init__(self, path: str | None = None, write: Callable[[BinaryIO], object] | None = None) -> None:
         self.path, self._memory = path, None
         if write is not None:
-            self._memory = os.memfd_create("mpsim")
+            self._memory = in_memory("mpsim")
             try:
                 with open(self._memory, "wb", closefd=False) as file:
                     write(file)

@@ -5,11 +5,23 @@ from __future__ import annotations
 from collections import deque
 from typing import TYPE_CHECKING, TypeVar
 
+from .limits import MODELS
+
 if TYPE_CHECKING:
     from collections.abc import Callable, Generator, Iterable
     from concurrent.futures import Future
 
 Item = TypeVar("Item")
+# What this process keeps open besides models, and what a call of a program does.
+OWN, A_CALL = 32, 8
+
+
+def models_per_call(processes: int) -> int:
+    """Returns how many models each of this many (int) calls of mpsweep takes (int): each is an open file, of which the system allows so many."""
+    import resource
+
+    most = resource.getrlimit(resource.RLIMIT_NOFILE)[0]
+    return MODELS if most == resource.RLIM_INFINITY else max(1, min(MODELS, (most - OWN) // max(processes, 1) - A_CALL))
 
 
 def in_order(tasks: Iterable[Callable[[], Iterable[Item]]], processes: int) -> Generator[Item, None, None]:

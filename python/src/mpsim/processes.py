@@ -11,6 +11,7 @@ from typing import TYPE_CHECKING
 
 from . import programs
 from .errors import ProgramError, ReportError, TimedOut, error_of
+from .files import in_memory
 
 if TYPE_CHECKING:
     from collections.abc import Collection, Iterable, Iterator, Sequence
@@ -57,7 +58,7 @@ class Running:
         self._is_late = self._is_killed = False
         file = programs.find(name)
         # stderr goes to memory, where it can't fill a pipe that nobody reads.
-        self._errors = os.memfd_create("mpsim-errors")
+        self._errors = in_memory("mpsim-errors")
         try:
             with undisturbed():
                 self._process = subprocess.Popen(

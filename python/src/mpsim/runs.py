@@ -34,9 +34,8 @@ from .errors import BoundError, Error, ModelError, ProgramError, TraceError, Vis
 from .files import text_of
 from .frames.ticks import Clock
 from .inputs import edits_input, model_input, trace_input
-from .limits import MODELS
 from .model import in_braces
-from .parallel import in_order
+from .parallel import in_order, models_per_call
 from .processes import Running
 from .programs import find
 from .report import Reading, with_model
@@ -235,7 +234,7 @@ def _scenarios(
 ) -> Generator[Scenario, None, None]:
     if not labelled:
         return
-    run_some, step = (_by_mpsim, 1) if jobs else (_by_mpsweep, min(MODELS, -(-len(labelled) // max(processes, 1))))
+    run_some, step = (_by_mpsim, 1) if jobs else (_by_mpsweep, min(models_per_call(processes), -(-len(labelled) // max(processes, 1))))
     end = None if timeout is None else time.monotonic() + timeout
     with _inputs(lambda _: model_input(labelled[0][1]), lambda made: trace_input(trace, made[0], clock)) as (_, rows):
 

@@ -12,6 +12,8 @@ import subprocess
 import tempfile
 from typing import Dict, List, NamedTuple, Optional
 
+from ..files import named
+
 SOLVERS = SCIPY, GLPK = "scipy", "glpk"
 MISSING = "a solver is required: install SciPy 1.9 or later (pip install scipy, or the package python3-scipy) or GLPK (the package glpk-utils)"
 
@@ -121,7 +123,7 @@ def _by_scipy(program: Program, objective: list[int]) -> list[int]:
 def _by_glpk(program: Program, objective: list[int]) -> list[int]:
     with tempfile.TemporaryDirectory() as folder:
         path, answer = os.path.join(folder, "program.lp"), os.path.join(folder, "answer")
-        with open(path, "w", encoding="ascii") as file:
+        with named(folder), open(path, "w", encoding="ascii") as file:
             file.writelines(f"{line}\n" for line in _lines(program, objective))
         words = ["glpsol", "--lp", path, "-w", answer]
         ran = subprocess.run(words, stdin=subprocess.DEVNULL, stdout=subprocess.PIPE, stderr=subprocess.STDOUT, text=True)

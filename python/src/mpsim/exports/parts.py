@@ -2,10 +2,10 @@
 
 from __future__ import annotations
 
-import tempfile
 from array import array
 from typing import TYPE_CHECKING
 
+from ..files import temporary
 from ..limits import RECORDS
 from ..times.texts import DAY, Cache, moment
 from .arrivals import Span, judge_far_spans
@@ -75,7 +75,7 @@ class Parts(Rows):
             raise ValueError(f"--split-by {by}: the times have no day")
         self._by, self._parts, self._names = by, {}, {}
         self._labels = Cache(self._label)
-        self._file = tempfile.TemporaryFile()
+        self._file = temporary()
 
     def _label(self, day: int) -> str:
         """Returns the name of the part that a day (from 1970) belongs to."""

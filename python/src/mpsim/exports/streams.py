@@ -15,7 +15,7 @@ import zipfile
 import zlib
 from typing import TYPE_CHECKING, cast
 
-from ..files import named
+from ..files import named, temporary
 
 if TYPE_CHECKING:
     from collections.abc import Callable, Iterator
@@ -103,7 +103,7 @@ class Stream:
 
     def _copied(self, path: str) -> Callable[[], IO[bytes]]:
         """Copies a pipe to a temporary file and returns how to open that."""
-        kept = self._files.enter_context(tempfile.TemporaryFile())
+        kept = self._files.enter_context(temporary())
         is_text, long = True, 0
         with named(path), open(path, "rb", buffering=0) as file:
             while piece := file.read(PIECE):
@@ -166,9 +166,9 @@ class Stream:
         if self._path is not None and not self._is_pipe(self._path):
             return self._path
         copy = self._files.enter_context(tempfile.NamedTemporaryFile())
-        with self._plain() as file:
+        with self._plain() as file, named(tempfile.gettempdir()):
             shutil.copyfileobj(file, copy)
-        copy.flush()
+            copy.flush()
         return copy.name
 
     def text(self, encoding: str) -> TextIO:

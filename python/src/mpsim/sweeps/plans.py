@@ -12,6 +12,7 @@ from typing import TYPE_CHECKING, Optional, TypedDict
 from ..agents.pools import agent_name, queue_name
 from ..limits import MODELS
 from ..model import in_braces, lines_of
+from ..parallel import models_per_call
 from ..tables.nodes import heads
 
 if TYPE_CHECKING:
@@ -185,7 +186,7 @@ class Plan:
     def pieces(self, least: int) -> Iterator[tuple[TraceFile, range]]:
         """Yields the traces with numbers of models (range) that make up the sweep, in its order: the shards, cut smaller if there would be fewer than
         `least` (int)."""
-        size = max(1, min(MODELS, -(-self.scenarios // least)))
+        size = max(1, min(models_per_call(least), -(-self.scenarios // least)))
         for trace in self.traces:
             yield from ((trace, range(begin, min(begin + size, self.each))) for begin in range(0, self.each, size))
 

@@ -8,12 +8,14 @@ from __future__ import annotations
 
 import contextlib
 import hashlib
+import io
 import os
 import socket
 from typing import TYPE_CHECKING
 
 from ..agents.pools import know_model
 from ..errors import Error
+from ..files import Named, named
 from ..runs import sweep_text
 from ..tables.nodes import rows
 from .plans import Plan, sum_of
@@ -37,10 +39,11 @@ def _whole(path: Path) -> Iterator[BinaryIO]:
     with contextlib.suppress(FileNotFoundError):
         os.unlink(part)
     try:
-        with open(part, "xb") as file:
+        with io.BufferedWriter(Named(part, "xb", path)) as file:
             yield file
             file.flush()
-            os.fsync(file.fileno())
+            with named(path):
+                os.fsync(file.fileno())
         os.replace(part, path)
     except BaseException:
         with contextlib.suppress(OSError):
