@@ -1,6 +1,7 @@
 """`mpplan inspect`: the columns of an export, what can't be told of them, and a command that works."""
 
 import csv
+import importlib.util
 import io
 import shlex
 import unittest
@@ -9,6 +10,7 @@ from commands import InFolder, planner
 from ground import EXAMPLES
 
 from mpsim.exports.inspection import inspected
+from mpsim.exports.recipes import READERS
 
 CALLS = (
     "Id;Start;Answered;End;Queue;Talk (min);Wait;Note\n"
@@ -130,7 +132,9 @@ class Inspect(InFolder):
     def test_the_recipe(self):
         path, recipe = self.file("calls.csv", CALLS), self.folder / "calls.toml"
         words = self.proposed(path, "--write-recipe", recipe)
-        self.assertEqual(planner("prepare", path, "--recipe", recipe)[1], planner("prepare", path, *words)[1])
+        # Before 3.11, Python itself has no reader of recipes.
+        if any(map(importlib.util.find_spec, READERS)):
+            self.assertEqual(planner("prepare", path, "--recipe", recipe)[1], planner("prepare", path, *words)[1])
         self.assertEqual(recipe.read_text().split("\n")[1:4], ['time = "Start"', 'source = "Queue"', 'demand = ["Talk (min):min"]'])
         status, out, err = planner("inspect", self.file("a.csv", "a,b\n1,2\n"), "--write-recipe", self.folder / "none.toml")
         self.assertEqual((status, out, (self.folder / "none.toml").exists()), (1, "", False))
