@@ -17,6 +17,7 @@ from ..page.levels import levels_of
 from ..page.parts import percent as percent_text
 from ..page.parts import in_words
 from ..progress import Progress
+from ..stations.columns import judge_copies
 from ..tables.decisions import Calls, Choice, Decider, recorded_of
 from ..tables.grids import loads_of, unchanged, with_copies
 from ..times.intervals import every_of, label
@@ -158,6 +159,8 @@ def _cases(
                 changed = calls.longer(more)
             else:
                 try:
+                    if case.load != 1:
+                        judge_copies(text)
                     made = with_copies(trace, case.load or Fraction(1), copying_of(trace, calendar))
                 except ValueError as error:
                     if args.what_if:

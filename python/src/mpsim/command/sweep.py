@@ -12,7 +12,7 @@ from ..errors import Error
 from ..files import judge_outputs, written
 from ..parallel import in_order
 from ..progress import Progress
-from ..stations.columns import made_warning
+from ..stations.columns import made_warning, worked_warning
 from ..sweeps.local import label_of, pools_again, scenarios_in, shares_of
 from ..sweeps.plans import Plan, files_of, sets_of
 from ..sweeps.results import Sweep
@@ -82,13 +82,15 @@ def _plan(args: Namespace) -> Plan:
     judge_outputs([args.page], {"model": models, "trace": traces})
     plan = Plan.of(models, sets_of(args.set), traces, args.node)
     for trace in plan.traces:
+        warn = made_warning
         if again := pools_again(plan, trace):
             if args.folder is not None:
                 names = " and ".join(again)
                 why = f"{trace['path']} holds the waits at {names} for one number of agents, and the models have several"
                 raise ValueError(f"{why}: without --folder they are worked out again for each")
             say(f"the waits at {' and '.join(again)} are worked out again for each number of agents")
-        elif warning := made_warning(trace["path"], header_of(trace["path"])):
+            warn = worked_warning
+        if warning := warn(trace["path"], header_of(trace["path"])):
             say(warning)
     return plan
 

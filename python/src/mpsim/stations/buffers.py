@@ -20,7 +20,7 @@ from ..limits import PLACES, STAGES
 from ..names import is_name
 from ..runs import run
 from ..traces.trace import locating_errors
-from .columns import held_name, judge_departures, judge_names
+from .columns import held_name, judge_departures, judge_names, judge_services
 
 if TYPE_CHECKING:
     from collections.abc import Callable, Iterable, Mapping, Sequence
@@ -123,7 +123,7 @@ def tandem(line: Line, besides: int = 0) -> list[tuple[int, str]]:
 
 def with_tandem(line: Line, name: str, inputs: Sequence[str], model: Model, besides: int = 0) -> Model:
     """Adds a tandem that holds a Line, with this name (str) and inputs (sequence of str), to a Model, and returns the model. Raises what `tandem`
-    does.
+    and `judge_services` do.
 
     >>> import mpsim
     >>> from mpsim.stations.buffers import line_of, with_tandem
@@ -132,6 +132,7 @@ def with_tandem(line: Line, name: str, inputs: Sequence[str], model: Model, besi
     source parts
     tandem line cut / 1 =0 / 4 mill from parts
     """
+    judge_services(line.demands)
     model.tandem(name, _demand(line.demands[0]), *((places, _demand(it)) for places, it in tandem(line, besides)), *inputs)
     return model
 
@@ -190,7 +191,8 @@ class Worked(NamedTuple):
 
 def worked_out(line: Line, inputs: Sequence[str], model: str, trace: Trace) -> Worked:
     """Returns a line of any machines and places (Line) that was worked out over a trace (Trace), as a Worked. The line reads these outputs (sequence
-    of str) of a model's text (str). Raises what `mpsim.run` does, and ValueError for a column that the trace lacks, or if a job comes more than once.
+    of str) of a model's text (str). Raises what `mpsim.run` and `judge_services` do, and ValueError for a column that the trace lacks, or if a job
+    comes more than once.
 
     >>> from mpsim.stations.buffers import line_of, worked_out
     >>> from mpsim.traces import Trace
@@ -199,6 +201,7 @@ def worked_out(line: Line, inputs: Sequence[str], model: str, trace: Trace) -> W
     >>> [row[-2:] for row in made.trace.rows]
     [['1', '5'], ['5', '5'], ['5', '5']]
     """
+    judge_services(line.demands)
     first = line.names[0]
     probe = Model.parse(model)
     probe.delay(first, 0, *inputs)

@@ -2,6 +2,7 @@
 
 from __future__ import annotations
 
+import contextlib
 from typing import TYPE_CHECKING
 
 from ..agents.networks import in_front
@@ -11,10 +12,14 @@ from ..node_visits import NodeVisits
 from ..traces.trace import pool_warning
 
 if TYPE_CHECKING:
-    from collections.abc import Iterable, Iterator, Mapping, Sequence
+    from collections.abc import Collection, Iterable, Iterator, Mapping, Sequence
 
     from ..model import ModelNode
     from ..report import Report
+
+
+# What `_made` says of the columns of pools begins with.
+POOLED = "the queue ", "the pool "
 
 
 def held_name(machine: str) -> str:
@@ -61,6 +66,13 @@ def _made(node: ModelNode) -> str | None:
     return None
 
 
+def _nodes(text: str) -> dict[str, ModelNode]:
+    """Returns the nodes of a model's text by name; none for a text that this reader can't parse, which is left to the run that rejects it."""
+    with contextlib.suppress(ValueError):
+        return {node.name: node for node in nodes_of(text)}
+    return {}
+
+
 def ovens_in(text: str) -> list[str]:
     """Returns the ovens (list of str) in a model's text whose batches `mpplan batch` worked out.
 
@@ -71,14 +83,46 @@ def ovens_in(text: str) -> list[str]:
     return [node.name.removesuffix(fill_name("")) for node in nodes_of(text) if (_made(node) or "").startswith("the oven ")]
 
 
+def judge_copies(text: str, but_pools: bool = False) -> None:
+    """Raises ValueError if nodes of a model's text read columns that were worked out for the trace as it is, which its records must then keep; with
+    `but_pools` (bool) columns of pools may be among them, whose waits are worked out again."""
+    for node in _nodes(text).values():
+        made = _made(node)
+        if made and not (but_pools and made.startswith(POOLED)):
+            raise ValueError(f"{made}: its columns hold only for this trace; change the model and the trace before that, then work them out again")
+
+
 def judge_order(nodes: Mapping[str, ModelNode], name: str, what: str) -> None:
     """Raises ValueError if columns that were worked out before are read at the node of this name, or downstream of it: they hold only for the times
     at which jobs come there. `nodes` are those of the model by name (dict of ModelNode); `what` (str) is what is to be worked out at the node."""
     for item in nodes.values():
         made = _made(item)
+        if made and item.name == name:
+            raise ValueError(f"{made} is at {name}: its columns hold only without {what}; give the model and the trace before that")
         if made and name in in_front(nodes, [item.name]):
-            where = f"is downstream of {name}" if item.name != name else f"is at {name}"
-            raise ValueError(f"{made} {where}: its columns hold only for the times at which jobs come there; work out {what} at {name} first")
+            why = "its columns hold only for the times at which jobs come there"
+            raise ValueError(f"{made} is downstream of {name}: {why}; work out {what} at {name} first")
+
+
+def judge_services(demands: Iterable[str]) -> None:
+    """Raises ValueError if the service times of machines in a line (iterable of str, as a model writes them) are columns that `mpplan line` or `down`
+    worked out: these hold only for the times at which parts came there without this line."""
+    for name in _worked([*demands]):
+        how = "with breakdowns" if name.endswith(down_name("")) else "with the time for which parts are blocked"
+        why = f"it has the service times {how}, which hold only for the times at which parts came there before"
+        raise ValueError(f"{name} is a column that mpplan worked out: {why}; give the column before that (if this one is your own, rename it)")
+
+
+def judge_varied(text: str, pools: Collection[str]) -> None:
+    """Raises ValueError if a model's text has an oven, a line or a breakdown downstream of one of these pools (collection of str), whose number of
+    agents varies: its columns hold for one of the numbers."""
+    nodes = _nodes(text)
+    for item in nodes.values():
+        made, above = _made(item), in_front(nodes, [item.name])
+        if made and not made.startswith(POOLED):
+            for pool in pools:
+                if queue_name(pool) in above:
+                    raise ValueError(f"{made} is downstream of the pool {pool}: its columns hold for one number of agents; work it out for each")
 
 
 def judge_departures(report: Report, departs: Mapping[str, Sequence[int]]) -> None:

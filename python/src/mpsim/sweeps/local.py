@@ -8,6 +8,7 @@ from ..agents.pools import names_of, visits_at
 from ..agents.waits import pools_in, recomputed, varied
 from ..errors import Error
 from ..runs import run, scenarios, sweep_text
+from ..stations.columns import judge_varied
 from ..traces.trace import Trace, header_of, locating_errors, pool_warning
 from .results import Scenario, scenarios_of
 
@@ -20,11 +21,15 @@ if TYPE_CHECKING:
 
 
 def pools_again(plan: Plan, trace: TraceFile) -> list[str]:
-    """Returns the pools (list of str) whose number of agents varies over the models of a plan, if the trace has their waits."""
+    """Returns the pools (list of str) whose number of agents varies over the models of a plan, if the trace has their waits. Raises ValueError if a
+    model has columns downstream of such a pool that hold for one of the numbers."""
     header = header_of(trace["path"])
     if pool_warning(trace["path"], header) is None:
         return []
-    return varied((plan.model(at)[2] for at in range(plan.each)), Trace(trace["path"], header, []))
+    again = varied((plan.model(at)[2] for at in range(plan.each)), Trace(trace["path"], header, []))
+    for at in range(plan.each) if again else ():
+        judge_varied(plan.model(at)[2], again)
+    return again
 
 
 def shares_of(report: Report, ticks: int, nodes: Collection[str]) -> Iterator[Row]:

@@ -8,6 +8,7 @@ from ..agents.queues import Queue
 from ..agents.waits import model_pools, recomputed, rostered_pools
 from ..node_visits import NodeVisits, percentile_of
 from ..runs import run
+from ..stations.columns import judge_copies
 from ..traces.resample import Days
 from ..traces.trace import Trace
 from .service import PERCENTS, figures_of, heads
@@ -36,7 +37,8 @@ def spreads(
     """Yields the header and the rows (lists, as in HEADS) of a table with a row per node, number of agents and figure: the figure in the trace
     itself, and percentiles of it over this many resampled traces with this seed. With numbers of agents, the one node is a server that pools replace,
     as `mpplan pool` does; pools in the model are pooled again for each trace. With Parts each has a row for "all", and one per part. `tell` is called
-    with the number of runs done. Raises what `mpsim.run` does, and ValueError for a pool with a roster, patience or priorities.
+    with the number of runs done. Raises what `mpsim.run` does, and ValueError for a pool with a roster, patience or priorities, and for columns of a
+    line, an oven or a breakdown.
 
     >>> from mpsim.times.calendar import Calendar
     >>> rows = [["door", str(time), "9"] for time in (10, 86400, 86401, 86402)]
@@ -56,8 +58,9 @@ def spreads(
     """
     if special := rostered_pools(model):
         raise ValueError(f"{special[0]} is a pool with a roster, patience or priorities: run mpplan pool for each trace")
+    judge_copies(model, but_pools=True)
     # Found by the trace itself: with the waits of other days a trunk group may lose calls.
-    known = [] if agents else model_pools(model.encode(errors="surrogateescape"), days.trace)
+    known = model_pools(model.encode(errors="surrogateescape"), days.trace)
     seen: Dict[Tuple[str, Optional[int], str], List[Row]] = {}
     for number in range(count + 1):
         tell(number)
