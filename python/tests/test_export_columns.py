@@ -59,13 +59,58 @@ class Sums(Test):
         made = prepare(rows, "at", format="unixms", demand=["talk=end-begin"], wait=["begin"], tick="1ms")
         self.assertEqual([column.tolist() for column in made.values], [[10500], [3000]])
 
-    def test_waits_that_look_like_times_of_day(self):
-        for form, time, hold in ("hmm", "1430", "20"), ("clock", "14:30:00", "0:00:20"):
-            rows = table(f"{time},{hold}", header="at,hold")
-            read = prepare(rows, "at", format=form, wait=["hold"])
-            self.assertIn(f"column 'hold' is read as {form}: for lengths of time, give their unit, e.g. hold:s", read.told)
-            given = prepare(rows, "at", format=form, wait=["hold:s"])
-            self.assertEqual((given.values[0].tolist(), [line for line in given.told if "hold" in line]), ([20], []))
+    def test_waits_that_look_like_times(self):
+        """However the day is given: a length and a time at which the wait ended may be the same text."""
+        for header, at, options, texts in (
+            ("at", "14:30:00", {}, ("0:00:20", "14:30:20")),
+            ("at", "1430", {"format": "hmm"}, ("20", "1431")),
+            ("at", "143000", {"format": "hmmss"}, ("20", "143020")),
+            ("at", "14:30:00", {"format": "gtfs"}, ("0:00:20", "14:30:20")),
+            ("at", "2026-03-02 14:30:00", {}, ("0:00:20", "14:30:20")),
+            ("at", "1772438417", {"format": "unix"}, ("0:00:20", "08:00:37")),
+            ("day,at", "2026-03-02,14:30:00", {"date": "day"}, ("0:00:20", "14:30:20")),
+            ("day,at", "2026-03-02,0.5", {"date": "day", "format": "excel", "date_format": "iso"}, ("0:00:20", "0.50023148148")),
+            ("y,m,d,at", "2026,3,2,1430", {"day": ["y", "m", "d"], "format": "hmm"}, ("20", "1431")),
+            ("at", "100", {"format": "ticks"}, ("20", "120")),
+        ):
+            for text, want in zip(texts, ("hold:s", "hold:time")):
+                rows = table(f"{at},{text}", header=f"{header},hold")
+                says = f"'{text}': it could be the length of the wait, or the time at which the wait ended: give its unit, --wait hold:s or --wait hold"
+                with self.subTest(at=at, text=text, options=options):
+                    with self.assertRaisesRegex(ValueError, says):
+                        prepare(rows, "at", wait=["hold"], decimal=".", **options)
+                    waits = prepare(rows, "at", wait=[want], decimal=".", **options).values[0].tolist()
+                    self.assertEqual(waits, [60 if text == "1431" else 20])
+        # It is met after rows with numbers or without waits; numbers, texts with units and more than a day are lengths.
+        for rows in ["8:00:00,20", "8:01:00,0:00:20"], ["8:00:00,"] * 200 + ["8:01:00,0:00:20"]:
+            with self.assertRaisesRegex(ValueError, "'0:00:20': it could be the length"):
+                prepare(table(*rows, header="at,hold"), "at", wait=["hold"], left_out_most="100%")
+        rows = table("8:00:00,20", "8:00:01,PT20S", "8:00:02,25:00:00", "8:00:03,24:30:00", header="at,hold")
+        self.assertEqual(prepare(rows, "at", wait=["hold"]).values[0].tolist(), [20, 20, 90000, 88200])
+
+    def test_differences_that_look_like_times(self):
+        """They are the same for lengths and for times of day, but around midnight and in h:mm."""
+        says = "the columns of d could have times of day or lengths: give each its unit, such as --demand b:time or --demand b:s"
+        for header, day, options in ("at", "", {}), ("day,at", "2026-03-02,", {"date": "day"}), ("at", "2026-03-02 ", {}):
+            for rows, demand, want in (
+                (["14:30:00,14:31:00,14:32:10"], "d=b-a", [70]),
+                (["23:50:00,23:55:00,0:05:00"], "d=b:time-a:time", [600]),
+                (["0:00:30,0:00:20,0:01:00"], "d=b:s-a:s", [40]),
+                (["0:00:30,0:00:20,0:01:00"], "d=b-a", None),
+                (["14:30,14:31,14:32"], "d=b-a", None),
+                (["14:30,0:31,3:32"], "d=b-a", None),
+                (["14:30,14:31,14:32"], "d=b:time-a:time", [60]),
+                (["14:30,0:31,3:32"], "d=b:m:ss-a:m:ss", [181]),
+            ):
+                table_of = table(*(day + row for row in rows), header=f"{header},a,b")
+                with self.subTest(day=day, rows=rows, demand=demand):
+                    if want is None:
+                        with self.assertRaisesRegex(ValueError, says):
+                            prepare(table_of, "at", demand=[demand], **options)
+                    else:
+                        self.assertEqual(prepare(table_of, "at", demand=[demand], **options).values[0].tolist(), want)
+        # A column of --time is a time, and so is what it is subtracted from.
+        self.assertEqual(prepare(table("23:59:50,0:00:20", header="at,b"), "at", demand=["d=b-at"]).values[0].tolist(), [30])
 
     def test_names_with_signs(self):
         """The longest name counts, as it stands in the header."""

@@ -84,7 +84,18 @@ class Refusals(InFolder):
                 "--demand",
                 "long",
             ),
-            ("row 3, column 'long': '3:30': this could be h:mm or m:ss: give the unit", table(ROW, "8:01,a,3:30"), "--demand", "long"),
+            (
+                "row 3, column 'long': '3:30': this could be h:mm or m:ss: give the unit, --demand long:h:mm or --demand long:m:ss",
+                table(ROW, "8:01,a,3:30"),
+                "--demand",
+                "long",
+            ),
+            (
+                "row 3, column 'long': '3:30': this could be h:mm or m:ss: give the unit, --where long:h:mm or --where long:m:ss",
+                table(ROW, "8:01,a,3:30"),
+                "--where",
+                "long>0",
+            ),
             (
                 "row 2, column 'when': '2026-10-25 02:30': in the hour that occurs twice on 2026-10-25 in Europe/Berlin: "
                 "give --twice first, second or order",

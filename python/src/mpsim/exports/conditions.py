@@ -21,13 +21,12 @@ _ORDERS = {"<=": operator.le, ">=": operator.ge, "<": operator.lt, ">": operator
 
 class Condition:
     """A condition on the column of this index. The signs are = and != (the text of the field), ~ (it contains a text, in capitals or not) and <, <=,
-    > and >= (a number with this decimal mark, or h:mm:ss). An empty field is neither smaller nor greater."""
+    > and >= (a number, or h:mm:ss, as these Lengths read it). An empty field is neither smaller nor greater."""
 
     SIGNS = "!=", *_ORDERS, "=", "~"
 
-    def __init__(self, column: int, sign: str, value: str, decimal: str | None = None) -> None:
-        self.column, self.sign, self.value = column, sign, value.strip()
-        self._read = Lengths("s", decimal, 1)
+    def __init__(self, column: int, sign: str, value: str, how: Lengths) -> None:
+        self.column, self.sign, self.value, self._read = column, sign, value.strip(), how
         if sign in _ORDERS:
             self._bound = self._number(self.value)
         self._met = Cache(self._judge)
@@ -62,11 +61,13 @@ def parsed(word: str, export: Table, mark: Callable[[int], str | None], option: 
     the numbers of a column. Raises ValueError."""
     numbers = re.findall(r"^#[1-9]\d{0,4}", word)
     for name in [*sorted(filter(None, export.header), key=len, reverse=True), *numbers]:
-        found = re.match(rf"\s*({'|'.join(map(re.escape, Condition.SIGNS))})", word[len(name) :])
-        if word.startswith(name) and found:
+        found = re.match(rf"(?::([\w:@.]+))?\s*({'|'.join(map(re.escape, Condition.SIGNS))})", word[len(name) :])
+        if word.startswith(name) and found and (found[1] is None or found[2] in _ORDERS):
             column = export.column(name)
             try:
-                return Condition(column, found[1], word[len(name) + found.end() :], mark(column) if found[1] in _ORDERS else None)
+                unit, sign, is_order = found[1] or "s", found[2], found[2] in _ORDERS
+                how = Lengths(unit, mark(column) if is_order else None, 1, f"{option} {name}")
+                return Condition(column, sign, word[len(name) + found.end() :], how)
             except (Unread, ValueError) as error:
                 raise ValueError(f"{option} {word}: {error}") from None
     signs = ", ".join(Condition.SIGNS)

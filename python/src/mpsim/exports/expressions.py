@@ -9,7 +9,7 @@ from typing import TYPE_CHECKING
 
 from ..limits import GREATEST_VALUE
 from ..times.texts import Asks, Unread
-from .values import REPEATED
+from .values import REPEATED, TIME
 
 if TYPE_CHECKING:
     from collections.abc import Sequence
@@ -58,14 +58,21 @@ def _rest(word: str, at: int) -> tuple[str | None, re.Match[str]] | None:
 
 class Expression:
     """A sum of columns with signs: `times` (list of pairs of a sign and Times), of which as many are added as subtracted, and `lengths` (list of
-    triples of a sign, the index of a column and its Lengths). The result is rounded to ticks once."""
+    triples of a sign, the index of a column and its Lengths). Those of the times that could be lengths are also in `unsure`, as such. The result is
+    rounded to ticks once."""
 
     is_service = True
 
     def __init__(
-        self, name: str, times: list[tuple[int, Times]], lengths: list[tuple[int, int, Lengths]], tick: int, empty: int | None = None
+        self,
+        name: str,
+        times: list[tuple[int, Times]],
+        lengths: list[tuple[int, int, Lengths]],
+        tick: int,
+        empty: int | None,
+        unsure: list[tuple[int, int, Lengths]],
     ) -> None:
-        self.name, self.times, self.lengths, self.tick, self.empty = name, times, lengths, tick, empty
+        self.name, self.times, self.lengths, self.tick, self.empty, self.unsure = name, times, lengths, tick, empty, unsure
         self.column: int = times[0][1].column if times else lengths[0][1]
         self.rounded = 0
 
@@ -78,14 +85,17 @@ class Expression:
                 at = item.column
                 found.append(item.later(row, begun[0]))
             at = self.column
-            total += self._between(begun[0], found) if found else 0
+            between = self._between(begun[0], found) if found else 0
+            total += between
             self._note_outside(found)
             for sign, at, how in self.lengths:
                 if self.empty is not None and not row[at].strip():
                     total += sign * self.empty * self.tick
                 else:
-                    length, tick = how.length(row[at])
-                    total += Fraction(sign * length * self.tick, tick)
+                    total += sign * self._length(row[at], how)
+            if self.unsure:
+                at = self.unsure[0][1]
+                self._judge_unsure(row, total, between)
             at = self.column
             if total < 0:
                 raise Unread(f"{self.name} is below 0")
@@ -97,6 +107,23 @@ class Expression:
             raise Unread("above 2^36 ticks")
         self.rounded += total % self.tick > 0
         return ticks
+
+    def _length(self, text: str, how: Lengths) -> Fraction:
+        length, tick = how.length(text)
+        return Fraction(length * self.tick, tick)
+
+    def _judge_unsure(self, row: Sequence[str], total: Fraction, between: int) -> None:
+        """Raises Asks if the times of a row, which add `between` to the total, could be lengths and would give another service then."""
+        try:
+            given = sum((sign * self._length(row[at], how) for sign, at, how in self.unsure), Fraction(0))
+            differs = given != between and total - between + given >= 0
+        except Unread:
+            differs = False
+        except Asks:
+            differs = True
+        if differs:
+            asked = self.unsure[0][2].asked
+            raise Asks(f"the columns of {self.name} could have times of day or lengths: give each its unit, such as {asked}:{TIME} or {asked}:s")
 
     def _note_outside(self, found: Sequence[int]) -> None:
         """Notes moments of a row (list of int) outside of working time."""

@@ -27,7 +27,7 @@ from .expressions import Expression, terms
 from .logs import found_units
 from .records import Dates, Numbers, Records, Times
 from .renames import rename_of
-from .values import ABANDONED, WAIT, Abandoned, Code, Constant, Demand, End, Sum, Wait
+from .values import ABANDONED, TIME, WAIT, Abandoned, Code, Constant, Demand, End, Sum, Wait
 
 if TYPE_CHECKING:
     from collections.abc import Iterable, Mapping, Sequence
@@ -198,14 +198,16 @@ class Plan:
     def waits(self, wait: Sequence[str], abandoned: Sequence[str]) -> None:
         """Sets the column of waits, and which jobs gave up."""
         parts: list[Demand | End] = []
+        unsure: dict[int, str] = {}
         for word in wait:
             column, name, unit = self.export.parse(word, has_unit=True)
-            if unit is None and self._is_time(column):
+            if unit == TIME or unit is None and self._is_time(column):
                 parts.append(End(name or WAIT, self._more_times(column), 1 if self.is_ticks else self.per))
             else:
-                parts.append(Demand(name or WAIT, column, Lengths(unit or "s", self._mark(column), self.per)))
+                parts.append(Demand(name or WAIT, column, self._lengths("--wait", word, column, unit)))
+                unsure.update({column: f"--wait {word}"} if unit is None else {})
         if parts:
-            self.columns.append(Wait(self._named(parts[0].name), parts))
+            self.columns.append(Wait(self._named(parts[0].name), parts, unsure, self._clocks()))
         if abandoned:
             self.gone = [parsed(word, self.export, self._mark, "--abandoned") for word in abandoned]
             self.columns.append(Abandoned(self._named(ABANDONED), self.gone))
@@ -230,7 +232,7 @@ class Plan:
                 raise
             self._add(self._expression(word, *found, empty))
             return
-        how = Lengths(unit or "s", self._mark(column), self.per)
+        how = self._lengths("--demand", word, column, unit)
         at = next((at for at, it in enumerate(self.columns) if it.name == name), None)
         known = [part.column for part in getattr(self.columns[at], "parts", [self.columns[at]])] if at is not None else []
         if column in known:
@@ -247,24 +249,49 @@ class Plan:
             self.columns[at] = Sum([*getattr(self.columns[at], "parts", [self.columns[at]]), value])
 
     def _expression(self, word: str, name: str, found: Iterable[tuple[int, int, str | None]], empty: int | None) -> Expression:
-        """Returns the Expression with these terms. Columns that look like those of --time are times."""
-        times, lengths = [], []
+        """Returns the Expression with these terms. Columns with a day and a time are times. Those that could be times of day are times if as many of
+        them are added as subtracted, but only in rows in which lengths would give the same; one of them is a time if it is balanced by the others."""
+        times, lengths, unsure = [], [], []
         for sign, column, unit in found:
-            if unit is None and self._is_time(column):
-                times.append((sign, self._more_times(column)))
+            if unit == TIME or unit is None and self._is_time(column):
+                times.append((sign, column))
             else:
-                lengths.append((sign, column, Lengths(unit or "s", self._mark(column), self.per)))
-        if sum(sign for sign, _ in times) != 0:
+                how = self._lengths("--demand", self.export.header[column], column, unit)
+                (unsure if unit is None and self._is_clock(column) else lengths).append((sign, column, how))
+        is_balanced = sum(sign for sign, _, _ in unsure) == 0
+        if unsure and is_balanced or self.time.how.is_of_day or self.is_ticks:
+            times += [(sign, column) for sign, column, _ in unsure]
+        else:
+            lengths, unsure = lengths + unsure, []
+        if sum(sign for sign, _ in times) != 0 or len(unsure) > 1 and not is_balanced:
             raise ValueError(f"--demand {word}: as many times must be subtracted as are added; a service time may need its unit, e.g. Wrap:s")
         if self.is_ticks and times:
-            raise ValueError(f"--demand {word}: times in ticks can't be subtracted")
-        return Expression(name, times, lengths, self.per, empty)
+            raise ValueError(f"--demand {word}: times in ticks can't be subtracted; give service times their unit, e.g. Wrap:ticks")
+        return Expression(name, [(sign, self._more_times(column)) for sign, column in times], lengths, self.per, empty, unsure if is_balanced else [])
+
+    def _lengths(self, option: str, word: str, column: int, unit: str | None) -> Lengths:
+        """Returns how to read a column of lengths; `word` is the value of an option, or the part of it, to which a unit can be added."""
+        return Lengths(unit or "s", self._mark(column), self.per, f"{option} {word}")
 
     def _is_time(self, column: int) -> bool:
-        is_like, form, name = self.time.is_like(self._sample, column), self.time.how.form, self.export.header[column]
-        note = f"column {name!r} is read as {form}: for lengths of time, give their unit, e.g. {name}:s"
-        self.notes += [note] if is_like and self.time.how.is_of_day and note not in self.notes else []
-        return is_like
+        """Returns whether a column is that of --time or --answered, or most of its texts have the form of --time, which has a day."""
+        if column in [times.column for times in (self.time, *self.answered)]:
+            return True
+        return not self.time.how.is_of_day and not self.is_ticks and self.time.is_like(self._sample, column)
+
+    def _clocks(self) -> list[Moments]:
+        """Returns the ways to read a time of day or a tick whose texts could also be lengths."""
+        form, clocks = self.time.how.form, [Moments("clock", Zone())]
+        if self.is_ticks or self.time.how.is_of_day and form != "clock":
+            clocks.append(Moments(form, Zone()))
+        if form == "excel" and self.time.how.is_of_day:
+            clocks[-1].make_of_day()
+        return clocks
+
+    def _is_clock(self, column: int) -> bool:
+        """Returns whether most texts of a column could be times of day, or ticks."""
+        texts, clocks = [text for text in self._texts(column) if text.strip()][:100], self._clocks()
+        return 2 * sum(any(how.is_one(text) for how in clocks) for text in texts) > len(texts)
 
     def _mark(self, column: int) -> str | None:
         try:

@@ -12,6 +12,7 @@ if TYPE_CHECKING:
     from collections.abc import Mapping, Sequence
 
     from ..times.lengths import Lengths
+    from ..times.moments import Moments
     from ..times.zones import Zone
     from .conditions import Condition
     from .expressions import Expression
@@ -21,6 +22,8 @@ if TYPE_CHECKING:
 REPEATED = HOUR // 2
 # The columns that jobs which gave up need: how long each waited, and whether it gave up.
 WAIT, ABANDONED = "wait", "abandoned"
+# In place of a unit: the column has times, not lengths.
+TIME = "time"
 
 
 def other_length(zone: Zone, begin: int, end: int) -> int | None:
@@ -141,18 +144,22 @@ class End:
 
 
 class Wait:
-    """How long a job waited, in the first of some columns (`parts`, a list of Demand or End) that isn't empty."""
+    """How long a job waited, in the first of some columns (`parts`, a list of Demand or End) that isn't empty. `unsure` has the columns without a
+    unit, and the option that names each (dict): a text that could be a time in one of these formats (`clocks`, a list of Moments) needs one."""
 
     is_service = False
 
-    def __init__(self, name: str, parts: Sequence[Demand | End]) -> None:
-        self.name, self.parts = name, parts
+    def __init__(self, name: str, parts: Sequence[Demand | End], unsure: Mapping[int, str], clocks: Sequence[Moments]) -> None:
+        self.name, self.parts, self.unsure, self.clocks = name, parts, unsure, clocks
         self.column: int = parts[0].column
 
     def of(self, row: Sequence[str], begun: Sequence[int]) -> int:
         """Returns the ticks (int) of a row. `begun` has the moment of the arrival first. Raises Unread and Asks, with the `column`."""
         part = next((part for part in self.parts if row[part.column].strip()), self.parts[0])
+        option = self.unsure.get(part.column)
         try:
+            if option and any(how.is_one(row[part.column]) for how in self.clocks):
+                raise Asks(f"it could be the length of the wait, or the time at which the wait ended: give its unit, {option}:s or {option}:{TIME}")
             return part.of(row, begun)
         except (Unread, Asks) as error:
             error.column = part.column

@@ -88,16 +88,17 @@ def _bits_per_second(unit: str) -> tuple[int, Fraction] | None:
 class Lengths:
     """A column of lengths of time in a unit, with a decimal mark ("." or ",", None if unknown).
 
-    `ticks[text]` is a length rounded to whole ticks (int). It raises Unread for an invalid text, and Asks if an option is needed. `rounded` counts
-    the distinct texts that aren't whole ticks. Raises ValueError for an unknown unit."""
+    `ticks[text]` is a length rounded to whole ticks (int). It raises Unread for an invalid text, and Asks if an option is needed: `asked` (str) is the
+    option and its value, to which a unit can be added. `rounded` counts the distinct texts that aren't whole ticks. Raises ValueError for an unknown
+    unit."""
 
     NAMES = *UNITS, "ticks", "h:mm", "m:ss", "h:mm:ss", "excel"
 
-    def __init__(self, unit: str, decimal: str | None, tick: int) -> None:
+    def __init__(self, unit: str, decimal: str | None, tick: int, asked: str = "") -> None:
         rate = _bits_per_second(unit)
         if unit not in self.NAMES and not rate:
             raise ValueError(f"unknown unit {unit!r}: it is one of {', '.join(self.NAMES)}, or data at a rate such as bytes@10Gbps")
-        self.unit, self.decimal, self.tick, self.rounded = unit, decimal, tick, 0
+        self.unit, self.decimal, self.tick, self.rounded, self.asked = unit, decimal, tick, 0, asked
         self.per = tick if unit == "ticks" else UNITS.get(unit, SECOND)
         # The lengths of data are fractions of a nanosecond.
         self.parts = 1
@@ -147,7 +148,7 @@ class Lengths:
         if not found or int(found[2]) > 59 or int(found[3] or 0) > 59:
             raise Unread("not h:mm:ss")
         if found[3] is None and self.unit not in ("h:mm", "m:ss"):
-            raise Asks("this could be h:mm or m:ss: give the unit")
+            raise Asks(f"this could be h:mm or m:ss: give the unit, {self.asked}:h:mm or {self.asked}:m:ss")
         first, second = (MINUTE, SECOND) if found[3] is None and self.unit == "m:ss" else (HOUR, MINUTE)
         whole = int(found[1]) * first + int(found[2]) * second + int(found[3] or 0) * SECOND
         return whole + int((found[4] or "0").ljust(9, "0")), self.tick
