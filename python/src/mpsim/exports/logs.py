@@ -7,6 +7,9 @@ from collections import Counter
 from itertools import permutations
 from typing import TYPE_CHECKING
 
+from ..wording import listed
+from .events import BEGIN, END
+
 if TYPE_CHECKING:
     from collections.abc import Iterable, Mapping, Sequence
     from typing import Any
@@ -166,3 +169,16 @@ def _takes_turns(some: Sequence[str], begin: str) -> bool | None:
     """Returns whether words are alternately a beginning and not, the first one a beginning; None if there is only a beginning, as at the end of a
     log."""
     return None if some == [begin] else bool(some) and all((word == begin) == (at % 2 == 0) for at, word in enumerate(some))
+
+
+def event_column(header: Sequence[str], rows: Sequence[Sequence[str]], kinds: Mapping[str, int]) -> int:
+    """Returns the index of the column of these rows with these kinds of event (dict): the only one that has both a beginning and an end. Raises
+    ValueError."""
+    found = []
+    for at in range(len(header)):
+        met = {kinds.get(row[at].strip()) for row in rows}
+        found += [at] if {BEGIN, END} <= met else []
+    if len(found) != 1:
+        names = " and ".join(repr(header[at]) for at in found)
+        raise ValueError(f"{names or 'no column'} {'have' if found else 'has'} the events {listed(list(kinds))}: give --event")
+    return found[0]

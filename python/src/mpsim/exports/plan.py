@@ -2,10 +2,8 @@
 
 from __future__ import annotations
 
-import contextlib
 import re
 from difflib import get_close_matches
-from itertools import islice
 from typing import TYPE_CHECKING
 
 from ..limits import COLUMNS, GREATEST_VALUE
@@ -24,13 +22,13 @@ from .conditions import parsed
 from .events import BEGIN, OPTIONS, Log
 from .events import END as ENDS
 from .expressions import Expression, terms
-from .logs import found_units
+from .logs import event_column, found_units
 from .records import Dates, Numbers, Records, Times
 from .renames import rename_of
 from .values import ABANDONED, TIME, WAIT, Abandoned, Code, Constant, Demand, End, Sum, Wait
 
 if TYPE_CHECKING:
-    from collections.abc import Iterable, Mapping, Sequence
+    from collections.abc import Iterable, Sequence
     from typing import Union
 
     from ..shapes import Path
@@ -207,7 +205,7 @@ class Plan:
                 parts.append(Demand(name or WAIT, column, self._lengths("--wait", word, column, unit)))
                 unsure.update({column: f"--wait {word}"} if unit is None else {})
         if parts:
-            self.columns.append(Wait(self._named(parts[0].name), parts, unsure, self._clocks()))
+            self.columns.append(Wait(self._named(parts[0].name), parts, unsure, self.time.clocks()))
         if abandoned:
             self.gone = [parsed(word, self.export, self._mark, "--abandoned") for word in abandoned]
             self.columns.append(Abandoned(self._named(ABANDONED), self.gone))
@@ -257,7 +255,7 @@ class Plan:
                 times.append((sign, column))
             else:
                 how = self._lengths("--demand", self.export.header[column], column, unit)
-                (unsure if unit is None and self._is_clock(column) else lengths).append((sign, column, how))
+                (unsure if unit is None and self.time.could_be(self._texts(column)) else lengths).append((sign, column, how))
         is_balanced = sum(sign for sign, _, _ in unsure) == 0
         if unsure and is_balanced or self.time.how.is_of_day or self.is_ticks:
             times += [(sign, column) for sign, column, _ in unsure]
@@ -278,20 +276,6 @@ class Plan:
         if column in [times.column for times in (self.time, *self.answered)]:
             return True
         return not self.time.how.is_of_day and not self.is_ticks and self.time.is_like(self._sample, column)
-
-    def _clocks(self) -> list[Moments]:
-        """Returns the ways to read a time of day or a tick whose texts could also be lengths."""
-        form, clocks = self.time.how.form, [Moments("clock", Zone())]
-        if self.is_ticks or self.time.how.is_of_day and form != "clock":
-            clocks.append(Moments(form, Zone()))
-        if form == "excel" and self.time.how.is_of_day:
-            clocks[-1].make_of_day()
-        return clocks
-
-    def _is_clock(self, column: int) -> bool:
-        """Returns whether most texts of a column could be times of day, or ticks."""
-        texts, clocks = [text for text in self._texts(column) if text.strip()][:100], self._clocks()
-        return 2 * sum(any(how.is_one(text) for how in clocks) for text in texts) > len(texts)
 
     def _mark(self, column: int) -> str | None:
         try:
@@ -331,24 +315,14 @@ class Plan:
         if route:
             self._named(route)
         step = None if steps is None else self.export.column(steps)
-        self.log = Log(self.export.column(unit), step, self._event_column(event, found) if found else None, found, route)
+        at = None
+        if found:
+            at = self.export.column(event) if event is not None else event_column(self.export.header, self._sample, found)
+            self.notes += [] if event is not None else [f"column {self.export.header[at]!r} has the events"]
+        self.log = Log(self.export.column(unit), step, at, found, route)
         self.is_ragged = bool(found) and not self.export.has_header
         self.columns += self.log.columns()
         self.conditions.append(self.log)
-
-    def _event_column(self, event: str | None, kinds: Mapping[str, int]) -> int:
-        """Returns the index of the column with these kinds of event (dict): the one given, or the only one that has both a beginning and an end."""
-        if event is not None:
-            return self.export.column(event)
-        found = []
-        for at in range(len(self.export.header)):
-            met = {kinds.get(text.strip()) for text in self._texts(at)}
-            found += [at] if {BEGIN, ENDS} <= met else []
-        if len(found) != 1:
-            names = " and ".join(repr(self.export.header[at]) for at in found)
-            raise ValueError(f"{names or 'no column'} {'have' if found else 'has'} the events {listed(list(kinds))}: give --event")
-        self.notes.append(f"column {self.export.header[found[0]]!r} has the events")
-        return found[0]
 
     def _used(self) -> set[int]:
         """Returns the indices of the columns that are read as times or services."""
@@ -393,19 +367,11 @@ class Plan:
         ends = list({times.column: times for times in ends if not times.how.is_of_day}.values())
         if self.place.twice != "order" or self.time.dates or len(ends) != 1:
             return None
-        found = [self._descents(times) for times in (self.time, ends[0])]
+        found = [times.descents(self._texts(times.column)) for times in (self.time, ends[0])]
         if found[1] < found[0]:
             self.notes.append(f"rows are in order of {self.export.header[ends[0].column]!r}")
             return ends[0]
         return None
-
-    def _descents(self, times: Times) -> int:
-        """Returns how often times of the sample go back, by a clock that never changes."""
-        how, found = Moments(times.how.form, Zone()), []
-        for text in self._texts(times.column):
-            with contextlib.suppress(ValueError, OverflowError):
-                found.append(how.of(text))
-        return sum(later < earlier for earlier, later in zip(found, islice(found, 1, None)))
 
     def between(self, begins: str | None, until: str | None) -> None:
         """Sets the times between which jobs arrive."""

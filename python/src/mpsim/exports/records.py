@@ -106,6 +106,28 @@ class Times:
             fields = [row for row in fields if how.is_one(row[self.column]) and abs(how.of(row[column]) - how.of(row[self.column])) < AGES]
         return 2 * len(fields) > len(rows)
 
+    def clocks(self) -> list[Moments]:
+        """Returns the ways to read a time of day or a tick whose texts could also be lengths."""
+        form, clocks = self.how.form, [Moments("clock", Zone())]
+        if form == "ticks" or self.how.is_of_day and form != "clock":
+            clocks.append(Moments(form, Zone()))
+        if form == "excel" and self.how.is_of_day:
+            clocks[-1].make_of_day()
+        return clocks
+
+    def could_be(self, texts: Sequence[str]) -> bool:
+        """Returns whether most of the first texts of another column could be times of day, or ticks."""
+        texts, clocks = list(islice(filter(str.strip, texts), 100)), self.clocks()
+        return 2 * sum(any(how.is_one(text) for how in clocks) for text in texts) > len(texts)
+
+    def descents(self, texts: Sequence[str]) -> int:
+        """Returns how often times go back, by a clock that never changes."""
+        how, found = Moments(self.how.form, Zone()), []
+        for text in texts:
+            with contextlib.suppress(ValueError, OverflowError):
+                found.append(how.of(text))
+        return sum(later < earlier for earlier, later in zip(found, islice(found, 1, None)))
+
     def day(self, row: Sequence[str]) -> int:
         """Returns the wall-clock midnight of a row's day; day 0 without a date."""
         return self.dates.midnight(row) if self.dates else 0

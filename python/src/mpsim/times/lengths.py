@@ -88,8 +88,8 @@ def _bits_per_second(unit: str) -> tuple[int, Fraction] | None:
 class Lengths:
     """A column of lengths of time in a unit, with a decimal mark ("." or ",", None if unknown).
 
-    `ticks[text]` is a length rounded to whole ticks (int). It raises Unread for an invalid text, and Asks if an option is needed: `asked` (str) is the
-    option and its value, to which a unit can be added. `rounded` counts the distinct texts that aren't whole ticks. Raises ValueError for an unknown
+    `ticks[text]` is a length rounded to whole ticks (int). It raises Unread for an invalid text, and Asks if an option is needed: `asked` (str) is
+    the option and its value, to which a unit is added. `rounded` counts the distinct texts that aren't whole ticks. Raises ValueError for an unknown
     unit."""
 
     NAMES = *UNITS, "ticks", "h:mm", "m:ss", "h:mm:ss", "excel"
