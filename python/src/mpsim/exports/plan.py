@@ -249,7 +249,9 @@ class Plan:
     def _expression(self, word: str, name: str, found: Iterable[tuple[int, int, str | None]], empty: int | None) -> Expression:
         """Returns the Expression with these terms. Columns with a day and a time are times. Those that could be times of day are times if as many of
         them are added as subtracted, but only in rows in which lengths would give the same; one of them is a time if it is balanced by the others."""
-        times, lengths, unsure = [], [], []
+        times: list[tuple[int, int]] = []
+        lengths: list[tuple[int, int, Lengths]] = []
+        unsure: list[tuple[int, int, Lengths]] = []
         for sign, column, unit in found:
             if unit == TIME or unit is None and self._is_time(column):
                 times.append((sign, column))
