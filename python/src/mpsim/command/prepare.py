@@ -71,7 +71,7 @@ def _columns(add: Callable[..., object]) -> None:
     add("--constant", action="append", metavar="NAME=LENGTH", help="a service time that all jobs have, e.g. wrap=90s")
     codes = "column of texts, written as numbers for a split; the numbers come from --model, or count from 0 in order of appearance"
     add("--code", action="append", metavar="COLUMN[=NAME]", help=codes)
-    says = "column with the wait of a job, or the time at which it ended; the first that isn't empty, if repeated"
+    says = "column with the wait of a job, or (unit: time) the time at which it ended; the first that isn't empty, if repeated"
     add("--wait", action="append", metavar="COLUMN[=NAME][:UNIT]", help=says)
     says = "keep rows that meet this condition (as in --where) as abandoned calls: services of 0, and 1 in a column abandoned; may be repeated"
     add("--abandoned", action="append", metavar="CONDITION", help=says)
